@@ -1,0 +1,171 @@
+-- Document 01, "Calls": what each of the four calls answers, and leaves in the memory lent to it, on any input. And what the code's answers stand for.
+-- Assumes nothing.
+use Prim.Native.Nat.{ℕ, _+_, _-_, _*_}
+use mathlib.Core.Bool.{false, _&&_}
+use mathlib.Core.List.{List, [], _∷_, _++_}
+use lib.ListN.{length, take, drop, replicate}
+use lib.Dec.{ltb, leb}
+use Rattle.rules.specs.Lists.{inTurn, product}
+use Rattle.rules.specs.Mesh.{devices, deviceCoords, listing}
+use Rattle.rules.specs.Sharding.{Sharding, firstIndexes}
+use Rattle.rules.specs.Spread.{tabulate, held, addWords}
+use Rattle.rules.specs.Collectives.{Shards, stepped}
+use Rattle.rules.specs.Limits.{mostAxes, mostDevices}
+use Rattle.rules.specs.Refusals.{Judged, accept, refuse, _>>=_, _>>_, need, refusedBy}
+use Rattle.rules.specs.PlanFile.{Plan, judge, judgeSizes, judgeAxes, announced, announcedShape, room}
+use Rattle.rules.specs.Types.{shardingOf}
+use Rattle.rules.specs.declared.Checked.{Checked}
+use Rattle.rules.specs.declared.CheckOutcome.{CheckOutcome}
+use Rattle.rules.specs.declared.CheckOutcome.the-variants as check
+use Rattle.rules.specs.declared.Placed.{Placed}
+use Rattle.rules.specs.declared.PlaceOutcome.{PlaceOutcome}
+use Rattle.rules.specs.declared.PlaceOutcome.the-variants as place
+use Rattle.rules.specs.declared.GroupsOutcome.{GroupsOutcome}
+use Rattle.rules.specs.declared.GroupsOutcome.the-variants as groups
+use Rattle.rules.specs.declared.RunOutcome.{RunOutcome}
+use Rattle.rules.specs.declared.RunOutcome.the-variants as run
+
+-- ---- the check
+
+-- "The check returns the room, D, the final sharding and shard sizes, or a refusal." Beside them, the number of steps and the rank.
+pub record CheckAnswer : Type 0 where
+  pub room : ℕ
+  pub devices : ℕ
+  pub steps : ℕ
+  pub rank : ℕ
+  pub sharding : Sharding
+  pub shard : List ℕ
+
+unfoldable pub checkOf : List ℕ → Judged CheckAnswer
+unfolding judge announced announcedShape room
+checkOf file = do
+  p ← judge file
+  accept (record {
+    room = room p;
+    devices = devices (p .mesh);
+    steps = length (p .steps);
+    rank = length (p .sizes);
+    sharding = announced p (length (p .steps));
+    shard = announcedShape p (length (p .steps));
+  })
+
+abbrev pub checkedBy : CheckOutcome → Checked → Judged CheckAnswer
+checkedBy (check.Passed t) c = accept (record {
+  room = t .room;
+  devices = t .devices;
+  steps = t .steps;
+  rank = t .rank;
+  sharding = shardingOf (t .rank) (c .sharding);
+  shard = take (t .rank) (c .shard);
+})
+checkedBy (check.Refused r) c = refusedBy r
+
+abbrev pub checkMeaning : Checked → Judged CheckAnswer
+checkMeaning c = checkedBy (c .outcome) c
+
+-- ---- the placement
+
+-- "The placement call takes a file, a state number (0 is the start) and a device, and returns that state's sharding and shard sizes, and the device's
+-- first indexes." "Then 34, 32"
+pub record PlaceAnswer : Type 0 where
+  pub rank : ℕ
+  pub sharding : Sharding
+  pub shard : List ℕ
+  pub first : List ℕ
+
+unfoldable pub placeOf : List ℕ → ℕ → ℕ → Judged PlaceAnswer
+unfolding judge announced announcedShape
+placeOf file state device = do
+  p ← judge file
+  need (leb state (length (p .steps))) 34
+  need (ltb device (devices (p .mesh))) 32
+  accept (record {
+    rank = length (p .sizes);
+    sharding = announced p state;
+    shard = announcedShape p state;
+    first = firstIndexes (p .mesh) (announced p state .dims) (announcedShape p state) (deviceCoords (p .mesh) device);
+  })
+
+abbrev pub placedBy : PlaceOutcome → Placed → Judged PlaceAnswer
+placedBy (place.Found rank) c = accept (record {
+  rank = rank;
+  sharding = shardingOf rank (c .sharding);
+  shard = take rank (c .shard);
+  first = take rank (c .first);
+})
+placedBy (place.Refused r) c = refusedBy r
+
+abbrev pub placeMeaning : Placed → Judged PlaceAnswer
+placeMeaning c = placedBy (c .outcome) c
+
+-- ---- the group listing
+
+-- "The group listing uses 5, 10, 11, 14, 15, 33 in that order, sizes and axes in turn as above." It answers D.
+unfoldable pub groupsOf : (mesh axes out : List ℕ) → Judged ℕ
+unfolding judgeSizes judgeAxes
+groupsOf mesh axes out = do
+  need (leb 1 (length mesh) && leb (length mesh) mostAxes) 5
+  judgeSizes mostDevices 10 11 1 mesh
+  judgeAxes (length mesh) false 0 [] axes
+  need (leb (devices mesh) (length out)) 33
+  accept (devices mesh)
+
+-- "It writes D device numbers .. Entries after the first D stay."
+abbrev pub groupsOut : Judged ℕ → (mesh axes out : List ℕ) → List ℕ
+groupsOut (accept d) mesh axes out = listing mesh axes ++ drop d out
+groupsOut (refuse n k) mesh axes out = out
+
+unfoldable pub groupsLeave : (mesh axes out : List ℕ) → List ℕ
+unfolding groupsOf listing
+groupsLeave mesh axes out = groupsOut (groupsOf mesh axes out) mesh axes out
+
+abbrev pub groupsMeaning : GroupsOutcome → Judged ℕ
+groupsMeaning (groups.Listed d) = accept d
+groupsMeaning (groups.Refused r) = refusedBy r
+
+-- ---- the run
+
+-- "Before the first step each device has its shard from work, in the start's shard sizes. Each later step is given the shards that the step before it
+-- left.": the shards after k steps.
+unfoldable pub shardsAfter : Plan → List ℕ → ℕ → Shards ℕ
+unfolding announcedShape held stepped addWords
+shardsAfter p work k =
+    inTurn (stepped addWords (p .mesh)) (take k (p .steps)) (record { shape = announcedShape p 0; words = held 0 (p .mesh) (announcedShape p 0) work })
+
+-- the buffer of the shards that the last step left
+unfoldable pub lastState : Plan → List ℕ → List ℕ
+unfolding shardsAfter tabulate
+lastState p work = tabulate (p .mesh) (shardsAfter p work (length (p .steps)) .shape) (shardsAfter p work (length (p .steps)) .words)
+
+-- "The run takes a file and two lent buffers, work and spare." "Then .. 30, 31."
+unfoldable pub runnable : List ℕ → (work spare : List ℕ) → Judged Plan
+unfolding judge room
+runnable file work spare = do
+  p ← judge file
+  need (leb (room p) (length work)) 30
+  need (leb (room p) (length spare)) 31
+  accept p
+
+-- What a run answers, and what the two buffers hold after it.
+pub record Ran : Type 0 where
+  pub outcome : Judged (Unit {0})
+  pub work : List ℕ
+  pub spare : List ℕ
+
+-- "Afterwards the first D times m words of work are the last state; the rest of work and all of spare are 0."
+-- "All lent memory is then as it was.": of a refusal.
+abbrev pub runLeaves : Judged Plan → (work spare : List ℕ) → Ran
+runLeaves (accept p) work spare = record {
+  outcome = accept tt;
+  work = lastState p work ++ replicate (length work - length (lastState p work)) 0;
+  spare = replicate (length spare) 0;
+}
+runLeaves (refuse n k) work spare = record { outcome = refuse n k; work = work; spare = spare }
+
+unfoldable pub runOf : List ℕ → (work spare : List ℕ) → Ran
+unfolding runnable lastState
+runOf file work spare = runLeaves (runnable file work spare) work spare
+
+abbrev pub runMeaning : RunOutcome → Judged (Unit {0})
+runMeaning run.Finished = accept tt
+runMeaning (run.Refused r) = refusedBy r

@@ -1,0 +1,13 @@
+-- Document 01 as definitions, a file to a heading.
+pub mod Lists
+pub mod Mesh
+pub mod Sharding
+pub mod Spread
+pub mod Collectives
+pub mod Limits
+pub mod Refusals
+pub mod PlanFile
+pub mod Types
+pub mod Calls
+pub mod Demands
+pub mod Ledger

@@ -1,0 +1,72 @@
+-- Document 01, "Mesh, devices, groups".
+-- A mesh is the list of its axis sizes, so an axis is a place in that list. A device is the list of its coordinates. Device numbers stand only
+-- where devices are written down: in buffers, listings and placements. Source document 000 decides on groups and their order.
+-- Assumes nothing.
+use Prim.Native.Nat.{ℕ, zero, suc, _+_, _*_, _/_, _%_}
+use mathlib.Core.Path.{_≡_}
+use mathlib.Core.List.{List, [], _∷_, _++_, map}
+use lib.ListN.{length, getD, set, replicate}
+use Rattle.rules.specs.Lists.{tab, flat, product, without, keep, mem, In}
+
+-- The row-major number of coordinates under sizes, the last fastest; and the coordinates that have a number.
+abbrev pub number : List ℕ → List ℕ → ℕ
+number [] xs = 0
+number (n ∷ ns) [] = 0
+number (n ∷ ns) (x ∷ xs) = x * product ns + number ns xs
+
+abbrev pub coords : List ℕ → ℕ → List ℕ
+coords [] k = []
+coords (n ∷ ns) k = k / product ns ∷ coords ns (k % product ns)
+
+-- "A device has one coordinate along each axis. Its number is the row-major number of its coordinates, the last axis fastest."
+-- `Below x mesh` says that x is a device of the mesh.
+abbrev pub deviceNumber : List ℕ → List ℕ → ℕ
+deviceNumber mesh x = number mesh x
+
+abbrev pub deviceCoords : List ℕ → ℕ → List ℕ
+deviceCoords mesh d = coords mesh d
+
+-- "D is the product of the sizes."
+abbrev pub devices : List ℕ → ℕ
+devices mesh = product mesh
+
+-- "two devices are in one group when their coordinates agree on every axis outside the list"
+abbrev pub Agree : (ℕ → Type 0) → List ℕ → List ℕ → Type 0
+Agree P x y = (a : ℕ) → P a → getD x a 0 ≡ getD y a 0
+
+abbrev pub SameGroup : List ℕ → List ℕ → List ℕ → Type 0
+SameGroup L x y = Agree (λ a. ¬ In a L) x y
+
+-- the number of devices of a group: the product of the sizes of the list's axes
+abbrev pub span : List ℕ → List ℕ → ℕ
+span mesh [] = 1
+span mesh (a ∷ L) = getD mesh a 1 * span mesh L
+
+-- "A device's position in its group is the mixed-radix number of its coordinates along the list, the first named axis most significant.
+-- The list's order counts, not the mesh's."
+abbrev pub position : List ℕ → List ℕ → List ℕ → ℕ
+position mesh [] x = 0
+position mesh (a ∷ L) x = getD x a 0 * span mesh L + position mesh L x
+
+-- the device of x's group that has position q, and the group of x by position
+abbrev pub member : List ℕ → List ℕ → ℕ → List ℕ → List ℕ
+member mesh [] q x = x
+member mesh (a ∷ L) q x = set (member mesh L (q % span mesh L) x) a (q / span mesh L)
+
+unfoldable pub members : List ℕ → List ℕ → List ℕ → List (List ℕ)
+members mesh L x = tab (span mesh L) (λ q. member mesh L q x)
+
+-- "the remaining axes (taken in increasing axis number)"
+unfoldable pub remaining : List ℕ → List ℕ → List ℕ
+unfolding without
+remaining mesh L = without (tab (length mesh) (λ a. a)) L
+
+-- The devices whose coordinates off the remaining axes are 0, one of each group, in row-major order of the remaining axes.
+unfoldable pub firsts : List ℕ → List ℕ → List (List ℕ)
+unfolding members remaining
+firsts mesh L = members mesh (remaining mesh L) (replicate (length mesh) 0)
+
+-- "It writes D device numbers: groups in row-major order of the remaining axes, devices by position inside each group."
+unfoldable pub listing : List ℕ → List ℕ → List ℕ
+unfolding firsts members
+listing mesh L = map (deviceNumber mesh) (flat (map (members mesh L) (firsts mesh L)))

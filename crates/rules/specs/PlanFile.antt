@@ -1,0 +1,298 @@
+-- Document 01, "The plan file", and "Order" of "Refusal numbers": reading and judging a file, test by test in that order.
+-- A file is the list of its bytes; `at` is where the next byte is read. Assumes nothing.
+use Prim.Native.Nat.{ℕ, zero, suc, _+_, _-_, _*_}
+use mathlib.Core.Bool.{Bool, true, false, not, _&&_}
+use mathlib.Core.List.{List, [], _∷_, _++_}
+use lib.ListN.{length, getD, take, drop}
+use lib.Dec.{ltb, leb, eqb}
+use Rattle.rules.specs.Lists.{tab, both, flat, pick, inTurn, product, largest, mem}
+use Rattle.rules.specs.Mesh.{devices}
+use Rattle.rules.specs.Sharding.{Sharding, named, divisible, shardSizes}
+use Rattle.rules.specs.Collectives.{Step, allSlice, allGather, allReduce, allToAll, stepAxes, only, sliced, gathered, reduced, after}
+use Rattle.rules.specs.Limits.{mostAxes, mostDevices, mostDims, mostWords, mostSteps, leastBytes, mostBytes}
+use Rattle.rules.specs.Refusals.{Judged, accept, refuse, _>>=_, _>>_, need, needAt}
+use Rattle.rules.specs.declared.Kind.{Kind}
+use Rattle.rules.specs.declared.Kind.the-variants.{AllSlice, AllGather, AllReduce, AllToAll, Unknown}
+
+-- What was read, and where the next byte is.
+pub record Read (A : Type 0) : Type 0 where
+  pub value : A
+  pub next : ℕ
+
+-- ---- the header
+
+-- "All 16-bit numbers are little-endian."
+unfoldable pub u16At : List ℕ → ℕ → ℕ
+u16At file at = getD file at 0 + getD file (at + 1) 0 * 256
+
+-- "The header is nine of them: edition (1), n, rank, step count, offset of mesh sizes, of tensor sizes, of the starting sharding, of the steps,
+-- total length."
+abbrev pub edition : List ℕ → ℕ
+edition file = u16At file 0
+
+abbrev pub axisCount : List ℕ → ℕ
+axisCount file = u16At file 2
+
+abbrev pub rankCount : List ℕ → ℕ
+rankCount file = u16At file 4
+
+abbrev pub stepCount : List ℕ → ℕ
+stepCount file = u16At file 6
+
+abbrev pub meshOffset : List ℕ → ℕ
+meshOffset file = u16At file 8
+
+abbrev pub tensorOffset : List ℕ → ℕ
+tensorOffset file = u16At file 10
+
+abbrev pub shardingOffset : List ℕ → ℕ
+shardingOffset file = u16At file 12
+
+abbrev pub stepsOffset : List ℕ → ℕ
+stepsOffset file = u16At file 14
+
+abbrev pub totalLength : List ℕ → ℕ
+totalLength file = u16At file 16
+
+-- "Order: 1, 2, 3, 4, 5."
+unfoldable pub judgeHeader : List ℕ → Judged (Unit {0})
+unfolding u16At
+judgeHeader file = do
+  need (leb leastBytes (length file)) 1
+  need (leb (length file) mostBytes) 2
+  need (eqb (edition file) 1) 3
+  need (eqb (totalLength file) (length file)) 4
+  need (leb 1 (axisCount file) && leb (axisCount file) mostAxes) 5
+  need (leb 1 (rankCount file) && leb (rankCount file) mostDims) 5
+  need (leb (stepCount file) mostSteps) 5
+
+-- ---- mesh and tensor sizes
+
+-- "each size in turn (zero, then running product)"
+unfoldable pub judgeSizes : (most ifZero ifOver running : ℕ) → List ℕ → Judged (Unit {0})
+judgeSizes most ifZero ifOver running [] = accept tt
+judgeSizes most ifZero ifOver running (n ∷ sizes) = do
+  need (ltb 0 n) ifZero
+  need (leb (running * n) most) ifOver
+  judgeSizes most ifZero ifOver (running * n) sizes
+
+-- "At each section its offset (6), then its bytes. Mesh and tensor sections: 7 if they don't fit"
+unfoldable pub sizesAt : (most ifZero ifOver count offset : ℕ) → List ℕ → ℕ → Judged (Read (List ℕ))
+unfolding u16At judgeSizes
+sizesAt most ifZero ifOver count offset file at = do
+  need (eqb offset at) 6
+  need (leb (at + 2 * count) (length file)) 7
+  judgeSizes most ifZero ifOver 1 (tab count (λ i. u16At file (at + 2 * i)))
+  accept (record { value = tab count (λ i. u16At file (at + 2 * i)); next = at + 2 * count })
+
+-- ---- axis lists
+
+-- "A list is a count byte and that many axis bytes." "A kind or count byte is judged when read."
+unfoldable pub listAt : (n : ℕ) → List ℕ → ℕ → Judged (Read (List ℕ))
+listAt n file at = do
+  need (ltb at (length file)) 7
+  need (leb (getD file at 0) n) 8
+  need (leb (at + 1 + getD file at 0) (length file)) 7
+  accept (record { value = take (getD file at 0) (drop (at + 1) file); next = at + 1 + getD file at 0 })
+
+-- one list per dimension
+unfoldable pub listsAt : (n rank : ℕ) → List ℕ → ℕ → Judged (Read (List (List ℕ)))
+unfolding listAt
+listsAt n zero file at = accept (record { value = []; next = at })
+listsAt n (suc rank) file at = do
+  l ← listAt n file at
+  ls ← listsAt n rank file (l .next)
+  accept (record { value = l .value ∷ ls .value; next = ls .next })
+
+-- ---- the starting sharding
+
+-- "The sharding is one list per dimension, then the unreduced list."
+unfoldable pub shardingAt : (n rank offset : ℕ) → List ℕ → ℕ → Judged (Read Sharding)
+unfolding listsAt listAt
+shardingAt n rank offset file at = do
+  need (eqb offset at) 6
+  ds ← listsAt n rank file at
+  u ← listAt n file (ds .next)
+  accept (record { value = record { dims = ds .value; unreduced = u .value }; next = u .next })
+
+-- "axis by axis in file order 14, 15, 16 (all three at one axis before the next)": an axis of an increasing list is at least `low`, one more than
+-- the axis before it.
+unfoldable pub judgeAxes : (n : ℕ) → (increasing : Bool) → (low : ℕ) → (before : List ℕ) → List ℕ → Judged (Unit {0})
+unfolding mem
+judgeAxes n increasing low before [] = accept tt
+judgeAxes n increasing low before (a ∷ axes) = do
+  need (ltb a n) 14
+  need (not (mem a before)) 15
+  need (leb low a) 16
+  judgeAxes n increasing (pick increasing (a + 1) 0) (a ∷ before) axes
+
+-- "then 17"
+unfoldable pub judgeStart : List ℕ → List ℕ → Sharding → Judged (Unit {0})
+unfolding judgeAxes
+judgeStart mesh sizes s = do
+  judgeAxes (length mesh) false 0 [] (flat (s .dims))
+  judgeAxes (length mesh) true 0 (flat (s .dims)) (s .unreduced)
+  need (divisible mesh sizes (s .dims)) 17
+
+-- ---- a step
+
+-- "1 all-slice, 2 all-gather (one list per dimension), 3 all-reduce (one list), 4 all-to-all (source byte, target byte, one list)"
+abbrev pub kindOf : ℕ → Kind
+kindOf b = pick (eqb b 1) AllSlice (pick (eqb b 2) AllGather (pick (eqb b 3) AllReduce (pick (eqb b 4) AllToAll Unknown)))
+
+-- what follows the kind byte of step k
+unfoldable pub listsOf : (n rank k : ℕ) → List ℕ → ℕ → Kind → Judged (Read Step)
+unfolding listsAt listAt
+listsOf n rank k file at AllSlice = do
+  ls ← listsAt n rank file at
+  accept (record { value = allSlice (ls .value); next = ls .next })
+listsOf n rank k file at AllGather = do
+  ls ← listsAt n rank file at
+  accept (record { value = allGather (ls .value); next = ls .next })
+listsOf n rank k file at AllReduce = do
+  l ← listAt n file at
+  accept (record { value = allReduce (l .value); next = l .next })
+listsOf n rank k file at AllToAll = do
+  need (leb (at + 2) (length file)) 7
+  l ← listAt n file (at + 2)
+  accept (record { value = allToAll (getD file at 0) (getD file (at + 1) 0) (l .value); next = l .next })
+listsOf n rank k file at Unknown = refuse 20 k
+
+-- "Each step: its bytes (7, 20, 8)"
+unfoldable pub stepAt : (n rank k : ℕ) → List ℕ → ℕ → Judged (Read Step)
+unfolding listsOf
+stepAt n rank k file at = do
+  need (ltb at (length file)) 7
+  listsOf n rank k file (at + 1) (kindOf (getD file at 0))
+
+-- ---- the tests of a step, each over all that it names; a refusal is one number, so the order inside a test cannot be seen
+
+-- 21: "a step names no axis"
+abbrev pub some : List ℕ → Bool
+some [] = false
+some (a ∷ L) = true
+
+-- 22: "an axis number is not below n"
+unfoldable pub allBelow : ℕ → List ℕ → Bool
+allBelow n [] = true
+allBelow n (a ∷ L) = ltb a n && allBelow n L
+
+-- 23: "the axis is not replicated, or was named earlier in this step": it is none of those named before
+unfoldable pub fresh : List ℕ → List ℕ → Bool
+unfolding mem
+fresh before [] = true
+fresh before (a ∷ L) = not (mem a before) && fresh (a ∷ before) L
+
+-- 24: "gathered list is not the tail"
+unfoldable pub same : List ℕ → List ℕ → Bool
+same [] [] = true
+same [] (b ∷ M) = false
+same (a ∷ L) [] = false
+same (a ∷ L) (b ∷ M) = eqb a b && same L M
+
+abbrev pub isTail : List ℕ → List ℕ → Bool
+isTail d G = same (drop (length d - length G) d) G
+
+-- 26: "list not strictly increasing"; each axis is at least `low`, one more than the axis before it
+unfoldable pub increasingFrom : ℕ → List ℕ → Bool
+increasingFrom low [] = true
+increasingFrom low (a ∷ L) = leb low a && increasingFrom (a + 1) L
+
+-- 27: "all-reduce axis not unreduced"
+unfoldable pub allIn : List ℕ → List ℕ → Bool
+unfolding mem
+allIn [] U = true
+allIn (a ∷ L) U = mem a U && allIn L U
+
+-- 28: "source or target not below the rank, or equal"
+abbrev pub twoDims : ℕ → ℕ → ℕ → Bool
+twoDims rank source target = ltb source rank && (ltb target rank && not (eqb source target))
+
+-- ---- the judgement of step k, which answers the sharding after it
+
+-- an all-gather off the dimensions' lists, "24 by dimension"; an all-slice on them, "last 25 by dimension": of the present shard sizes
+unfoldable pub gatherOff : ℕ → List (List ℕ) → Sharding → Judged Sharding
+unfolding same gathered
+gatherOff k Gs s = do
+  needAt k (both isTail (s .dims) Gs) 24
+  accept (gathered Gs s)
+
+unfoldable pub sliceOn : (mesh sizes : List ℕ) → ℕ → List (List ℕ) → Sharding → Judged Sharding
+unfolding sliced
+sliceOn mesh sizes k Ss s = do
+  needAt k (divisible mesh (shardSizes mesh sizes (s .dims)) Ss) 25
+  accept (sliced Ss s)
+
+-- "then by kind: 23 in file order, or 24 by dimension, or 26 over the whole list then 27 in file order, or 28 then 24; last 25 by dimension"
+unfoldable pub judgeKind : (mesh sizes : List ℕ) → ℕ → Step → Sharding → Judged Sharding
+unfolding fresh gatherOff sliceOn increasingFrom allIn reduced
+judgeKind mesh sizes k (allSlice Ss) s = do
+  needAt k (fresh (named s) (flat Ss)) 23
+  sliceOn mesh sizes k Ss s
+judgeKind mesh sizes k (allGather Gs) s = gatherOff k Gs s
+judgeKind mesh sizes k (allReduce L) s = do
+  needAt k (increasingFrom 0 L) 26
+  needAt k (allIn L (s .unreduced)) 27
+  accept (reduced L s)
+judgeKind mesh sizes k (allToAll source target L) s = do
+  needAt k (twoDims (length (s .dims)) source target) 28
+  g ← gatherOff k (only (length (s .dims)) source L) s
+  sliceOn mesh sizes k (only (length (s .dims)) target L) g
+
+-- "then 21, then 22 in file order"
+unfoldable pub judgeStep : (mesh sizes : List ℕ) → ℕ → Step → Sharding → Judged Sharding
+unfolding allBelow judgeKind
+judgeStep mesh sizes k t s = do
+  needAt k (some (stepAxes t)) 21
+  needAt k (allBelow (length mesh) (stepAxes t)) 22
+  judgeKind mesh sizes k t s
+
+-- so many steps, the first of them step k, each read and judged before the next is read
+unfoldable pub stepsAt : (mesh sizes : List ℕ) → (k count : ℕ) → List ℕ → ℕ → Sharding → Judged (Read (List Step))
+unfolding stepAt judgeStep
+stepsAt mesh sizes k zero file at s = accept (record { value = []; next = at })
+stepsAt mesh sizes k (suc count) file at s = do
+  t ← stepAt (length mesh) (length sizes) k file at
+  next ← judgeStep mesh sizes k (t .value) s
+  ts ← stepsAt mesh sizes (k + 1) count file (t .next) next
+  accept (record { value = t .value ∷ ts .value; next = ts .next })
+
+-- ---- the whole file
+
+-- "A plan names a device mesh, a table (tensor), a starting sharding and a list of collectives."
+pub record Plan : Type 0 where
+  pub mesh : List ℕ
+  pub sizes : List ℕ
+  pub start : Sharding
+  pub steps : List Step
+
+-- "Then mesh, tensor, sharding and steps." "the mesh sizes start at 18" "Every offset is where the section before it ends" "After the last step 9."
+unfoldable pub judge : List ℕ → Judged Plan
+unfolding u16At judgeHeader sizesAt shardingAt judgeStart stepsAt
+judge file = do
+  judgeHeader file
+  m ← sizesAt mostDevices 10 11 (axisCount file) (meshOffset file) file 18
+  t ← sizesAt mostWords 12 13 (rankCount file) (tensorOffset file) file (m .next)
+  s ← shardingAt (axisCount file) (rankCount file) (shardingOffset file) file (t .next)
+  need (eqb (stepsOffset file) (s .next)) 6
+  judgeStart (m .value) (t .value) (s .value)
+  ts ← stepsAt (m .value) (t .value) 1 (stepCount file) file (s .next) (s .value)
+  need (eqb (ts .next) (length file)) 9
+  accept (record { mesh = m .value; sizes = t .value; start = s .value; steps = ts .value })
+
+-- ---- what a plan announces
+
+-- "The sharding announced before the first step is the starting one; after a step it is the one before, its lists changed": after k steps.
+unfoldable pub announced : Plan → ℕ → Sharding
+unfolding after
+announced p k = inTurn after (take k (p .steps)) (p .start)
+
+-- "The announced shape is that sharding's shard sizes."
+unfoldable pub announcedShape : Plan → ℕ → List ℕ
+unfolding announced
+announcedShape p k = shardSizes (p .mesh) (p .sizes) (announced p k .dims)
+
+-- "The room of a plan is D times the largest m among all its states, start included"
+unfoldable pub room : Plan → ℕ
+unfolding announcedShape
+room p = devices (p .mesh) * largest (tab (length (p .steps) + 1) (λ k. product (announcedShape p k)))

@@ -1,0 +1,35 @@
+-- What the types of the code (src/lib.rt) stand for in the rules. Assumes nothing.
+use Prim.Native.Nat.{ℕ}
+use mathlib.Core.List.{List, [], _∷_, map}
+use lib.ListN.{take}
+use Rattle.rules.specs.Sharding.{Sharding}
+use Rattle.rules.specs.Collectives as rules
+use Rattle.rules.specs.declared.Axis.{Axis}
+use Rattle.rules.specs.declared.AxisList.{AxisList}
+use Rattle.rules.specs.declared.Sharding as code
+use Rattle.rules.specs.declared.Kind.{Kind}
+use Rattle.rules.specs.declared.Kind.the-variants.{AllSlice, AllGather, AllReduce, AllToAll, Unknown}
+use Rattle.rules.specs.declared.Step.{Step}
+
+-- the axes of a list, in order
+unfoldable pub axesOf : AxisList → List ℕ
+axesOf l = take (l .count) (map (λ (a : Axis). a .0) (l .axes))
+
+-- the lists of all places for a dimension, and the sharding of a table of a rank
+unfoldable pub dimsOf : code.Sharding → List (List ℕ)
+unfolding axesOf
+dimsOf s = map axesOf (s .dims)
+
+abbrev pub shardingOf : ℕ → code.Sharding → Sharding
+shardingOf rank s = record { dims = take rank (dimsOf s); unreduced = axesOf (s .unreduced) }
+
+-- a step of a plan for a table of a rank; none has an unknown kind
+abbrev pub ofKind : Kind → ℕ → Step → rules.Step
+ofKind AllSlice rank t = rules.allSlice (take rank (dimsOf (t .lists)))
+ofKind AllGather rank t = rules.allGather (take rank (dimsOf (t .lists)))
+ofKind AllReduce rank t = rules.allReduce (axesOf (t .lists .unreduced))
+ofKind AllToAll rank t = rules.allToAll (t .source .0) (t .target .0) (axesOf (t .lists .unreduced))
+ofKind Unknown rank t = rules.allReduce []
+
+abbrev pub stepOf : ℕ → Step → rules.Step
+stepOf rank t = ofKind (t .kind) rank t

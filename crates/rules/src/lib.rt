@@ -1,0 +1,282 @@
+// The types of plans on a device mesh, their limits, the refusals, and the outcomes of the four calls.
+// specs/ has document 01 as definitions; every other crate cites them.
+ghost use mathlib.Core.Path.{_≡_};
+ghost use mathlib.Core.List.{List, [], _∷_, _++_};
+ghost use Prim.Native.Nat.{ℕ, _+_, _<_, _≤_};
+ghost use lib.ListN.{length, getD, set, replicate};
+ghost use Rattle.rules.specs.Limits.{mostAxes, mostDevices, mostDims, mostWords, mostSteps, leastBytes, mostBytes};
+ghost use Rattle.rules.specs.Refusals.{numberOf};
+ghost use Rattle.rules.specs.Types.{axesOf, dimsOf};
+
+// An axis number of a mesh.
+pub struct Axis(pub u8);
+
+impl Axis {
+    // The most axes of a mesh.
+    pub const MOST: usize = 6;
+
+    pub fn most() -> usize
+        ensures { λ r. ⌜ r ≡ mostAxes ⌝ }
+    {
+        Axis::MOST
+    }
+}
+
+// A dimension of a tensor.
+pub struct Dim(pub u8);
+
+impl Dim {
+    // The most dimensions of a table.
+    pub const MOST: usize = 4;
+
+    pub fn most() -> usize
+        ensures { λ r. ⌜ r ≡ mostDims ⌝ }
+    {
+        Dim::MOST
+    }
+}
+
+// A device number.
+pub struct Device(pub u16);
+
+impl Device {
+    // The most devices of a mesh.
+    pub const MOST: usize = 256;
+
+    pub fn most() -> usize
+        ensures { λ r. ⌜ r ≡ mostDevices ⌝ }
+    {
+        Device::MOST
+    }
+}
+
+// A list of axes: the first `count` places.
+pub struct AxisList {
+    pub count: usize,
+    pub axes: [Axis; Axis::MOST],
+}
+
+// A sharding: a list for each dimension, and the unreduced axes.
+pub struct Sharding {
+    pub dims: [AxisList; Dim::MOST],
+    pub unreduced: AxisList,
+}
+
+// The sizes of a table: the first `rank` places.
+pub struct Table {
+    pub rank: usize,
+    pub sizes: [u16; Dim::MOST],
+}
+
+impl Table {
+    // The most words of a table.
+    pub const MOST: usize = 4096;
+
+    pub fn most() -> usize
+        ensures { λ r. ⌜ r ≡ mostWords ⌝ }
+    {
+        Table::MOST
+    }
+}
+
+// The kinds of step.
+pub enum Kind {
+    AllSlice,
+    AllGather,
+    AllReduce,
+    AllToAll,
+    Unknown,
+}
+
+// A step: all-slice and all-gather have their lists in lists.dims, all-reduce and all-to-all their one list in lists.unreduced.
+pub struct Step {
+    pub kind: Kind,
+    pub source: Dim,
+    pub target: Dim,
+    pub lists: Sharding,
+}
+
+impl Step {
+    // The most steps of a plan.
+    pub const MOST: usize = 64;
+
+    pub fn most() -> usize
+        ensures { λ r. ⌜ r ≡ mostSteps ⌝ }
+    {
+        Step::MOST
+    }
+}
+
+// A plan file, by its number of bytes.
+pub struct PlanFile(pub usize);
+
+impl PlanFile {
+    // The least and the most bytes of a plan file.
+    pub const LEAST: usize = 18;
+
+    pub const MOST: usize = 4096;
+
+    pub fn least() -> usize
+        ensures { λ r. ⌜ r ≡ leastBytes ⌝ }
+    {
+        PlanFile::LEAST
+    }
+
+    pub fn most() -> usize
+        ensures { λ r. ⌜ r ≡ mostBytes ⌝ }
+    {
+        PlanFile::MOST
+    }
+}
+
+// Why a call is refused, a variant for each refusal number.
+pub enum Reason {
+    FileTooShort,
+    FileTooLong,
+    UnknownEdition,
+    WrongLength,
+    CountOutsideLimits,
+    WrongOffset,
+    SectionPastEnd,
+    ListTooLong,
+    BytesLeft,
+    MeshSizeZero,
+    TooManyDevices,
+    TensorSizeZero,
+    TooManyWords,
+    StartAxisTooLarge,
+    StartAxisRepeated,
+    StartNotIncreasing,
+    StartNotDivisible,
+    UnknownKind,
+    NoAxis,
+    AxisTooLarge,
+    NotReplicated,
+    NotTail,
+    ShardNotDivisible,
+    NotIncreasing,
+    NotUnreduced,
+    WrongDims,
+    WorkTooShort,
+    SpareTooShort,
+    NoSuchDevice,
+    OutputTooShort,
+    NoSuchState,
+}
+
+impl Reason {
+    // The refusal number.
+    pub fn number(self) -> u8
+        ensures { λ n. ⌜ n ≡ numberOf self ⌝ }
+    {
+        match self {
+            Reason::FileTooShort => 1,
+            Reason::FileTooLong => 2,
+            Reason::UnknownEdition => 3,
+            Reason::WrongLength => 4,
+            Reason::CountOutsideLimits => 5,
+            Reason::WrongOffset => 6,
+            Reason::SectionPastEnd => 7,
+            Reason::ListTooLong => 8,
+            Reason::BytesLeft => 9,
+            Reason::MeshSizeZero => 10,
+            Reason::TooManyDevices => 11,
+            Reason::TensorSizeZero => 12,
+            Reason::TooManyWords => 13,
+            Reason::StartAxisTooLarge => 14,
+            Reason::StartAxisRepeated => 15,
+            Reason::StartNotIncreasing => 16,
+            Reason::StartNotDivisible => 17,
+            Reason::UnknownKind => 20,
+            Reason::NoAxis => 21,
+            Reason::AxisTooLarge => 22,
+            Reason::NotReplicated => 23,
+            Reason::NotTail => 24,
+            Reason::ShardNotDivisible => 25,
+            Reason::NotIncreasing => 26,
+            Reason::NotUnreduced => 27,
+            Reason::WrongDims => 28,
+            Reason::WorkTooShort => 30,
+            Reason::SpareTooShort => 31,
+            Reason::NoSuchDevice => 32,
+            Reason::OutputTooShort => 33,
+            Reason::NoSuchState => 34,
+        }
+    }
+}
+
+// A refusal: a reason, and the step that it is given in, counted from 1; 0 outside the steps.
+pub struct Refusal {
+    pub reason: Reason,
+    pub step: u16,
+}
+
+// The check's totals.
+pub struct Totals {
+    pub room: u32,
+    pub devices: u16,
+    pub steps: u16,
+    pub rank: usize,
+}
+
+pub enum CheckOutcome {
+    Passed(Totals),
+    Refused(Refusal),
+}
+
+// The check's answer: beside the outcome, the final sharding and its shard sizes.
+pub struct Checked {
+    pub outcome: CheckOutcome,
+    pub sharding: Sharding,
+    pub shard: [u16; Dim::MOST],
+}
+
+// The rank of the table, or the refusal.
+pub enum PlaceOutcome {
+    Found(usize),
+    Refused(Refusal),
+}
+
+// The placement's answer: beside the outcome, the state's sharding and shard sizes, and the device's first indexes.
+pub struct Placed {
+    pub outcome: PlaceOutcome,
+    pub sharding: Sharding,
+    pub shard: [u16; Dim::MOST],
+    pub first: [u16; Dim::MOST],
+}
+
+// The number of devices listed, or the refusal.
+pub enum GroupsOutcome {
+    Listed(usize),
+    Refused(Refusal),
+}
+
+pub enum RunOutcome {
+    Finished,
+    Refused(Refusal),
+}
+
+impl AxisList {
+    // No axes.
+    pub fn empty() -> AxisList
+        ensures { λ r. ⌜ axesOf r ≡ [] ⌝ }
+    {
+        AxisList {
+            count: 0,
+            axes: [Axis(0); Axis::MOST],
+        }
+    }
+}
+
+impl Sharding {
+    // All axes replicated.
+    pub fn replicated() -> Sharding
+        ensures { λ r. ⌜ (dimsOf r ≡ replicate mostDims []) × (axesOf (r .unreduced) ≡ []) ⌝ }
+    {
+        let none = AxisList::empty();
+        Sharding {
+            dims: [none; Dim::MOST],
+            unreduced: none,
+        }
+    }
+}
