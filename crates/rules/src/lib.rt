@@ -266,6 +266,40 @@ impl AxisList {
             axes: [Axis(0); Axis::MOST],
         }
     }
+
+    // The number of axes; a count past the places names those that there are.
+    pub fn len(self) -> usize
+        ensures { λ r. ⌜ r ≡ length (axesOf self) ⌝ }
+    {
+        if Axis::MOST < self.count {
+            Axis::MOST
+        } else {
+            self.count
+        }
+    }
+
+    // The axis at a place of the list, axis 0 past its end.
+    pub fn at(self, i: usize) -> Axis
+        ensures { λ r. ⌜ r .0 ≡ getD (axesOf self) i 0 ⌝ }
+    {
+        if i < self.len() {
+            self.axes[i]
+        } else {
+            Axis(0)
+        }
+    }
+
+    // The list with one axis more at its end.
+    pub fn with(self, a: Axis) -> AxisList
+        requires { ⌜ length (axesOf self) < mostAxes ⌝ }
+        ensures { λ r. ⌜ axesOf r ≡ axesOf self ++ (a .0 ∷ []) ⌝ }
+    {
+        let at = self.count;
+        let mut next = self;
+        next.axes[at] = a;
+        next.count = at + 1;
+        next
+    }
 }
 
 impl Sharding {
@@ -278,5 +312,29 @@ impl Sharding {
             dims: [none; Dim::MOST],
             unreduced: none,
         }
+    }
+
+    // The list of a dimension, no axes past the last.
+    pub fn list(self, d: Dim) -> AxisList
+        ensures { λ r. ⌜ axesOf r ≡ getD (dimsOf self) (d .0) [] ⌝ }
+    {
+        let i = d.0 as usize;
+        if i < Dim::MOST {
+            self.dims[i]
+        } else {
+            AxisList::empty()
+        }
+    }
+
+    // The sharding with another list for a dimension, unchanged past the last.
+    pub fn with_list(self, d: Dim, l: AxisList) -> Sharding
+        ensures { λ r. ⌜ (dimsOf r ≡ set (dimsOf self) (d .0) (axesOf l)) × (r .unreduced ≡ self .unreduced) ⌝ }
+    {
+        let i = d.0 as usize;
+        let mut next = self;
+        if i < Dim::MOST {
+            next.dims[i] = l;
+        }
+        next
     }
 }

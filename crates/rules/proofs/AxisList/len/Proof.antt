@@ -1,0 +1,16 @@
+use native.Mathlib.Omega.{arith}
+use lib.ListN.{length-map}
+use Rattle.rules.proofs.Types.{axes-length}
+use Rattle.rules.proofs.AxisList.len.Statement.{statement}
+use Rattle.rules.proofs.AxisList.len.Tie as tie
+use Rattle.rules.proofs.AxisList.len.Reads as reads
+use Rattle.rules.proofs.AxisList.len.Lts as lts
+
+returns : tie.Need-returns
+returns c = let a = c .before .before in omega (arith, axes-length (a .args .self) (simp length-map at (a .good .0 .1 .1 .1 .0 .1 .0 .1)))
+
+returns-2 : tie.Need-returns-2
+returns-2 c = let a = c .before .before in omega (arith, axes-length (a .args .self) (simp length-map at (a .good .0 .1 .1 .1 .0 .1 .0 .1)))
+
+pub len-spec : {M : Type 1} → statement M
+len-spec = tie.close (tie.spec returns returns-2)

@@ -1,0 +1,36 @@
+-- Laws of what the code's lists of axes stand for: the length of one, the axis at a place, and one axis more.
+-- `full` is what the prover knows of every AxisList: it has a place for each axis. Assumes nothing.
+use Prim.Native.Nat.{ℕ, zero, suc, _+_, _<_, min}
+use mathlib.Core.Path.{_≡_, refl, ap, sym, _∙_}
+use mathlib.Core.List.{List, [], _∷_, map, _++_}
+use native.Mathlib.Numerals.{add-one}
+use native.Mathlib.Omega.{arith}
+use lib.ListN.{set, take, length, length-map, length-take, getD, List·getD-map}
+use lib.Seq.{take-suc-set, getD-take}
+use Rattle.rules.specs.Limits.{mostAxes}
+use Rattle.rules.specs.Types.{axesOf}
+use Rattle.rules.specs.declared.Axis.{Axis}
+use Rattle.rules.specs.declared.AxisList.{AxisList}
+
+pub map-set : {A B : Type 0} (f : A → B) (l : List A) (i : ℕ) (y : A) → map f (set l i y) ≡ set (map f l) i (f y)
+map-set f [] i y = refl
+map-set f (x ∷ xs) zero y = refl
+map-set {B = B} f (x ∷ xs) (suc i) y = ap (λ (zs : List B). f x ∷ zs) (map-set f xs i y)
+
+module _ (l : AxisList) (full : length (l .axes) ≡ mostAxes) where
+  pub axes-length : length (axesOf l) ≡ min (l .count) mostAxes
+  unfolding axesOf
+  axes-length = length-take (l .count) (map (λ (a : Axis). a .0) (l .axes)) ∙ ap (min (l .count)) (length-map (l .axes) (λ (a : Axis). a .0) ∙ full)
+
+  pub axis-at : (i : ℕ) → i < length (axesOf l) → getD (l .axes) i (record { 0 = 0 }) .0 ≡ getD (axesOf l) i 0
+  unfolding axesOf
+  axis-at i h =
+      let s : List ℕ = map (λ (a : Axis). a .0) (l .axes) in
+      sym (getD-take (l .count) s i 0 (omega (arith, length-take (l .count) s)) ∙ List·getD-map (λ (a : Axis). a .0) (l .axes) i (record { 0 = 0 }))
+
+  -- the axes of the list with one more stored at its end
+  pub axes-with : (a : Axis) → l .count < mostAxes → axesOf (record { count = l .count + 1; axes = set (l .axes) (l .count) a }) ≡ axesOf l ++ (a .0 ∷ [])
+  unfolding axesOf
+  axes-with a h =
+      rw (add-one (l .count), map-set (λ (b : Axis). b .0) (l .axes) (l .count) a)
+      (take-suc-set (map (λ (b : Axis). b .0) (l .axes)) (l .count) (a .0) (simp length-map (omega (arith, full))))
