@@ -1,2 +1,4 @@
 pub mod Lists
 pub mod Types
+pub mod Positions
+pub mod Shapes
