@@ -2,3 +2,5 @@ pub mod Lists
 pub mod Types
 pub mod Positions
 pub mod Shapes
+pub mod Sizes
+pub mod Judging
