@@ -4,3 +4,4 @@ pub mod Positions
 pub mod Shapes
 pub mod Sizes
 pub mod Judging
+pub mod Steps

@@ -1,0 +1,321 @@
+-- What an accepted step satisfies, a record for each kind (`facts`), and that the sharding after it is one again (`after-sharding`), with the
+-- sizes that its kind asks for (`Accepted-shapes`). Assumes nothing.
+use Prim.Native.Nat.{ℕ, zero, suc, _+_, _*_, _<_}
+use mathlib.Core.Path.{_≡_, refl, sym, ap, _∙_, subst}
+use mathlib.Core.Logic.{_⊎_, inl, inr, ⊎-elim, ⊎-map, _≢_}
+use mathlib.Core.Bool.{Bool}
+use mathlib.Core.List.{List, [], _∷_, _++_, append-nil}
+use native.Mathlib.Omega.{arith}
+use lib.ListN.{length, getD, set, replicate, length-set, length-replicate}
+use lib.Dec.{T}
+use Rattle.rules.specs.Lists.{each, both, flat, In, Distinct}
+use Rattle.rules.specs.Sharding.{Sharding, named, divisible, shardSizes, IsSharding}
+use Rattle.rules.specs.Collectives.{
+  Step,
+  allSlice,
+  allGather,
+  allReduce,
+  allToAll,
+  stepAxes,
+  only,
+  sliced,
+  gathered,
+  cutTail,
+  reduced,
+  after,
+  grown,
+  shapeAfter,
+}
+use Rattle.rules.specs.Refusals.{Judged, accept, needAt}
+use Rattle.rules.specs.PlanFile.{some, allBelow, fresh, isTail, increasingFrom, allIn, twoDims, gatherOff, sliceOn, judgeKind, judgeStep}
+use Rattle.rules.proofs.Lists.{
+  in-left,
+  in-right,
+  in-append,
+  flat-in,
+  joined-left,
+  joined-right,
+  of-joined,
+  both-length,
+  distinct-split,
+  distinct-append,
+  of-without,
+  distinct-without,
+}
+use Rattle.rules.proofs.Shapes.{Cut, cut-lengths}
+use Rattle.rules.proofs.Sizes.{cut-divisible, cut-joined, cut-grown, cut-is}
+use Rattle.rules.proofs.Judging.{accept-inj, need-inv, bind-inv, allBelow-lt, fresh-distinct, tails-joined, increasing-distinct, allIn-in, twoDims-facts}
+
+-- ---- lists without repeats, joined and cut off
+
+distinct-joined : (ds Ss : List (List ℕ)) → Distinct (flat ds) → Distinct (flat Ss) → ((a : ℕ) → In a (flat Ss) → ¬ In a (flat ds))
+    → Distinct (flat (each _++_ ds Ss))
+distinct-joined [] Ss hd hS off = tt
+distinct-joined (d ∷ ds) [] hd hS off = tt
+distinct-joined (d ∷ ds) (S ∷ Ss) hd hS off =
+    let p : Distinct d × Distinct (flat ds) × ((a : ℕ) → In a d → ¬ In a (flat ds)) = distinct-split d (flat ds) hd in
+    let q : Distinct S × Distinct (flat Ss) × ((a : ℕ) → In a S → ¬ In a (flat Ss)) = distinct-split S (flat Ss) hS in
+    let l : (a : ℕ) → In a d → In a (flat (d ∷ ds)) = λ a i. in-left a d (flat ds) i in
+    let r : (a : ℕ) → In a (flat ds) → In a (flat (d ∷ ds)) = λ a i. in-right a d (flat ds) i in
+    let m : (a : ℕ) → In a S → In a (flat (S ∷ Ss)) = λ a i. in-left a S (flat Ss) i in
+    let n : (a : ℕ) → In a (flat Ss) → In a (flat (S ∷ Ss)) = λ a i. in-right a S (flat Ss) i in
+    distinct-append (d ++ S) (flat (each _++_ ds Ss)) (distinct-append d S (p .0) (q .0) (λ a i j. off a (m a i) (l a j)))
+    (distinct-joined ds Ss (p .1) (q .1) (λ a i j. off a (n a i) (r a j)))
+    (λ a u i. ⊎-elim (λ j. ⊎-elim (λ v. p .2 a j v) (λ v. off a (n a v) (l a j)) (of-joined a ds Ss u))
+    (λ j. ⊎-elim (λ v. off a (m a j) (r a v)) (λ v. q .2 a j v) (of-joined a ds Ss u)) (in-append a d S i))
+
+-- what is left and what is cut off have no axis twice, and none in common
+pub record Apart (ds Ss : List (List ℕ)) : Type 0 where
+  pub left : Distinct (flat ds)
+  pub right : Distinct (flat Ss)
+  pub off : (a : ℕ) → In a (flat Ss) → ¬ In a (flat ds)
+
+split-joined : (ds Ss : List (List ℕ)) → length ds ≡ length Ss → Distinct (flat (each _++_ ds Ss)) → Apart ds Ss
+split-joined [] [] e h = record { left = tt; right = tt; off = λ a i. absurd i }
+split-joined [] (S ∷ Ss) e h = absurd (omega arith)
+split-joined (d ∷ ds) [] e h = absurd (omega arith)
+split-joined (d ∷ ds) (S ∷ Ss) e h =
+    let k : length ds ≡ length Ss = omega arith in
+    let p : Distinct (d ++ S) × Distinct (flat (each _++_ ds Ss)) × ((a : ℕ) → In a (d ++ S) → ¬ In a (flat (each _++_ ds Ss))) =
+    distinct-split (d ++ S) (flat (each _++_ ds Ss)) h in
+    let q : Distinct d × Distinct S × ((a : ℕ) → In a d → ¬ In a S) = distinct-split d S (p .0) in
+    let ih : Apart ds Ss = split-joined ds Ss k (p .1) in
+    record {
+      left = distinct-append d (flat ds) (q .0) (ih .left) (λ a i j. p .2 a (in-left a d S j) (joined-left a ds Ss k i));
+      right = distinct-append S (flat Ss) (q .1) (ih .right) (λ a i j. p .2 a (in-right a d S j) (joined-right a ds Ss k i));
+      off = λ a i j. ⊎-elim
+          (λ s. ⊎-elim (λ t. q .2 a t s) (λ t. p .2 a (in-right a d S s) (joined-left a ds Ss k t)) (flat-in a d ds j))
+          (λ s. ⊎-elim (λ t. p .2 a (in-left a d S t) (joined-right a ds Ss k s)) (λ t. ih .off a s t) (flat-in a d ds j))
+          (flat-in a S Ss i);
+    }
+
+-- one list among empty ones
+flat-empty : (r : ℕ) → flat {A = ℕ} (replicate r []) ≡ []
+flat-empty zero = refl
+flat-empty (suc r) = flat-empty r
+
+pub flat-only : (r i : ℕ) (L : List ℕ) → i < r → flat (only r i L) ≡ L
+flat-only zero i L h = absurd (omega arith)
+flat-only (suc r) zero L h = ap (λ (l : List ℕ). L ++ l) (flat-empty r) ∙ append-nil L
+flat-only (suc r) (suc i) L h = flat-only r i L (omega arith)
+
+-- ---- what an accepted step of each kind satisfies
+
+module _ (mesh sizes : List ℕ) where
+  pub record SliceFacts (Ss : List (List ℕ)) (s : Sharding) : Type 0 where
+    pub once : Distinct (flat Ss)
+    pub off : (a : ℕ) → In a (flat Ss) → ¬ In a (named s)
+    pub divides : T (divisible mesh (shardSizes mesh sizes (s .dims)) Ss)
+
+  pub record GatherFacts (Gs : List (List ℕ)) (s : Sharding) : Type 0 where
+    pub tailed : T (both isTail (s .dims) Gs)
+
+  pub record ReduceFacts (L : List ℕ) (s : Sharding) : Type 0 where
+    pub once : Distinct L
+    pub unreduced : (a : ℕ) → In a L → In a (s .unreduced)
+
+  pub record ToAllFacts (source target : ℕ) (L : List ℕ) (s : Sharding) : Type 0 where
+    pub source-lt : source < length (s .dims)
+    pub target-lt : target < length (s .dims)
+    pub other : source ≢ target
+    pub tailed : T (both isTail (s .dims) (only (length (s .dims)) source L))
+    pub divides : T (divisible mesh (shardSizes mesh sizes (each cutTail (s .dims) (only (length (s .dims)) source L))) (only (length (s .dims)) target L))
+
+  abbrev pub Facts : Step → Sharding → Type 0
+  Facts (allSlice Ss) s = SliceFacts Ss s
+  Facts (allGather Gs) s = GatherFacts Gs s
+  Facts (allReduce L) s = ReduceFacts L s
+  Facts (allToAll source target L) s = ToAllFacts source target L s
+
+  -- a gather off the lists, and a slice on them
+  gather-inv : (k : ℕ) (Gs : List (List ℕ)) (s r : Sharding) → gatherOff k Gs s ≡ accept r → T (both isTail (s .dims) Gs) × (gathered Gs s ≡ r)
+  unfolding gatherOff
+  gather-inv k Gs s r e =
+      let p : T (both isTail (s .dims) Gs) × (accept (gathered Gs s) ≡ accept r) = need-inv k (both isTail (s .dims) Gs) 24 (accept (gathered Gs s)) r e in
+      (p .0, accept-inj (p .1))
+
+  slice-inv : (k : ℕ) (Ss : List (List ℕ)) (s r : Sharding) → sliceOn mesh sizes k Ss s ≡ accept r
+      → T (divisible mesh (shardSizes mesh sizes (s .dims)) Ss) × (sliced Ss s ≡ r)
+  unfolding sliceOn
+  slice-inv k Ss s r e =
+      let t : Bool = divisible mesh (shardSizes mesh sizes (s .dims)) Ss in
+      let p : T t × (accept (sliced Ss s) ≡ accept r) = need-inv k t 25 (accept (sliced Ss s)) r e in
+      (p .0, accept-inj (p .1))
+
+  kind-facts : (k : ℕ) (t : Step) (s r : Sharding) → judgeKind mesh sizes k t s ≡ accept r → Facts t s × (after t s ≡ r)
+  unfolding judgeKind after
+  kind-facts k (allSlice Ss) s r e =
+      let p : T (fresh (named s) (flat Ss)) × (sliceOn mesh sizes k Ss s ≡ accept r) = need-inv k (fresh (named s) (flat Ss)) 23 (sliceOn mesh sizes k Ss s) r e in
+      let q : T (divisible mesh (shardSizes mesh sizes (s .dims)) Ss) × (sliced Ss s ≡ r) = slice-inv k Ss s r (p .1) in
+      let f : Distinct (flat Ss) × ((a : ℕ) → In a (flat Ss) → ¬ In a (named s)) = fresh-distinct (named s) (flat Ss) (p .0) in
+      (record { once = f .0; off = f .1; divides = q .0 }, q .1)
+  kind-facts k (allGather Gs) s r e = let p : T (both isTail (s .dims) Gs) × (gathered Gs s ≡ r) = gather-inv k Gs s r e in (record { tailed = p .0 }, p .1)
+  kind-facts k (allReduce L) s r e =
+      let m : Judged Sharding = accept (reduced L s) in
+      let p : T (increasingFrom 0 L) × (_ ≡ accept r) = need-inv k (increasingFrom 0 L) 26 _ r e in
+      let q : T (allIn L (s .unreduced)) × (m ≡ accept r) = need-inv k (allIn L (s .unreduced)) 27 m r (p .1) in
+      (record { once = increasing-distinct 0 L (p .0); unreduced = allIn-in L (s .unreduced) (q .0) }, accept-inj (q .1))
+  kind-facts k (allToAll source target L) s r e =
+      let n : ℕ = length (s .dims) in
+      let p : T (twoDims n source target) × (_ ≡ accept r) = need-inv k (twoDims n source target) 28 _ r e in
+      let f : (source < n) × (target < n) × (source ≢ target) = twoDims-facts n source target (p .0) in
+      let b : (g : Sharding) × (gatherOff k (only n source L) s ≡ accept g) × (sliceOn mesh sizes k (only n target L) g ≡ accept r) =
+      bind-inv (gatherOff k (only n source L) s) (λ g. sliceOn mesh sizes k (only n target L) g) r (p .1) in
+      let g : T (both isTail (s .dims) (only n source L)) × (gathered (only n source L) s ≡ b .0) = gather-inv k (only n source L) s (b .0) (b .1) in
+      let h : sliceOn mesh sizes k (only n target L) (gathered (only n source L) s) ≡ accept r =
+      subst (λ (z : Sharding). sliceOn mesh sizes k (only n target L) z ≡ accept r) (sym (g .1)) (b .2) in
+      let q : T (divisible mesh (shardSizes mesh sizes (gathered (only n source L) s .dims)) (only n target L)) × (sliced (only n target L) (gathered (only n source L) s) ≡ r) =
+      slice-inv k (only n target L) (gathered (only n source L) s) r h in
+      (record { source-lt = f .0; target-lt = f .1; other = f .2; tailed = g .0; divides = unfold gathered in q .0 }, q .1)
+
+  -- An accepted step names axes of the mesh, passes the tests of its kind, and its sharding is the one after it.
+  pub record AcceptedStep (t : Step) (s : Sharding) : Type 0 where
+    pub axes : (a : ℕ) → In a (stepAxes t) → a < length mesh
+    pub by-kind : Facts t s
+
+  pub facts : (k : ℕ) (t : Step) (s r : Sharding) → judgeStep mesh sizes k t s ≡ accept r → AcceptedStep t s × (after t s ≡ r)
+  unfolding judgeStep
+  facts k t s r e =
+      let p : T (some (stepAxes t)) × (_ ≡ accept r) = need-inv k (some (stepAxes t)) 21 _ r e in
+      let q : T (allBelow (length mesh) (stepAxes t)) × (judgeKind mesh sizes k t s ≡ accept r) = need-inv k (allBelow (length mesh) (stepAxes t)) 22 _ r (p .1) in
+      let f : Facts t s × (after t s ≡ r) = kind-facts k t s r (q .1) in
+      (record { axes = allBelow-lt (length mesh) (stepAxes t) (q .0); by-kind = f .0 }, f .1)
+
+-- ---- the sharding after an accepted step is one, in the shape that the step itself leaves
+
+module _ (mesh sizes : List ℕ) (pos : (a : ℕ) → zero < getD mesh a 1) where
+  abbrev shapeOf : Sharding → List ℕ
+  shapeOf s = shardSizes mesh sizes (s .dims)
+
+  pub sharding-cut : (s : Sharding) → IsSharding mesh sizes s → Cut mesh (s .dims) sizes (shapeOf s)
+  sharding-cut s h = cut-divisible mesh sizes (s .dims) (h .divides)
+
+  -- as many shard sizes as lists
+  pub shape-length : (s : Sharding) → IsSharding mesh sizes s → length (shapeOf s) ≡ length (s .dims)
+  shape-length s h = sym (cut-lengths mesh (sharding-cut s h) .1)
+
+  -- an all-slice: the sharding after it, the pieces of its shards, and the announced sizes
+  pub record Sliced (Ss : List (List ℕ)) (s : Sharding) : Type 0 where
+    pub after-it : IsSharding mesh sizes (sliced Ss s)
+    pub one-each : length (s .dims) ≡ length Ss
+    pub pieces : Cut mesh Ss (shapeOf s) (shardSizes mesh (shapeOf s) Ss)
+    pub announced : shardSizes mesh (shapeOf s) Ss ≡ shapeOf (sliced Ss s)
+
+  pub slice-sharding : (Ss : List (List ℕ)) (s : Sharding) → IsSharding mesh sizes s → ((a : ℕ) → In a (flat Ss) → a < length mesh)
+      → SliceFacts mesh sizes Ss s → Sliced Ss s
+  unfolding sliced
+  slice-sharding Ss s h below f =
+      let d : List (List ℕ) = each _++_ (s .dims) Ss in
+      let p : Distinct (flat (s .dims)) × Distinct (s .unreduced) × ((a : ℕ) → In a (flat (s .dims)) → ¬ In a (s .unreduced)) =
+      distinct-split (flat (s .dims)) (s .unreduced) (h .once) in
+      let l : (a : ℕ) → In a (flat (s .dims)) → In a (named s) = λ a i. in-left a (flat (s .dims)) (s .unreduced) i in
+      let r : (a : ℕ) → In a (s .unreduced) → In a (named s) = λ a i. in-right a (flat (s .dims)) (s .unreduced) i in
+      let c : Cut mesh Ss (shapeOf s) (shardSizes mesh (shapeOf s) Ss) = cut-divisible mesh (shapeOf s) Ss (f .divides) in
+      let w : T (divisible mesh sizes d) × (shardSizes mesh (shapeOf s) Ss ≡ shardSizes mesh sizes d) =
+      cut-is mesh pos (cut-joined mesh (sharding-cut s h) c) in
+      record {
+        after-it = record {
+          of-mesh = λ a i. ⊎-elim (λ j. ⊎-elim (λ k. h .of-mesh a (l a k)) (below a) (of-joined a (s .dims) Ss j)) (λ j. h .of-mesh a (r a j)) (in-append a (flat d) (s .unreduced) i);
+          once = distinct-append (flat d) (s .unreduced) (distinct-joined (s .dims) Ss (p .0) (f .once) (λ a i j. f .off a i (l a j))) (p .1)
+              (λ a i j. ⊎-elim (λ k. p .2 a k i) (λ k. f .off a k (r a i)) (of-joined a (s .dims) Ss j));
+          divides = w .0;
+        };
+        one-each = cut-lengths mesh (sharding-cut s h) .1 ∙ sym (cut-lengths mesh c .0);
+        pieces = c;
+        announced = w .1;
+      }
+
+  -- an all-gather: the sharding after it, what was cut off, the wholes of its shards, and the announced sizes
+  pub record Gathered (Gs : List (List ℕ)) (s : Sharding) : Type 0 where
+    pub after-it : IsSharding mesh sizes (gathered Gs s)
+    pub joined : each _++_ (each cutTail (s .dims) Gs) Gs ≡ s .dims
+    pub one-each : length (each cutTail (s .dims) Gs) ≡ length Gs
+    pub apart : Apart (each cutTail (s .dims) Gs) Gs
+    pub cut-off : (a : ℕ) → In a (flat Gs) → In a (flat (s .dims))
+    pub wholes : Cut mesh Gs (grown mesh Gs (shapeOf s)) (shapeOf s)
+    pub announced : grown mesh Gs (shapeOf s) ≡ shapeOf (gathered Gs s)
+
+  pub gather-sharding : (Gs : List (List ℕ)) (s : Sharding) → IsSharding mesh sizes s → GatherFacts mesh sizes Gs s → Gathered Gs s
+  unfolding gathered
+  gather-sharding Gs s h f =
+      let d : List (List ℕ) = each cutTail (s .dims) Gs in
+      let j : (each _++_ d Gs ≡ s .dims) × (length d ≡ length Gs) = tails-joined (s .dims) Gs (f .tailed) in
+      let p : Distinct (flat (s .dims)) × Distinct (s .unreduced) × ((a : ℕ) → In a (flat (s .dims)) → ¬ In a (s .unreduced)) =
+      distinct-split (flat (s .dims)) (s .unreduced) (h .once) in
+      let q : Apart d Gs = split-joined d Gs (j .1) (subst (λ (z : List (List ℕ)). Distinct (flat z)) (sym (j .0)) (p .0)) in
+      let l : (a : ℕ) → In a (flat d) → In a (flat (s .dims)) = λ a i. subst (λ (z : List (List ℕ)). In a (flat z)) (j .0) (joined-left a d Gs (j .1) i) in
+      let r : (a : ℕ) → In a (flat Gs) → In a (flat (s .dims)) = λ a i. subst (λ (z : List (List ℕ)). In a (flat z)) (j .0) (joined-right a d Gs (j .1) i) in
+      let c : Cut mesh Gs (grown mesh Gs (shapeOf s)) (shapeOf s) × Cut mesh d sizes (grown mesh Gs (shapeOf s)) =
+      cut-grown mesh d Gs (j .1) (subst (λ (z : List (List ℕ)). Cut mesh z sizes (shapeOf s)) (sym (j .0)) (sharding-cut s h)) in
+      let w : T (divisible mesh sizes d) × (grown mesh Gs (shapeOf s) ≡ shardSizes mesh sizes d) = cut-is mesh pos (c .1) in
+      record {
+        after-it = record {
+          of-mesh = λ a i. h .of-mesh a (⊎-elim (λ k. in-left a (flat (s .dims)) (s .unreduced) (l a k)) (λ k. in-right a (flat (s .dims)) (s .unreduced) k) (in-append a (flat d) (s .unreduced) i));
+          once = distinct-append (flat d) (s .unreduced) (q .left) (p .1) (λ a i k. p .2 a (l a k) i);
+          divides = w .0;
+        };
+        joined = j .0;
+        one-each = j .1;
+        apart = q;
+        cut-off = r;
+        wholes = c .0;
+        announced = w .1;
+      }
+
+  pub reduce-sharding : (L : List ℕ) (s : Sharding) → IsSharding mesh sizes s → IsSharding mesh sizes (reduced L s)
+  unfolding reduced
+  reduce-sharding L s h =
+      let p : Distinct (flat (s .dims)) × Distinct (s .unreduced) × ((a : ℕ) → In a (flat (s .dims)) → ¬ In a (s .unreduced)) =
+      distinct-split (flat (s .dims)) (s .unreduced) (h .once) in
+      record {
+        of-mesh = λ a i. h .of-mesh a (⊎-elim (λ k. in-left a (flat (s .dims)) (s .unreduced) k) (λ k. in-right a (flat (s .dims)) (s .unreduced) (of-without a L (s .unreduced) k)) (in-append a (flat (s .dims)) _ i));
+        once = distinct-append (flat (s .dims)) _ (p .0) (distinct-without L (s .unreduced) (p .1)) (λ a i j. p .2 a j (of-without a L (s .unreduced) i));
+        divides = h .divides;
+      }
+
+  -- an all-to-all: its gather, and then its slice
+  pub record ToAll (source target : ℕ) (L : List ℕ) (s : Sharding) : Type 0 where
+    pub first : Gathered (only (length (s .dims)) source L) s
+    pub second : Sliced (only (length (s .dims)) target L) (gathered (only (length (s .dims)) source L) s)
+    pub moved : (a : ℕ) → In a (flat (only (length (s .dims)) target L)) → In a (flat (only (length (s .dims)) source L))
+
+  pub to-all-sharding : (source target : ℕ) (L : List ℕ) (s : Sharding) → IsSharding mesh sizes s → ((a : ℕ) → In a L → a < length mesh)
+      → ToAllFacts mesh sizes source target L s → ToAll source target L s
+  unfolding gathered
+  to-all-sharding source target L s h below f =
+      let n : ℕ = length (s .dims) in
+      let Gs : List (List ℕ) = only n source L in
+      let Ss : List (List ℕ) = only n target L in
+      let g : Gathered Gs s = gather-sharding Gs s h (record { tailed = f .tailed }) in
+      let eG : flat Gs ≡ L = flat-only n source L (f .source-lt) in
+      let eS : flat Ss ≡ L = flat-only n target L (f .target-lt) in
+      let into : (a : ℕ) → In a (flat Ss) → In a (flat Gs) = λ a i. subst (In a) (eS ∙ sym eG) i in
+      let p : Distinct (flat (s .dims)) × Distinct (s .unreduced) × ((a : ℕ) → In a (flat (s .dims)) → ¬ In a (s .unreduced)) =
+      distinct-split (flat (s .dims)) (s .unreduced) (h .once) in
+      record {
+        first = g;
+        second = slice-sharding Ss (gathered Gs s) (g .after-it) (λ a i. below a (subst (In a) eS i)) (record {
+          once = subst Distinct (eG ∙ sym eS) (g .apart .right);
+          off = λ a i j. ⊎-elim (λ k. g .apart .off a (into a i) k) (λ k. p .2 a (g .cut-off a (into a i)) k) (in-append a (flat (each cutTail (s .dims) Gs)) (s .unreduced) j);
+          divides = f .divides;
+        });
+        moved = into;
+      }
+
+  -- The sharding after an accepted step is one.
+  pub after-sharding : (t : Step) (s : Sharding) → IsSharding mesh sizes s → AcceptedStep mesh sizes t s → IsSharding mesh sizes (after t s)
+  unfolding after
+  after-sharding (allSlice Ss) s h f = slice-sharding Ss s h (f .axes) (f .by-kind) .after-it
+  after-sharding (allGather Gs) s h f = gather-sharding Gs s h (f .by-kind) .after-it
+  after-sharding (allReduce L) s h f = reduce-sharding L s h
+  after-sharding (allToAll source target L) s h f = to-all-sharding source target L s h (f .axes) (f .by-kind) .second .after-it
+
+  -- The shape that an accepted step itself leaves is the announced one.
+  pub after-shape : (t : Step) (s : Sharding) → IsSharding mesh sizes s → AcceptedStep mesh sizes t s → shapeAfter mesh t (shapeOf s) ≡ shapeOf (after t s)
+  unfolding after reduced
+  after-shape (allSlice Ss) s h f = slice-sharding Ss s h (f .axes) (f .by-kind) .announced
+  after-shape (allGather Gs) s h f = gather-sharding Gs s h (f .by-kind) .announced
+  after-shape (allReduce L) s h f = refl
+  after-shape (allToAll source target L) s h f =
+      let w : ToAll source target L s = to-all-sharding source target L s h (f .axes) (f .by-kind) in
+      rw (shape-length s h) (ap (λ (z : List ℕ). shardSizes mesh z (only (length (s .dims)) target L)) (w .first .announced) ∙ w .second .announced)
