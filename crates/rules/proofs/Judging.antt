@@ -25,6 +25,10 @@ pub need-inv : {A : Type 0} (k : ℕ) (b : Bool) (n : ℕ) (m : Judged A) (a : A
 need-inv k true n m a e = (tt, e)
 need-inv k false n m a e = absurd (never e)
 
+pub need-true : (k : ℕ) (b : Bool) (n : ℕ) → needAt k b n ≡ accept tt → T b
+need-true k true n e = tt
+need-true k false n e = absurd (never e)
+
 pub then-inv : {A B : Type 0} (m : Judged A) (l : Judged B) (b : B) → _>>_ m l ≡ accept b → ((a : A) × (m ≡ accept a)) × (l ≡ accept b)
 then-inv (accept a) l b e = ((a, refl), e)
 then-inv (refuse n k) l b e = absurd (never e)

@@ -5,3 +5,5 @@ pub mod Shapes
 pub mod Sizes
 pub mod Judging
 pub mod Steps
+pub mod Accepted
+pub mod Room

@@ -1,0 +1,214 @@
+-- What an accepted file tells of its plan (`accepted`): limits, positive sizes, a sharding at the start, and each step accepted in turn. The bounds
+-- that code needs are the fields of one record, which omega reads. Assumes nothing.
+use Prim.Native.Nat.{ℕ, zero, suc, _+_, _*_, _<_, _≤_}
+use mathlib.Core.Path.{_≡_, refl, sym, ap, _∙_, subst}
+use mathlib.Core.Logic.{_⊎_, inl, inr, ⊎-elim}
+use mathlib.Core.Bool.{Bool, true, false, not, _&&_}
+use mathlib.Core.List.{List, [], _∷_, _++_}
+use native.Mathlib.Nat.{mul-pos, mul-one, mul-assoc, one-mul}
+use native.Mathlib.Omega.{arith}
+use lib.ListN.{length, getD, take}
+use lib.Dec.{T, ltb, leb, eqb, ltb→lt, leb→le, lit<, lit≤}
+use Rattle.rules.specs.Lists.{tab, pick, flat, product, mem, In, Distinct}
+use Rattle.rules.specs.Sharding.{Sharding, named, divisible, IsSharding}
+use Rattle.rules.specs.Collectives.{Step, after}
+use Rattle.rules.specs.Limits.{mostAxes, mostDevices, mostDims, mostWords, mostSteps, leastBytes, mostBytes}
+use Rattle.rules.specs.Refusals.{Judged, accept, _>>=_, _>>_}
+use Rattle.rules.specs.PlanFile.{
+  Read,
+  u16At,
+  edition,
+  axisCount,
+  rankCount,
+  stepCount,
+  meshOffset,
+  tensorOffset,
+  shardingOffset,
+  stepsOffset,
+  totalLength,
+  judgeHeader,
+  judgeSizes,
+  sizesAt,
+  shardingAt,
+  judgeAxes,
+  judgeStart,
+  stepAt,
+  judgeStep,
+  stepsAt,
+  Plan,
+  judge,
+}
+use Rattle.rules.proofs.Lists.{T-and, length-tab, not-mem, distinct-append, in-append}
+use Rattle.rules.proofs.Judging.{accept-inj, need-inv, need-true, then-inv, bind-inv}
+use Rattle.rules.proofs.Steps.{AcceptedStep, facts}
+
+-- ---- sizes
+
+pub record SizesFacts (most running : ℕ) (sizes : List ℕ) : Type 0 where
+  pub each-pos : (a : ℕ) → 0 < getD sizes a 1
+  pub pos : 0 < running * product sizes
+  pub few : running * product sizes ≤ most
+
+pub sizes-facts : (most z o running : ℕ) (sizes : List ℕ) → 0 < running → running ≤ most → judgeSizes most z o running sizes ≡ accept tt → SizesFacts most running sizes
+unfolding judgeSizes
+sizes-facts most z o running [] p l e = record { each-pos = λ a. lit< tt; pos = omega arith; few = omega arith }
+sizes-facts most z o running (n ∷ sizes) p l e =
+    let q : T (ltb 0 n) × (_ ≡ accept tt) = need-inv 0 (ltb 0 n) z _ tt e in
+    let r : T (leb (running * n) most) × (judgeSizes most z o (running * n) sizes ≡ accept tt) = need-inv 0 (leb (running * n) most) o _ tt (q .1) in
+    let h : 0 < n = ltb→lt 0 n (q .0) in
+    let f : SizesFacts most (running * n) sizes = sizes-facts most z o (running * n) sizes (mul-pos p h) (leb→le (running * n) most (r .0)) (r .1) in
+    let w : running * n * product sizes ≡ running * (n * product sizes) = mul-assoc running n (product sizes) in
+    record {
+      each-pos = positive h (f .each-pos);
+      pos = subst (λ k. 0 < k) w (f .pos);
+      few = subst (λ k. k ≤ most) w (f .few);
+    }
+  where
+    positive : 0 < n → ((a : ℕ) → 0 < getD sizes a 1) → (a : ℕ) → 0 < getD (n ∷ sizes) a 1
+    positive h g zero = h
+    positive h g (suc a) = g a
+
+-- ---- the starting sharding
+
+pub record AxesFacts (n : ℕ) (before axes : List ℕ) : Type 0 where
+  pub below : (a : ℕ) → In a axes → a < n
+  pub once : Distinct axes
+  pub off : (a : ℕ) → In a axes → ¬ In a before
+
+pub axes-facts : (n : ℕ) (increasing : Bool) (low : ℕ) (before axes : List ℕ) → judgeAxes n increasing low before axes ≡ accept tt → AxesFacts n before axes
+unfolding judgeAxes
+axes-facts n increasing low before [] e = record { below = λ a i. absurd i; once = tt; off = λ a i. absurd i }
+axes-facts n increasing low before (b ∷ axes) e =
+    let p : T (ltb b n) × (_ ≡ accept tt) = need-inv 0 (ltb b n) 14 _ tt e in
+    let q : T (not (mem b before)) × (_ ≡ accept tt) = need-inv 0 (not (mem b before)) 15 _ tt (p .1) in
+    let r : T (leb low b) × (judgeAxes n increasing (pick increasing (b + 1) 0) (b ∷ before) axes ≡ accept tt) = need-inv 0 (leb low b) 16 _ tt (q .1) in
+    let f : AxesFacts n (b ∷ before) axes = axes-facts n increasing (pick increasing (b + 1) 0) (b ∷ before) axes (r .1) in
+    record {
+      below = λ a. ⊎-elim (λ w. subst (λ z. z < n) (sym w) (ltb→lt b n (p .0))) (f .below a);
+      once = ((λ i. f .off b i (inl refl)), f .once);
+      off = λ a i j. ⊎-elim (λ w. not-mem b before (q .0) (subst (λ z. In z before) w j)) (λ k. f .off a k (inr j)) i;
+    }
+
+pub start-sharding : (mesh sizes : List ℕ) (s : Sharding) → judgeStart mesh sizes s ≡ accept tt → IsSharding mesh sizes s
+unfolding judgeStart
+start-sharding mesh sizes s e =
+    let d : List ℕ = flat (s .dims) in
+    let p = then-inv (judgeAxes (length mesh) false 0 [] d) _ tt e in
+    let q = then-inv (judgeAxes (length mesh) true 0 d (s .unreduced)) _ tt (p .1) in
+    let f : AxesFacts (length mesh) [] d = axes-facts (length mesh) false 0 [] d (p .0 .1) in
+    let g : AxesFacts (length mesh) d (s .unreduced) = axes-facts (length mesh) true 0 d (s .unreduced) (q .0 .1) in
+    record {
+      of-mesh = λ a i. ⊎-elim (f .below a) (g .below a) (in-append a d (s .unreduced) i);
+      once = distinct-append d (s .unreduced) (f .once) (g .once) (g .off);
+      divides = need-true 0 (divisible mesh sizes (s .dims)) 17 (q .1);
+    }
+
+-- ---- steps
+
+-- each step of a list is accepted in turn, from the sharding s on
+abbrev pub Fine : (mesh sizes : List ℕ) → Sharding → List Step → Type 0
+Fine mesh sizes s [] = Unit {0}
+Fine mesh sizes s (t ∷ ts) = AcceptedStep mesh sizes t s × Fine mesh sizes (after t s) ts
+
+steps-fine : (mesh sizes : List ℕ) (k count : ℕ) (file : List ℕ) (at : ℕ) (s : Sharding) (r : Read (List Step)) → stepsAt mesh sizes k count file at s ≡ accept r
+    → Fine mesh sizes s (r .value) × (length (r .value) ≡ count)
+unfolding stepsAt
+steps-fine mesh sizes k zero file at s r e = subst (λ (z : Read (List Step)). Fine mesh sizes s (z .value) × (length (z .value) ≡ 0)) (accept-inj e) (tt, refl)
+steps-fine mesh sizes k (suc count) file at s r e =
+    let p = bind-inv (stepAt (length mesh) (length sizes) k file at) _ r e in
+    let t : Step = p .0 .value in
+    let q = bind-inv (judgeStep mesh sizes k t s) _ r (p .2) in
+    let f : AcceptedStep mesh sizes t s × (after t s ≡ q .0) = facts mesh sizes k t s (q .0) (q .1) in
+    let w = bind-inv (stepsAt mesh sizes (k + 1) count file (p .0 .next) (q .0)) _ r (q .2) in
+    let ts : List Step = w .0 .value in
+    let g : Fine mesh sizes (q .0) ts × (length ts ≡ count) = steps-fine mesh sizes (k + 1) count file (p .0 .next) (q .0) (w .0) (w .1) in
+    subst (λ (z : Read (List Step)). Fine mesh sizes s (z .value) × (length (z .value) ≡ suc count)) (accept-inj (w .2))
+    ((f .0, subst (λ (z : Sharding). Fine mesh sizes z ts) (sym (f .1)) (g .0)), ap suc (g .1))
+
+-- ---- the whole file
+
+-- What an accepted plan satisfies.
+pub record AcceptedPlan (p : Plan) : Type 0 where
+  pub axes-some : 1 ≤ length (p .mesh)
+  pub axes-few : length (p .mesh) ≤ mostAxes
+  pub sizes-pos : (a : ℕ) → 0 < getD (p .mesh) a 1
+  pub devices-pos : 0 < product (p .mesh)
+  pub devices-few : product (p .mesh) ≤ mostDevices
+  pub rank-some : 1 ≤ length (p .sizes)
+  pub rank-few : length (p .sizes) ≤ mostDims
+  pub words-pos : 0 < product (p .sizes)
+  pub words-few : product (p .sizes) ≤ mostWords
+  pub steps-few : length (p .steps) ≤ mostSteps
+  pub start-is : IsSharding (p .mesh) (p .sizes) (p .start)
+  pub fine : Fine (p .mesh) (p .sizes) (p .start) (p .steps)
+
+record HeaderFacts (file : List ℕ) : Type 0 where
+  pub axes-some : 1 ≤ axisCount file
+  pub axes-few : axisCount file ≤ mostAxes
+  pub rank-some : 1 ≤ rankCount file
+  pub rank-few : rankCount file ≤ mostDims
+  pub steps-few : stepCount file ≤ mostSteps
+
+header-facts : (file : List ℕ) → judgeHeader file ≡ accept tt → HeaderFacts file
+unfolding judgeHeader
+header-facts file e =
+    let a = need-inv 0 (leb leastBytes (length file)) 1 _ tt e in
+    let b = need-inv 0 (leb (length file) mostBytes) 2 _ tt (a .1) in
+    let c = need-inv 0 (eqb (edition file) 1) 3 _ tt (b .1) in
+    let d = need-inv 0 (eqb (totalLength file) (length file)) 4 _ tt (c .1) in
+    let n : T (leb 1 (axisCount file) && leb (axisCount file) mostAxes) × (_ ≡ accept tt) = need-inv 0 (leb 1 (axisCount file) && leb (axisCount file) mostAxes) 5 _ tt (d .1) in
+    let r : T (leb 1 (rankCount file) && leb (rankCount file) mostDims) × (_ ≡ accept tt) = need-inv 0 (leb 1 (rankCount file) && leb (rankCount file) mostDims) 5 _ tt (n .1) in
+    let k : T (leb (stepCount file) mostSteps) = need-true 0 (leb (stepCount file) mostSteps) 5 (r .1) in
+    let x : T (leb 1 (axisCount file)) × T (leb (axisCount file) mostAxes) = T-and (leb 1 (axisCount file)) (leb (axisCount file) mostAxes) (n .0) in
+    let y : T (leb 1 (rankCount file)) × T (leb (rankCount file) mostDims) = T-and (leb 1 (rankCount file)) (leb (rankCount file) mostDims) (r .0) in
+    record {
+      axes-some = leb→le 1 (axisCount file) (x .0);
+      axes-few = leb→le (axisCount file) mostAxes (x .1);
+      rank-some = leb→le 1 (rankCount file) (y .0);
+      rank-few = leb→le (rankCount file) mostDims (y .1);
+      steps-few = leb→le (stepCount file) mostSteps k;
+    }
+
+-- a section of sizes: as many as were asked for, within the limit
+sizes-section : (most z o count offset : ℕ) (file : List ℕ) (at : ℕ) (r : Read (List ℕ)) → 1 ≤ most → sizesAt most z o count offset file at ≡ accept r
+    → (length (r .value) ≡ count) × SizesFacts most 1 (r .value)
+unfolding sizesAt
+sizes-section most z o count offset file at r l e =
+    let sizes : List ℕ = tab count (λ i. u16At file (at + 2 * i)) in
+    let a = need-inv 0 (eqb offset at) 6 _ r e in
+    let b = need-inv 0 (leb (at + 2 * count) (length file)) 7 _ r (a .1) in
+    let c = then-inv (judgeSizes most z o 1 sizes) _ r (b .1) in
+    subst (λ (w : Read (List ℕ)). (length (w .value) ≡ count) × SizesFacts most 1 (w .value)) {x = record { value = sizes; next = at + 2 * count }} (accept-inj (c .1))
+    (length-tab count (λ i. u16At file (at + 2 * i)), sizes-facts most z o 1 sizes (lit< tt) l (c .0 .1))
+
+-- THE FACTS OF AN ACCEPTED FILE
+pub accepted : (file : List ℕ) (p : Plan) → judge file ≡ accept p → AcceptedPlan p
+unfolding judge
+accepted file p e =
+    let h0 = then-inv (judgeHeader file) _ p e in
+    let h : HeaderFacts file = header-facts file (h0 .0 .1) in
+    let m = bind-inv (sizesAt mostDevices 10 11 (axisCount file) (meshOffset file) file 18) _ p (h0 .1) in
+    let t = bind-inv (sizesAt mostWords 12 13 (rankCount file) (tensorOffset file) file (m .0 .next)) _ p (m .2) in
+    let s = bind-inv (shardingAt (axisCount file) (rankCount file) (shardingOffset file) file (t .0 .next)) _ p (t .2) in
+    let o = need-inv 0 (eqb (stepsOffset file) (s .0 .next)) 6 _ p (s .2) in
+    let j = then-inv (judgeStart (m .0 .value) (t .0 .value) (s .0 .value)) _ p (o .1) in
+    let ts = bind-inv (stepsAt (m .0 .value) (t .0 .value) 1 (stepCount file) file (s .0 .next) (s .0 .value)) _ p (j .1) in
+    let z = need-inv 0 (eqb (ts .0 .next) (length file)) 9 _ p (ts .2) in
+    let fm : (length (m .0 .value) ≡ axisCount file) × SizesFacts mostDevices 1 (m .0 .value) = sizes-section mostDevices 10 11 (axisCount file) (meshOffset file) file 18 (m .0) (lit≤ tt) (m .1) in
+    let ft : (length (t .0 .value) ≡ rankCount file) × SizesFacts mostWords 1 (t .0 .value) = sizes-section mostWords 12 13 (rankCount file) (tensorOffset file) file (m .0 .next) (t .0) (lit≤ tt) (t .1) in
+    let fs : Fine (m .0 .value) (t .0 .value) (s .0 .value) (ts .0 .value) × (length (ts .0 .value) ≡ stepCount file) =
+    steps-fine (m .0 .value) (t .0 .value) 1 (stepCount file) file (s .0 .next) (s .0 .value) (ts .0) (ts .1) in
+    subst AcceptedPlan (accept-inj (z .1)) (record {
+      axes-some = omega (arith, fm .0);
+      axes-few = omega (arith, fm .0);
+      sizes-pos = fm .1 .each-pos;
+      devices-pos = omega (arith, fm .1 .pos);
+      devices-few = omega (arith, fm .1 .few);
+      rank-some = omega (arith, ft .0);
+      rank-few = omega (arith, ft .0);
+      words-pos = omega (arith, ft .1 .pos);
+      words-few = omega (arith, ft .1 .few);
+      steps-few = omega (arith, fs .1);
+      start-is = start-sharding (m .0 .value) (t .0 .value) (s .0 .value) (j .0 .1);
+      fine = fs .0;
+    })

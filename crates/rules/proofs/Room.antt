@@ -1,0 +1,85 @@
+-- The states of an accepted plan: each is a sharding (`state-sharding`), its shards have some words, at most the table's (`state-words`), and the
+-- room holds every state (`state-room`) and is bounded (`room-few`). Assumes nothing.
+use Prim.Native.Nat.{ℕ, zero, suc, _+_, _*_, _<_, _≤_, max}
+use mathlib.Core.Path.{_≡_, refl, sym, ap, _∙_, subst}
+use mathlib.Core.List.{List, [], _∷_, _++_}
+use native.Mathlib.Nat.{mul-le-mul-left, mul-le-mul, le-mul-of-pos-right}
+use native.Mathlib.Omega.{arith}
+use native.Mathlib.Decide.{ℕ-discrete}
+use lib.ListN.{length, take}
+use Rattle.rules.specs.Lists.{tab, inTurn, flat, product, largest}
+use Rattle.rules.specs.Mesh.{span, devices}
+use Rattle.rules.specs.Sharding.{Sharding, shardSizes, IsSharding}
+use Rattle.rules.specs.Collectives.{Step, after}
+use Rattle.rules.specs.Limits.{mostDevices, mostWords}
+use Rattle.rules.specs.PlanFile.{Plan, announced, announcedShape, room}
+use Rattle.rules.proofs.Positions.{pos-of-lt}
+use Rattle.rules.proofs.Sizes.{cut-product, span-pos}
+use Rattle.rules.proofs.Steps.{after-sharding, sharding-cut}
+use Rattle.rules.proofs.Accepted.{Fine, AcceptedPlan}
+
+-- ---- the largest of numbers
+
+largest-snoc : (l : List ℕ) (n : ℕ) → largest (l ++ n ∷ []) ≡ max (largest l) n
+largest-snoc [] n = omega arith
+largest-snoc (m ∷ l) n = omega (arith, largest-snoc l n)
+
+le-largest : (n k : ℕ) (f : ℕ → ℕ) → k < n → f k ≤ largest (tab n f)
+le-largest zero k f h = absurd (omega arith)
+le-largest (suc n) k f h = go (ℕ-discrete k n) (le-largest n k f)
+  where
+    go : Dec (k ≡ n) → (k < n → f k ≤ largest (tab n f)) → f k ≤ largest (tab n f ++ f n ∷ [])
+    go (yes e) ih = rw (largest-snoc (tab n f) (f n), e) (omega arith)
+    go (no d) ih = rw (largest-snoc (tab n f) (f n)) (omega (arith, ih (omega (arith, d))))
+
+largest-le : (n b : ℕ) (f : ℕ → ℕ) → ((k : ℕ) → k < n → f k ≤ b) → largest (tab n f) ≤ b
+largest-le zero b f h = omega arith
+largest-le (suc n) b f h = rw (largest-snoc (tab n f) (f n)) (omega (arith, largest-le n b f (λ k l. h k (omega arith)), h n (omega arith)))
+
+-- ---- steps in turn
+
+pub fine-take : (mesh sizes : List ℕ) (k : ℕ) (s : Sharding) (ts : List Step) → Fine mesh sizes s ts → Fine mesh sizes s (take k ts)
+fine-take mesh sizes zero s ts f = tt
+fine-take mesh sizes (suc k) s [] f = tt
+fine-take mesh sizes (suc k) s (t ∷ ts) f = (f .0, fine-take mesh sizes k (after t s) ts (f .1))
+
+module _ {p : Plan} (a : AcceptedPlan p) where
+  steps-sharding : (s : Sharding) (ts : List Step) → IsSharding (p .mesh) (p .sizes) s → Fine (p .mesh) (p .sizes) s ts
+      → IsSharding (p .mesh) (p .sizes) (inTurn after ts s)
+  steps-sharding s [] h f = h
+  steps-sharding s (t ∷ ts) h f = steps-sharding (after t s) ts (after-sharding (p .mesh) (p .sizes) (a .sizes-pos) t s h (f .0)) (f .1)
+
+  pub state-sharding : (k : ℕ) → IsSharding (p .mesh) (p .sizes) (announced p k)
+  unfolding announced
+  state-sharding k = steps-sharding (p .start) (take k (p .steps)) (a .start-is) (fine-take (p .mesh) (p .sizes) k (p .start) (p .steps) (a .fine))
+
+  pub record StateWords (k : ℕ) : Type 0 where
+    pub pos : 0 < product (announcedShape p k)
+    pub few : product (announcedShape p k) ≤ product (p .sizes)
+
+  pub state-words : (k : ℕ) → StateWords k
+  unfolding announcedShape
+  state-words k =
+      let s : Sharding = announced p k in
+      let m : ℕ = product (shardSizes (p .mesh) (p .sizes) (s .dims)) in
+      let g : ℕ = span (p .mesh) (flat (s .dims)) in
+      let e : product (p .sizes) ≡ m * g = cut-product (p .mesh) (sharding-cut (p .mesh) (p .sizes) (a .sizes-pos) s (state-sharding k)) in
+      let h : 0 < g = span-pos (p .mesh) (a .sizes-pos) (flat (s .dims)) in
+      record { pos = pos-left m g (subst (λ z. 0 < z) e (a .words-pos)); few = subst (λ z. m ≤ z) (sym e) (le-mul-of-pos-right m h) }
+    where
+      pos-left : (m g : ℕ) → 0 < m * g → 0 < m
+      pos-left zero g h = absurd (omega arith)
+      pos-left (suc m) g h = omega arith
+
+  -- every state fits the room
+  pub state-room : (k : ℕ) → k ≤ length (p .steps) → devices (p .mesh) * product (announcedShape p k) ≤ room p
+  unfolding room
+  state-room k h = mul-le-mul-left (devices (p .mesh)) (le-largest (length (p .steps) + 1) k (λ j. product (announcedShape p j)) (omega arith))
+
+  -- "at most 1,048,576 words"
+  pub room-few : room p ≤ mostDevices * mostWords
+  unfolding room
+  room-few =
+      let w : largest (tab (length (p .steps) + 1) (λ k. product (announcedShape p k))) ≤ mostWords =
+      largest-le (length (p .steps) + 1) mostWords (λ k. product (announcedShape p k)) (λ k l. omega (arith, state-words k .few, a .words-few)) in
+      mul-le-mul (a .devices-few) w
