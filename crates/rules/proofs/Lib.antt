@@ -1,6 +1,9 @@
+-- The laws of the rules, from below.
 pub mod Lists
 pub mod Types
 pub mod Positions
+pub mod Buffers
+pub mod Groups
 pub mod Shapes
 pub mod Sizes
 pub mod Judging

@@ -11,3 +11,4 @@ pub mod Types
 pub mod Calls
 pub mod Demands
 pub mod Ledger
+pub mod Refused
