@@ -24,6 +24,8 @@ use Rattle.rules.specs.Mesh.{
   remaining,
   firsts,
   listing,
+  IsGroup,
+  Rearrangement,
 }
 use Rattle.rules.proofs.Lists.{
   length-tab,
@@ -61,15 +63,6 @@ use Rattle.rules.proofs.Positions.{
 use Rattle.rules.proofs.Buffers.{number-lt, coords-number, below-coords, number-coords}
 
 -- ---- the group by position
-
--- "For a list of distinct axes, two devices are in one group when their coordinates agree on every axis outside the list (000)." The group of x by
--- position, `members mesh L x`, has each device that agrees with x outside the list (`has`) exactly once (`once`), and no other (`of-mesh`,
--- `agrees`).
-pub record IsGroup (mesh L x : List ℕ) : Type 0 where
-  pub of-mesh : (q : ℕ) → q < span mesh L → Below (member mesh L q x) mesh
-  pub agrees : (q : ℕ) → q < span mesh L → SameGroup L x (member mesh L q x)
-  pub has : (y : List ℕ) → Below y mesh → SameGroup L x y → (position mesh L y < span mesh L) × (member mesh L (position mesh L y) x ≡ y)
-  pub once : (q r : ℕ) → q < span mesh L → r < span mesh L → member mesh L q x ≡ member mesh L r x → q ≡ r
 
 module _ (mesh : List ℕ) where
   -- to be at the position of y is to have y's coordinates along the list
@@ -157,13 +150,6 @@ span-all [] = refl
 span-all (n ∷ ns) = span-cons n ns (length ns) ∙ ap (λ (s : ℕ). n * s) (span-all ns)
 
 -- ---- the listing
-
--- "The D numbers are a rearrangement of 0 to D-1.": the list has n entries, each is below n, none is there twice, and each number below n is there.
-pub record Rearrangement (n : ℕ) (l : List ℕ) : Type 0 where
-  pub size : length l ≡ n
-  pub below : (p : ℕ) → p < n → getD l p 0 < n
-  pub once : (p q : ℕ) → p < n → q < n → getD l p 0 ≡ getD l q 0 → p ≡ q
-  pub has : (d : ℕ) → d < n → (p : ℕ) × (p < n) × (getD l p 0 ≡ d)
 
 tab-add : {A : Type 0} (n m : ℕ) (f : ℕ → A) → tab (n + m) f ≡ tab n f ++ tab m (λ k. f (n + k))
 tab-add n zero f = ap (λ (k : ℕ). tab k f) (add-zero n) ∙ sym (append-nil (tab n f))

@@ -2,11 +2,11 @@
 -- A mesh is the list of its axis sizes, so an axis is a place in that list. A device is the list of its coordinates. Device numbers stand only
 -- where devices are written down: in buffers, listings and placements. Source document 000 decides on groups and their order.
 -- Assumes nothing.
-use Prim.Native.Nat.{ℕ, zero, suc, _+_, _*_, _/_, _%_}
+use Prim.Native.Nat.{ℕ, zero, suc, _+_, _*_, _/_, _%_, _<_}
 use mathlib.Core.Path.{_≡_}
 use mathlib.Core.List.{List, [], _∷_, _++_, map}
 use lib.ListN.{length, getD, set, replicate}
-use Rattle.rules.specs.Lists.{tab, flat, product, without, keep, mem, In}
+use Rattle.rules.specs.Lists.{tab, flat, product, without, In, Below}
 
 -- The row-major number of coordinates under sizes, the last fastest; and the coordinates that have a number.
 abbrev pub number : List ℕ → List ℕ → ℕ
@@ -56,6 +56,15 @@ member mesh (a ∷ L) q x = set (member mesh L (q % span mesh L) x) a (q / span 
 unfoldable pub members : List ℕ → List ℕ → List ℕ → List (List ℕ)
 members mesh L x = tab (span mesh L) (λ q. member mesh L q x)
 
+-- "For a list of distinct axes, two devices are in one group when their coordinates agree on every axis outside the list (000)." The group of x by
+-- position, `members mesh L x`, has each device that agrees with x outside the list (`has`) exactly once (`once`), and no other (`of-mesh`,
+-- `agrees`).
+pub record IsGroup (mesh L x : List ℕ) : Type 0 where
+  pub of-mesh : (q : ℕ) → q < span mesh L → Below (member mesh L q x) mesh
+  pub agrees : (q : ℕ) → q < span mesh L → SameGroup L x (member mesh L q x)
+  pub has : (y : List ℕ) → Below y mesh → SameGroup L x y → (position mesh L y < span mesh L) × (member mesh L (position mesh L y) x ≡ y)
+  pub once : (q r : ℕ) → q < span mesh L → r < span mesh L → member mesh L q x ≡ member mesh L r x → q ≡ r
+
 -- "the remaining axes (taken in increasing axis number)"
 unfoldable pub remaining : List ℕ → List ℕ → List ℕ
 unfolding without
@@ -70,3 +79,10 @@ firsts mesh L = members mesh (remaining mesh L) (replicate (length mesh) 0)
 unfoldable pub listing : List ℕ → List ℕ → List ℕ
 unfolding firsts members
 listing mesh L = map (deviceNumber mesh) (flat (map (members mesh L) (firsts mesh L)))
+
+-- "The D numbers are a rearrangement of 0 to D-1.": the list has n entries, each is below n, none is there twice, and each number below n is there.
+pub record Rearrangement (n : ℕ) (l : List ℕ) : Type 0 where
+  pub size : length l ≡ n
+  pub below : (p : ℕ) → p < n → getD l p 0 < n
+  pub once : (p q : ℕ) → p < n → q < n → getD l p 0 ≡ getD l q 0 → p ≡ q
+  pub has : (d : ℕ) → d < n → (p : ℕ) × (p < n) × (getD l p 0 ≡ d)
