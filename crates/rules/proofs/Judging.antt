@@ -68,18 +68,15 @@ same-eq (a ∷ L) (b ∷ M) t =
     let r : T (eqb a b) × T (same L M) = T-and (eqb a b) (same L M) t in
     ap₂ (λ (c : ℕ) (l : List ℕ). c ∷ l) (eqb→eq a b (r .0)) (same-eq L M (r .1))
 
-pub tails-joined : (ds Gs : List (List ℕ)) → T (both isTail ds Gs) → (each _++_ (each cutTail ds Gs) Gs ≡ ds) × (length (each cutTail ds Gs) ≡ length Gs)
-tails-joined [] [] t = (refl, refl)
+pub tails-joined : (ds Gs : List (List ℕ)) → T (both isTail ds Gs) → each _++_ (each cutTail ds Gs) Gs ≡ ds
+tails-joined [] [] t = refl
 tails-joined [] (G ∷ Gs) t = absurd t
 tails-joined (d ∷ ds) [] t = absurd t
 tails-joined (d ∷ ds) (G ∷ Gs) t =
     let k : ℕ = length d - length G in
     let r : T (same (drop k d) G) × T (both isTail ds Gs) = T-and (same (drop k d) G) (both isTail ds Gs) t in
-    let ih : (each _++_ (each cutTail ds Gs) Gs ≡ ds) × (length (each cutTail ds Gs) ≡ length Gs) = tails-joined ds Gs (r .1) in (
-      ap₂ (λ (a : List ℕ) (l : List (List ℕ)). a ∷ l)
-          (ap (λ (z : List ℕ). take k d ++ z) (sym (same-eq (drop k d) G (r .0))) ∙ take-append-drop k d) (ih .0),
-      ap suc (ih .1),
-    )
+    ap₂ (λ (a : List ℕ) (l : List (List ℕ)). a ∷ l) (ap (λ (z : List ℕ). take k d ++ z) (sym (same-eq (drop k d) G (r .0))) ∙ take-append-drop k d)
+    (tails-joined ds Gs (r .1))
 
 -- 26
 increasing-low : (low : ℕ) (L : List ℕ) → T (increasingFrom low L) → (a : ℕ) → In a L → low ≤ a

@@ -6,6 +6,9 @@ pub mod Buffers
 pub mod Groups
 pub mod Shapes
 pub mod Sizes
+pub mod Sums
+pub mod Sources
+pub mod Spreads
 pub mod Judging
 pub mod Steps
 pub mod Accepted

@@ -36,6 +36,13 @@ pub map-tab {ℓ} : {A B : Type ℓ} (f : A → B) (n : ℕ) (g : ℕ → A) →
 map-tab f zero g = refl
 map-tab {B = B} f (suc n) g = map-append f (tab n g) (g n ∷ []) ∙ ap (λ (l : List B). l ++ f (g n) ∷ []) (map-tab f n g)
 
+-- ---- place by place
+
+pub length-each : {A B C : Type 0} (f : A → B → C) (xs : List A) (ys : List B) → length xs ≡ length ys → length (each f xs ys) ≡ length ys
+length-each f [] ys e = e
+length-each f (x ∷ xs) [] e = refl
+length-each f (x ∷ xs) (y ∷ ys) e = ap suc (length-each f xs ys (omega arith))
+
 -- ---- P of each entry
 
 pub all-append : {A : Type 0} (P : A → Type 0) (l m : List A) → All P l → All P m → All P (l ++ m)
@@ -53,6 +60,11 @@ all-map P f (a ∷ l) h = (h .0, all-map P f l (h .1))
 pub all-imp : {A : Type 0} (P Q : A → Type 0) (l : List A) → ((a : A) → P a → Q a) → All P l → All Q l
 all-imp P Q [] f h = tt
 all-imp P Q (a ∷ l) f h = (f a (h .0), all-imp P Q l f (h .1))
+
+-- two functions that agree on a list's entries make one list of it
+pub map-all : {A B : Type 0} (f g : A → B) (l : List A) → All (λ a. f a ≡ g a) l → map f l ≡ map g l
+map-all f g [] h = refl
+map-all {B = B} f g (a ∷ l) h = ap₂ (λ (b : B) (m : List B). b ∷ m) (h .0) (map-all f g l (h .1))
 
 -- ---- membership
 
@@ -175,6 +187,48 @@ pub distinct-append : (l m : List ℕ) → Distinct l → Distinct m → ((a : �
 distinct-append [] m hl hm off = hm
 distinct-append (b ∷ l) m hl hm off =
     ((λ i. ⊎-elim (λ j. hl .0 j) (λ j. off b j (inl refl)) (in-append b l m i)), distinct-append l m (hl .1) hm (λ a i j. off a i (inr j)))
+
+-- joined place by place, and taken apart again
+pub distinct-joined : (ds Ss : List (List ℕ)) → Distinct (flat ds) → Distinct (flat Ss) → ((a : ℕ) → In a (flat Ss) → ¬ In a (flat ds))
+    → Distinct (flat (each _++_ ds Ss))
+distinct-joined [] Ss hd hS off = tt
+distinct-joined (d ∷ ds) [] hd hS off = tt
+distinct-joined (d ∷ ds) (S ∷ Ss) hd hS off =
+    let p : Distinct d × Distinct (flat ds) × ((a : ℕ) → In a d → ¬ In a (flat ds)) = distinct-split d (flat ds) hd in
+    let q : Distinct S × Distinct (flat Ss) × ((a : ℕ) → In a S → ¬ In a (flat Ss)) = distinct-split S (flat Ss) hS in
+    let l : (a : ℕ) → In a d → In a (flat (d ∷ ds)) = λ a i. in-left a d (flat ds) i in
+    let r : (a : ℕ) → In a (flat ds) → In a (flat (d ∷ ds)) = λ a i. in-right a d (flat ds) i in
+    let m : (a : ℕ) → In a S → In a (flat (S ∷ Ss)) = λ a i. in-left a S (flat Ss) i in
+    let n : (a : ℕ) → In a (flat Ss) → In a (flat (S ∷ Ss)) = λ a i. in-right a S (flat Ss) i in
+    distinct-append (d ++ S) (flat (each _++_ ds Ss)) (distinct-append d S (p .0) (q .0) (λ a i j. off a (m a i) (l a j)))
+    (distinct-joined ds Ss (p .1) (q .1) (λ a i j. off a (n a i) (r a j)))
+    (λ a u i. ⊎-elim (λ j. ⊎-elim (λ v. p .2 a j v) (λ v. off a (n a v) (l a j)) (of-joined a ds Ss u))
+    (λ j. ⊎-elim (λ v. off a (m a j) (r a v)) (λ v. q .2 a j v) (of-joined a ds Ss u)) (in-append a d S i))
+
+-- two families of lists have no axis twice, and none in common
+pub record Apart (ds Ss : List (List ℕ)) : Type 0 where
+  pub left : Distinct (flat ds)
+  pub right : Distinct (flat Ss)
+  pub off : (a : ℕ) → In a (flat Ss) → ¬ In a (flat ds)
+
+pub split-joined : (ds Ss : List (List ℕ)) → length ds ≡ length Ss → Distinct (flat (each _++_ ds Ss)) → Apart ds Ss
+split-joined [] [] e h = record { left = tt; right = tt; off = λ a i. absurd i }
+split-joined [] (S ∷ Ss) e h = absurd (omega arith)
+split-joined (d ∷ ds) [] e h = absurd (omega arith)
+split-joined (d ∷ ds) (S ∷ Ss) e h =
+    let k : length ds ≡ length Ss = omega arith in
+    let p : Distinct (d ++ S) × Distinct (flat (each _++_ ds Ss)) × ((a : ℕ) → In a (d ++ S) → ¬ In a (flat (each _++_ ds Ss))) =
+    distinct-split (d ++ S) (flat (each _++_ ds Ss)) h in
+    let q : Distinct d × Distinct S × ((a : ℕ) → In a d → ¬ In a S) = distinct-split d S (p .0) in
+    let ih : Apart ds Ss = split-joined ds Ss k (p .1) in
+    record {
+      left = distinct-append d (flat ds) (q .0) (ih .left) (λ a i j. p .2 a (in-left a d S j) (joined-left a ds Ss k i));
+      right = distinct-append S (flat Ss) (q .1) (ih .right) (λ a i j. p .2 a (in-right a d S j) (joined-right a ds Ss k i));
+      off = λ a i j. ⊎-elim
+          (λ s. ⊎-elim (λ t. q .2 a t s) (λ t. p .2 a (in-right a d S s) (joined-left a ds Ss k t)) (flat-in a d ds j))
+          (λ s. ⊎-elim (λ t. p .2 a (in-left a d S t) (joined-right a ds Ss k s)) (λ t. ih .off a s t) (flat-in a d ds j))
+          (flat-in a S Ss i);
+    }
 
 -- all axes of a mesh: 0, 1, .., n - 1
 pub in-axes : (a n : ℕ) → In a (tab n (λ k. k)) → a < n

@@ -29,65 +29,25 @@ use Rattle.rules.specs.Collectives.{
 use Rattle.rules.specs.Refusals.{Judged, accept, needAt}
 use Rattle.rules.specs.PlanFile.{some, allBelow, fresh, isTail, increasingFrom, allIn, twoDims, gatherOff, sliceOn, judgeKind, judgeStep}
 use Rattle.rules.proofs.Lists.{
+  length-each,
   in-left,
   in-right,
   in-append,
-  flat-in,
   joined-left,
   joined-right,
   of-joined,
   both-length,
   distinct-split,
   distinct-append,
+  distinct-joined,
+  Apart,
+  split-joined,
   of-without,
   distinct-without,
 }
 use Rattle.rules.proofs.Shapes.{Cut, cut-lengths}
 use Rattle.rules.proofs.Sizes.{cut-divisible, cut-joined, cut-grown, cut-is}
 use Rattle.rules.proofs.Judging.{accept-inj, need-inv, bind-inv, allBelow-lt, fresh-distinct, tails-joined, increasing-distinct, allIn-in, twoDims-facts}
-
--- ---- lists without repeats, joined and cut off
-
-distinct-joined : (ds Ss : List (List ℕ)) → Distinct (flat ds) → Distinct (flat Ss) → ((a : ℕ) → In a (flat Ss) → ¬ In a (flat ds))
-    → Distinct (flat (each _++_ ds Ss))
-distinct-joined [] Ss hd hS off = tt
-distinct-joined (d ∷ ds) [] hd hS off = tt
-distinct-joined (d ∷ ds) (S ∷ Ss) hd hS off =
-    let p : Distinct d × Distinct (flat ds) × ((a : ℕ) → In a d → ¬ In a (flat ds)) = distinct-split d (flat ds) hd in
-    let q : Distinct S × Distinct (flat Ss) × ((a : ℕ) → In a S → ¬ In a (flat Ss)) = distinct-split S (flat Ss) hS in
-    let l : (a : ℕ) → In a d → In a (flat (d ∷ ds)) = λ a i. in-left a d (flat ds) i in
-    let r : (a : ℕ) → In a (flat ds) → In a (flat (d ∷ ds)) = λ a i. in-right a d (flat ds) i in
-    let m : (a : ℕ) → In a S → In a (flat (S ∷ Ss)) = λ a i. in-left a S (flat Ss) i in
-    let n : (a : ℕ) → In a (flat Ss) → In a (flat (S ∷ Ss)) = λ a i. in-right a S (flat Ss) i in
-    distinct-append (d ++ S) (flat (each _++_ ds Ss)) (distinct-append d S (p .0) (q .0) (λ a i j. off a (m a i) (l a j)))
-    (distinct-joined ds Ss (p .1) (q .1) (λ a i j. off a (n a i) (r a j)))
-    (λ a u i. ⊎-elim (λ j. ⊎-elim (λ v. p .2 a j v) (λ v. off a (n a v) (l a j)) (of-joined a ds Ss u))
-    (λ j. ⊎-elim (λ v. off a (m a j) (r a v)) (λ v. q .2 a j v) (of-joined a ds Ss u)) (in-append a d S i))
-
--- what is left and what is cut off have no axis twice, and none in common
-pub record Apart (ds Ss : List (List ℕ)) : Type 0 where
-  pub left : Distinct (flat ds)
-  pub right : Distinct (flat Ss)
-  pub off : (a : ℕ) → In a (flat Ss) → ¬ In a (flat ds)
-
-split-joined : (ds Ss : List (List ℕ)) → length ds ≡ length Ss → Distinct (flat (each _++_ ds Ss)) → Apart ds Ss
-split-joined [] [] e h = record { left = tt; right = tt; off = λ a i. absurd i }
-split-joined [] (S ∷ Ss) e h = absurd (omega arith)
-split-joined (d ∷ ds) [] e h = absurd (omega arith)
-split-joined (d ∷ ds) (S ∷ Ss) e h =
-    let k : length ds ≡ length Ss = omega arith in
-    let p : Distinct (d ++ S) × Distinct (flat (each _++_ ds Ss)) × ((a : ℕ) → In a (d ++ S) → ¬ In a (flat (each _++_ ds Ss))) =
-    distinct-split (d ++ S) (flat (each _++_ ds Ss)) h in
-    let q : Distinct d × Distinct S × ((a : ℕ) → In a d → ¬ In a S) = distinct-split d S (p .0) in
-    let ih : Apart ds Ss = split-joined ds Ss k (p .1) in
-    record {
-      left = distinct-append d (flat ds) (q .0) (ih .left) (λ a i j. p .2 a (in-left a d S j) (joined-left a ds Ss k i));
-      right = distinct-append S (flat Ss) (q .1) (ih .right) (λ a i j. p .2 a (in-right a d S j) (joined-right a ds Ss k i));
-      off = λ a i j. ⊎-elim
-          (λ s. ⊎-elim (λ t. q .2 a t s) (λ t. p .2 a (in-right a d S s) (joined-left a ds Ss k t)) (flat-in a d ds j))
-          (λ s. ⊎-elim (λ t. p .2 a (in-left a d S t) (joined-right a ds Ss k s)) (λ t. ih .off a s t) (flat-in a d ds j))
-          (flat-in a S Ss i);
-    }
 
 -- one list among empty ones
 flat-empty : (r : ℕ) → flat {A = ℕ} (replicate r []) ≡ []
@@ -229,7 +189,7 @@ module _ (mesh sizes : List ℕ) (pos : (a : ℕ) → zero < getD mesh a 1) wher
   pub record Gathered (Gs : List (List ℕ)) (s : Sharding) : Type 0 where
     pub after-it : IsSharding mesh sizes (gathered Gs s)
     pub joined : each _++_ (each cutTail (s .dims) Gs) Gs ≡ s .dims
-    pub one-each : length (each cutTail (s .dims) Gs) ≡ length Gs
+    pub one-each : length (s .dims) ≡ length Gs
     pub apart : Apart (each cutTail (s .dims) Gs) Gs
     pub cut-off : (a : ℕ) → In a (flat Gs) → In a (flat (s .dims))
     pub wholes : Cut mesh Gs (grown mesh Gs (shapeOf s)) (shapeOf s)
@@ -239,14 +199,16 @@ module _ (mesh sizes : List ℕ) (pos : (a : ℕ) → zero < getD mesh a 1) wher
   unfolding gathered
   gather-sharding Gs s h f =
       let d : List (List ℕ) = each cutTail (s .dims) Gs in
-      let j : (each _++_ d Gs ≡ s .dims) × (length d ≡ length Gs) = tails-joined (s .dims) Gs (f .tailed) in
+      let j : each _++_ d Gs ≡ s .dims = tails-joined (s .dims) Gs (f .tailed) in
+      let n : length (s .dims) ≡ length Gs = both-length isTail (s .dims) Gs (f .tailed) in
+      let m : length d ≡ length Gs = length-each cutTail (s .dims) Gs n in
       let p : Distinct (flat (s .dims)) × Distinct (s .unreduced) × ((a : ℕ) → In a (flat (s .dims)) → ¬ In a (s .unreduced)) =
       distinct-split (flat (s .dims)) (s .unreduced) (h .once) in
-      let q : Apart d Gs = split-joined d Gs (j .1) (subst (λ (z : List (List ℕ)). Distinct (flat z)) (sym (j .0)) (p .0)) in
-      let l : (a : ℕ) → In a (flat d) → In a (flat (s .dims)) = λ a i. subst (λ (z : List (List ℕ)). In a (flat z)) (j .0) (joined-left a d Gs (j .1) i) in
-      let r : (a : ℕ) → In a (flat Gs) → In a (flat (s .dims)) = λ a i. subst (λ (z : List (List ℕ)). In a (flat z)) (j .0) (joined-right a d Gs (j .1) i) in
+      let q : Apart d Gs = split-joined d Gs m (subst (λ (z : List (List ℕ)). Distinct (flat z)) (sym j) (p .0)) in
+      let l : (a : ℕ) → In a (flat d) → In a (flat (s .dims)) = λ a i. subst (λ (z : List (List ℕ)). In a (flat z)) j (joined-left a d Gs m i) in
+      let r : (a : ℕ) → In a (flat Gs) → In a (flat (s .dims)) = λ a i. subst (λ (z : List (List ℕ)). In a (flat z)) j (joined-right a d Gs m i) in
       let c : Cut mesh Gs (grown mesh Gs (shapeOf s)) (shapeOf s) × Cut mesh d sizes (grown mesh Gs (shapeOf s)) =
-      cut-grown mesh d Gs (j .1) (subst (λ (z : List (List ℕ)). Cut mesh z sizes (shapeOf s)) (sym (j .0)) (sharding-cut s h)) in
+      cut-grown mesh d Gs m (subst (λ (z : List (List ℕ)). Cut mesh z sizes (shapeOf s)) (sym j) (sharding-cut s h)) in
       let w : T (divisible mesh sizes d) × (grown mesh Gs (shapeOf s) ≡ shardSizes mesh sizes d) = cut-is mesh pos (c .1) in
       record {
         after-it = record {
@@ -254,8 +216,8 @@ module _ (mesh sizes : List ℕ) (pos : (a : ℕ) → zero < getD mesh a 1) wher
           once = distinct-append (flat d) (s .unreduced) (q .left) (p .1) (λ a i k. p .2 a (l a k) i);
           divides = w .0;
         };
-        joined = j .0;
-        one-each = j .1;
+        joined = j;
+        one-each = n;
         apart = q;
         cut-off = r;
         wholes = c .0;
