@@ -1,19 +1,19 @@
 -- What an accepted file tells of its plan (`accepted`): limits, positive sizes, a sharding at the start, and each step accepted in turn. The bounds
 -- that code needs are the fields of one record, which omega reads. Assumes nothing.
 use Prim.Native.Nat.{ℕ, zero, suc, _+_, _*_, _<_, _≤_}
-use mathlib.Core.Path.{_≡_, refl, sym, ap, _∙_, subst}
+use mathlib.Core.Path.{_≡_, refl, sym, ap, subst}
 use mathlib.Core.Logic.{_⊎_, inl, inr, ⊎-elim}
 use mathlib.Core.Bool.{Bool, true, false, not, _&&_}
-use mathlib.Core.List.{List, [], _∷_, _++_}
-use native.Mathlib.Nat.{mul-pos, mul-one, mul-assoc, one-mul}
+use mathlib.Core.List.{List, [], _∷_}
+use native.Mathlib.Nat.{mul-pos, mul-assoc}
 use native.Mathlib.Omega.{arith}
-use lib.ListN.{length, getD, take}
+use lib.ListN.{length, getD}
 use lib.Dec.{T, ltb, leb, eqb, ltb→lt, leb→le, lit<, lit≤}
 use Rattle.rules.specs.Lists.{tab, pick, flat, product, mem, In, Distinct}
-use Rattle.rules.specs.Sharding.{Sharding, named, divisible, IsSharding}
+use Rattle.rules.specs.Sharding.{Sharding, divisible, IsSharding}
 use Rattle.rules.specs.Collectives.{Step, after}
 use Rattle.rules.specs.Limits.{mostAxes, mostDevices, mostDims, mostWords, mostSteps, leastBytes, mostBytes}
-use Rattle.rules.specs.Refusals.{Judged, accept, _>>=_, _>>_}
+use Rattle.rules.specs.Refusals.{accept, _>>=_, _>>_}
 use Rattle.rules.specs.PlanFile.{
   Read,
   u16At,

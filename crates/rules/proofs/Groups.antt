@@ -12,21 +12,7 @@ use lib.ListN.{length, getD, set, replicate, length-replicate}
 use lib.Seq.{getD-set-other, getD-set-same, ext-getD}
 use lib.Arith.{digits-lt, digits-div, digits-mod}
 use Rattle.rules.specs.Lists.{tab, flat, product, mem, without, In, Distinct, Below, none, more}
-use Rattle.rules.specs.Mesh.{
-  deviceNumber,
-  deviceCoords,
-  devices,
-  SameGroup,
-  span,
-  position,
-  member,
-  members,
-  remaining,
-  firsts,
-  listing,
-  IsGroup,
-  Rearrangement,
-}
+use Rattle.rules.specs.Mesh.{deviceNumber, deviceCoords, devices, span, position, member, members, remaining, firsts, listing, IsGroup, Rearrangement}
 use Rattle.rules.proofs.Lists.{
   length-tab,
   getD-tab,

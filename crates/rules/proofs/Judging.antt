@@ -1,13 +1,13 @@
 -- What an accepted judgement tells: of `do`, its parts; of each test of a step, the fact that it finds. Assumes nothing.
-use Prim.Native.Nat.{ℕ, zero, suc, _+_, _-_, _*_, _/_, _%_, _<_, _≤_}
+use Prim.Native.Nat.{ℕ, _+_, _-_, _<_, _≤_}
 use mathlib.Core.Path.{_≡_, refl, sym, ap, ap₂, _∙_, subst}
-use mathlib.Core.Logic.{_⊎_, inl, inr, ⊎-elim, ⊎-map, _≢_}
+use mathlib.Core.Logic.{_⊎_, inl, inr, ⊎-elim, _≢_}
 use mathlib.Core.Bool.{Bool, true, false, not, _&&_}
 use mathlib.Core.List.{List, [], _∷_, _++_}
 use native.Mathlib.Omega.{arith}
 use lib.ListN.{length, take, drop, take-append-drop}
 use lib.Dec.{T, T-not, eqb, ltb, leb, eqb→eq, eqb-refl, ltb→lt, leb→le}
-use Rattle.rules.specs.Lists.{each, both, flat, mem, In, Distinct}
+use Rattle.rules.specs.Lists.{each, both, mem, In, Distinct}
 use Rattle.rules.specs.Collectives.{cutTail}
 use Rattle.rules.specs.Refusals.{Judged, accept, refuse, _>>=_, _>>_, needAt}
 use Rattle.rules.specs.PlanFile.{allBelow, fresh, same, isTail, increasingFrom, allIn, twoDims}

@@ -13,3 +13,5 @@ pub mod Judging
 pub mod Steps
 pub mod Accepted
 pub mod Room
+pub mod Whole
+pub mod Locality

@@ -1,6 +1,6 @@
 -- Laws of the rules' lists (specs/Lists.antt): tabulated lists, entries place by place, membership, lists without repeats, and what a test keeps.
 -- Everything above rests on these; they know nothing of meshes. Assumes nothing.
-use Prim.Native.Nat.{ℕ, zero, suc, _+_, _*_, _<_, _≤_}
+use Prim.Native.Nat.{ℕ, zero, suc, _+_, _<_}
 use mathlib.Core.Path.{_≡_, refl, sym, ap, ap₂, _∙_, subst}
 use mathlib.Core.Logic.{_⊎_, inl, inr, ⊎-map, ⊎-elim, _≢_}
 use mathlib.Core.Bool.{Bool, true, false, not, _&&_, _||_}
@@ -10,7 +10,7 @@ use native.Mathlib.Decide.{ℕ-discrete}
 use lib.ListN.{length, getD, length-append, List·getD-append}
 use lib.Seq.{getD-at}
 use lib.Dec.{T, T-not, not-T, eqb, eqb-refl, eqb→eq}
-use Rattle.rules.specs.Lists.{tab, each, both, pick, flat, total, mem, keep, without, In, Distinct, All, Below, none, more}
+use Rattle.rules.specs.Lists.{tab, each, both, pick, flat, mem, keep, without, In, Distinct, All, Below, none, more}
 
 -- ---- tabulated lists
 

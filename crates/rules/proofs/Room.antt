@@ -1,7 +1,7 @@
 -- The states of an accepted plan: each is a sharding (`state-sharding`), its shards have some words, at most the table's (`state-words`), and the
 -- room holds every state (`state-room`) and is bounded (`room-few`). Assumes nothing.
 use Prim.Native.Nat.{ℕ, zero, suc, _+_, _*_, _<_, _≤_, max}
-use mathlib.Core.Path.{_≡_, refl, sym, ap, _∙_, subst}
+use mathlib.Core.Path.{_≡_, sym, subst}
 use mathlib.Core.List.{List, [], _∷_, _++_}
 use native.Mathlib.Nat.{mul-le-mul-left, mul-le-mul, le-mul-of-pos-right}
 use native.Mathlib.Omega.{arith}
@@ -13,7 +13,6 @@ use Rattle.rules.specs.Sharding.{Sharding, shardSizes, IsSharding}
 use Rattle.rules.specs.Collectives.{Step, after}
 use Rattle.rules.specs.Limits.{mostDevices, mostWords}
 use Rattle.rules.specs.PlanFile.{Plan, announced, announcedShape, room}
-use Rattle.rules.proofs.Positions.{pos-of-lt}
 use Rattle.rules.proofs.Sizes.{cut-product, span-pos}
 use Rattle.rules.proofs.Steps.{after-sharding, sharding-cut}
 use Rattle.rules.proofs.Accepted.{Fine, AcceptedPlan}

@@ -1,8 +1,8 @@
 -- Laws of sizes, first indexes and owners, dimension by dimension. `Cut` says that shards of the sizes `pieces` make up the sizes `wholes`. The main
 -- ones: an index of a piece is one of the whole (`piece-below`), the first index of a piece of a block is that under the joined lists
 -- (`first-joined`), and an owner's first index leads back to the index asked for (`first-owner`). Assumes nothing.
-use Prim.Native.Nat.{ℕ, zero, suc, _+_, _*_, _/_, _%_, _<_}
-use mathlib.Core.Path.{_≡_, refl, sym, ap, ap₂, _∙_, subst}
+use Prim.Native.Nat.{ℕ, suc, _+_, _*_, _/_, _<_}
+use mathlib.Core.Path.{_≡_, refl, ap, ap₂, _∙_, subst}
 use mathlib.Core.Logic.{_⊎_, inl, inr, ⊎-map, ⊎-elim}
 use mathlib.Core.List.{List, [], _∷_, _++_}
 use native.Mathlib.Nat.{mod-lt, div-add-mod', mul-comm}

@@ -1,6 +1,6 @@
 -- Laws of shard sizes: what the tests of divisibility find (`cut-divisible`), and that the sizes that make up a whole are its shard sizes
 -- (`cut-is`); lists joined and cut off (`cut-joined`, `cut-grown`); the words of a shard (`cut-product`). Assumes nothing.
-use Prim.Native.Nat.{ℕ, zero, suc, _+_, _*_, _/_, _%_, _<_}
+use Prim.Native.Nat.{ℕ, zero, _+_, _*_, _/_, _%_, _<_}
 use mathlib.Core.Path.{_≡_, refl, sym, ap, ap₂, _∙_, subst}
 use mathlib.Core.List.{List, [], _∷_, _++_}
 use native.Mathlib.Nat.{div-add-mod', mul-comm, mul-pos, mul-div-cancel}

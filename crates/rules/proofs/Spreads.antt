@@ -1,8 +1,8 @@
 -- Faithful spreads. An all-slice, an all-gather and an all-to-all keep them for every element type (`slice-faithful`, `gather-faithful`,
 -- `all-to-all-faithful`), an all-reduce keeps them for words (`reduce-faithful`), and every table of words has one, whatever the sharding
 -- (`spread-exists`). Assumes nothing.
-use Prim.Native.Nat.{ℕ, suc, _%_, _^_, _<_}
-use mathlib.Core.Path.{_≡_, refl, sym, ap, ap₂, _∙_, subst}
+use Prim.Native.Nat.{ℕ, _%_, _^_, _<_}
+use mathlib.Core.Path.{_≡_, sym, ap, ap₂, _∙_, subst}
 use mathlib.Core.Logic.{inl, inr, ⊎-map, ⊎-elim}
 use mathlib.Core.Bool.{Bool, true, false}
 use mathlib.Core.List.{List, [], _∷_, _++_, map}

@@ -1,12 +1,12 @@
 -- What an accepted step satisfies, a record for each kind (`facts`), and that the sharding after it is one again (`after-sharding`), with the
 -- sizes that its kind asks for (`Accepted-shapes`). Assumes nothing.
-use Prim.Native.Nat.{ℕ, zero, suc, _+_, _*_, _<_}
+use Prim.Native.Nat.{ℕ, zero, suc, _+_, _<_}
 use mathlib.Core.Path.{_≡_, refl, sym, ap, _∙_, subst}
-use mathlib.Core.Logic.{_⊎_, inl, inr, ⊎-elim, ⊎-map, _≢_}
+use mathlib.Core.Logic.{_⊎_, ⊎-elim, _≢_}
 use mathlib.Core.Bool.{Bool}
-use mathlib.Core.List.{List, [], _∷_, _++_, append-nil}
+use mathlib.Core.List.{List, [], _++_, append-nil}
 use native.Mathlib.Omega.{arith}
-use lib.ListN.{length, getD, set, replicate, length-set, length-replicate}
+use lib.ListN.{length, getD, replicate}
 use lib.Dec.{T}
 use Rattle.rules.specs.Lists.{each, both, flat, In, Distinct}
 use Rattle.rules.specs.Sharding.{Sharding, named, divisible, shardSizes, IsSharding}
@@ -26,7 +26,7 @@ use Rattle.rules.specs.Collectives.{
   grown,
   shapeAfter,
 }
-use Rattle.rules.specs.Refusals.{Judged, accept, needAt}
+use Rattle.rules.specs.Refusals.{Judged, accept}
 use Rattle.rules.specs.PlanFile.{some, allBelow, fresh, isTail, increasingFrom, allIn, twoDims, gatherOff, sliceOn, judgeKind, judgeStep}
 use Rattle.rules.proofs.Lists.{
   length-each,

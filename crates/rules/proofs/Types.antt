@@ -5,7 +5,7 @@ use mathlib.Core.Path.{_≡_, refl, ap, sym, _∙_}
 use mathlib.Core.List.{List, [], _∷_, map, _++_}
 use native.Mathlib.Numerals.{add-one}
 use native.Mathlib.Omega.{arith}
-use lib.ListN.{set, take, length, length-map, length-take, getD, List·getD-map}
+use lib.ListN.{set, length, length-map, length-take, getD, List·getD-map}
 use lib.Seq.{take-suc-set, getD-take}
 use Rattle.rules.specs.Limits.{mostAxes}
 use Rattle.rules.specs.Types.{axesOf}

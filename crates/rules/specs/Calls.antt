@@ -1,18 +1,18 @@
 -- Document 01, "Calls": what each of the four calls answers, and leaves in the memory lent to it, on any input. And what the code's answers stand for.
 -- Assumes nothing.
-use Prim.Native.Nat.{ℕ, _+_, _-_, _*_}
-use mathlib.Core.Bool.{false, _&&_}
-use mathlib.Core.List.{List, [], _∷_, _++_}
+use Prim.Native.Nat.{ℕ, _+_, _-_}
+use mathlib.Core.Bool.{false}
+use mathlib.Core.List.{List, [], _++_}
 use lib.ListN.{length, take, drop, replicate}
 use lib.Dec.{ltb, leb}
-use Rattle.rules.specs.Lists.{inTurn, product}
+use Rattle.rules.specs.Lists.{inTurn}
 use Rattle.rules.specs.Mesh.{devices, deviceCoords, listing}
 use Rattle.rules.specs.Sharding.{Sharding, firstIndexes}
 use Rattle.rules.specs.Spread.{tabulate, held, addWords}
 use Rattle.rules.specs.Collectives.{Shards, stepped}
-use Rattle.rules.specs.Limits.{mostAxes, mostDevices}
+use Rattle.rules.specs.Limits.{mostDevices}
 use Rattle.rules.specs.Refusals.{Judged, accept, refuse, _>>=_, _>>_, need, refusedBy}
-use Rattle.rules.specs.PlanFile.{Plan, judge, judgeSizes, judgeAxes, announced, announcedShape, room}
+use Rattle.rules.specs.PlanFile.{Plan, judge, axesAllowed, judgeSizes, judgeAxes, announced, announcedShape, room}
 use Rattle.rules.specs.Types.{shardingOf}
 use Rattle.rules.specs.declared.Checked.{Checked}
 use Rattle.rules.specs.declared.CheckOutcome.{CheckOutcome}
@@ -104,7 +104,7 @@ placeMeaning c = placedBy (c .outcome) c
 unfoldable pub groupsOf : (mesh axes out : List ℕ) → Judged ℕ
 unfolding judgeSizes judgeAxes
 groupsOf mesh axes out = do
-  need (leb 1 (length mesh) && leb (length mesh) mostAxes) 5
+  need (axesAllowed (length mesh)) 5
   judgeSizes mostDevices 10 11 1 mesh
   judgeAxes (length mesh) false 0 [] axes
   need (leb (devices mesh) (length out)) 33

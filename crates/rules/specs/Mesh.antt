@@ -1,10 +1,11 @@
 -- Document 01, "Mesh, devices, groups".
 -- A mesh is the list of its axis sizes, so an axis is a place in that list. A device is the list of its coordinates. Device numbers stand only
--- where devices are written down: in buffers, listings and placements. Source document 000 decides on groups and their order.
+-- where devices are written down: in buffers, listings and placements. Source document 000 decides on groups and their order. Numbers here are
+-- plain; that an axis number, a tensor dimension and a device number are three kinds is kept by the types of the code (src/lib.rt).
 -- Assumes nothing.
-use Prim.Native.Nat.{ℕ, zero, suc, _+_, _*_, _/_, _%_, _<_}
+use Prim.Native.Nat.{ℕ, _+_, _*_, _/_, _%_, _<_}
 use mathlib.Core.Path.{_≡_}
-use mathlib.Core.List.{List, [], _∷_, _++_, map}
+use mathlib.Core.List.{List, [], _∷_, map}
 use lib.ListN.{length, getD, set, replicate}
 use Rattle.rules.specs.Lists.{tab, flat, product, without, In, Below}
 

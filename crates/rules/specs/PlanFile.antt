@@ -2,7 +2,7 @@
 -- A file is the list of its bytes; `at` is where the next byte is read. Assumes nothing.
 use Prim.Native.Nat.{ℕ, zero, suc, _+_, _-_, _*_}
 use mathlib.Core.Bool.{Bool, true, false, not, _&&_}
-use mathlib.Core.List.{List, [], _∷_, _++_}
+use mathlib.Core.List.{List, [], _∷_}
 use lib.ListN.{length, getD, take, drop}
 use lib.Dec.{ltb, leb, eqb}
 use Rattle.rules.specs.Lists.{tab, both, flat, pick, inTurn, product, largest, mem}
@@ -54,6 +54,13 @@ stepsOffset file = u16At file 14
 abbrev pub totalLength : List ℕ → ℕ
 totalLength file = u16At file 16
 
+-- 5: "n, rank or step count outside its limits"
+abbrev pub axesAllowed : ℕ → Bool
+axesAllowed n = leb 1 n && leb n mostAxes
+
+abbrev pub rankAllowed : ℕ → Bool
+rankAllowed rank = leb 1 rank && leb rank mostDims
+
 -- "Order: 1, 2, 3, 4, 5."
 unfoldable pub judgeHeader : List ℕ → Judged (Unit {0})
 unfolding u16At
@@ -62,8 +69,8 @@ judgeHeader file = do
   need (leb (length file) mostBytes) 2
   need (eqb (edition file) 1) 3
   need (eqb (totalLength file) (length file)) 4
-  need (leb 1 (axisCount file) && leb (axisCount file) mostAxes) 5
-  need (leb 1 (rankCount file) && leb (rankCount file) mostDims) 5
+  need (axesAllowed (axisCount file)) 5
+  need (rankAllowed (rankCount file)) 5
   need (leb (stepCount file) mostSteps) 5
 
 -- ---- mesh and tensor sizes

@@ -3,11 +3,11 @@
 use Prim.Native.Nat.{ℕ, _+_}
 use mathlib.Core.Path.{_≡_, refl}
 use mathlib.Core.List.{List, [], _∷_, _++_}
-use lib.ListN.{length, set, take, replicate}
+use lib.ListN.{set, take, replicate}
 use Rattle.rules.specs.Lists.{All}
-use Rattle.rules.specs.Refusals.{accept, refuse}
-use Rattle.rules.specs.Calls.{checkOf, placeOf, groupsOf, groupsLeave, Ran, runOf}
-use Rattle.rules.specs.Ledger.{Case, checked, Holds, fileOf, w1, w4, w7, nines}
+use Rattle.rules.specs.Refusals.{refuse}
+use Rattle.rules.specs.Calls.{checkOf, placeOf, groupsOf, groupsLeave, runOf}
+use Rattle.rules.specs.Ledger.{Case, checked, Holds, fileOf, w1, nines}
 
 -- W1 with another byte at a place: the header is at 0, the mesh at 18, the tensor at 22, the sharding at 26, the step at 31
 abbrev pub but : ℕ → ℕ → List ℕ

@@ -1,9 +1,8 @@
 -- Document 01, "Shardings and the spread of a table", its first paragraph: what a sharding is. Source document 001 decides on shardings.
 -- Assumes nothing.
 use Prim.Native.Nat.{ℕ, _+_, _*_, _/_, _%_, _<_}
-use mathlib.Core.Path.{_≡_}
 use mathlib.Core.Bool.{Bool}
-use mathlib.Core.List.{List, [], _∷_, _++_}
+use mathlib.Core.List.{List, _++_}
 use lib.ListN.{length}
 use lib.Dec.{eqb, T}
 use Rattle.rules.specs.Lists.{each, both, flat, In, Distinct}

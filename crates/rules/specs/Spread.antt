@@ -2,7 +2,7 @@
 -- The element type W is a parameter; `addAll` is the sum of a group's elements. Assumes nothing.
 use Prim.Native.Nat.{ℕ, _+_, _*_, _/_, _%_, _^_}
 use mathlib.Core.Path.{_≡_}
-use mathlib.Core.List.{List, [], _∷_, _++_, map}
+use mathlib.Core.List.{List, [], _∷_, map}
 use lib.ListN.{getD}
 use Rattle.rules.specs.Lists.{tab, each, product, total, In, Below}
 use Rattle.rules.specs.Mesh.{number, coords, deviceNumber, deviceCoords, devices, Agree, members}

@@ -1,6 +1,6 @@
 -- What the types of the code (src/lib.rt) stand for in the rules. Assumes nothing.
 use Prim.Native.Nat.{ℕ}
-use mathlib.Core.List.{List, [], _∷_, map}
+use mathlib.Core.List.{List, [], map}
 use lib.ListN.{take}
 use Rattle.rules.specs.Sharding.{Sharding}
 use Rattle.rules.specs.Collectives as rules
@@ -23,7 +23,7 @@ dimsOf s = map axesOf (s .dims)
 abbrev pub shardingOf : ℕ → code.Sharding → Sharding
 shardingOf rank s = record { dims = take rank (dimsOf s); unreduced = axesOf (s .unreduced) }
 
--- a step of a plan for a table of a rank; none has an unknown kind
+-- a step of a plan for a table of a rank; one of an unknown kind, which no read answers, stands for a step that names no axis
 abbrev pub ofKind : Kind → ℕ → Step → rules.Step
 ofKind AllSlice rank t = rules.allSlice (take rank (dimsOf (t .lists)))
 ofKind AllGather rank t = rules.allGather (take rank (dimsOf (t .lists)))
