@@ -184,7 +184,7 @@ module _ (mesh L : List ℕ) (distinct : Distinct L) (of-axes : (a : ℕ) → In
   unfolding remaining
   remaining-distinct = distinct-without L (tab (length mesh) (λ a. a)) (distinct-axes (length mesh))
 
-  groups-devices : span mesh (remaining mesh L) * span mesh L ≡ devices mesh
+  pub groups-devices : span mesh (remaining mesh L) * span mesh L ≡ devices mesh
   unfolding remaining
   groups-devices =
       span-without mesh L (tab (length mesh) (λ a. a)) (λ a i. axes-in a (length mesh) (of-axes a i)) distinct (distinct-axes (length mesh))

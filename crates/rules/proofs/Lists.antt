@@ -118,9 +118,6 @@ pub T→true : (b : Bool) → T b → b ≡ true
 T→true true t = refl
 T→true false t = absurd t
 
-pub true→T : (b : Bool) → b ≡ true → T b
-true→T b e = subst T (sym e) tt
-
 pub nT→false : (b : Bool) → ¬ T b → b ≡ false
 nT→false true t = absurd (t tt)
 nT→false false t = refl
@@ -145,12 +142,6 @@ pub or-T : (a b : Bool) → T a ⊎ T b → T (a || b)
 or-T true b h = tt
 or-T false b (inl t) = absurd t
 or-T false b (inr t) = t
-
-pub ne-T : (a b : ℕ) → a ≢ b → T (not (eqb a b))
-ne-T a b n = not-T (eqb a b) (λ t. n (eqb→eq a b t))
-
-pub T-ne : (a b : ℕ) → T (not (eqb a b)) → a ≢ b
-T-ne a b t e = T-not (eqb a b) t (subst (λ z. T (eqb a z)) e (eqb-refl a))
 
 pub mem-in : (a : ℕ) (l : List ℕ) → T (mem a l) → In a l
 unfolding mem

@@ -1,5 +1,5 @@
--- The states of an accepted plan: each is a sharding (`state-sharding`), its shards have some words, at most the table's (`state-words`), and the
--- room holds every state (`state-room`) and is bounded (`room-few`). Assumes nothing.
+-- The states of an accepted plan: each is a sharding, its shards have some words and at most the limit, its axes divide the devices, and the room
+-- holds it (`state`); the room is bounded (`room-few`). Records that omega reads. Assumes nothing.
 use Prim.Native.Nat.{ℕ, zero, suc, _+_, _*_, _<_, _≤_, max}
 use mathlib.Core.Path.{_≡_, sym, subst}
 use mathlib.Core.List.{List, [], _∷_, _++_}
@@ -8,11 +8,12 @@ use native.Mathlib.Omega.{arith}
 use native.Mathlib.Decide.{ℕ-discrete}
 use lib.ListN.{length, take}
 use Rattle.rules.specs.Lists.{tab, inTurn, flat, product, largest}
-use Rattle.rules.specs.Mesh.{span, devices}
-use Rattle.rules.specs.Sharding.{Sharding, shardSizes, IsSharding}
+use Rattle.rules.specs.Mesh.{span, devices, remaining}
+use Rattle.rules.specs.Sharding.{Sharding, named, IsSharding}
 use Rattle.rules.specs.Collectives.{Step, after}
 use Rattle.rules.specs.Limits.{mostDevices, mostWords}
 use Rattle.rules.specs.PlanFile.{Plan, announced, announcedShape, room}
+use Rattle.rules.proofs.Groups.{groups-devices}
 use Rattle.rules.proofs.Sizes.{cut-product, span-pos}
 use Rattle.rules.proofs.Steps.{after-sharding, sharding-cut}
 use Rattle.rules.proofs.Accepted.{Fine, AcceptedPlan}
@@ -48,37 +49,51 @@ module _ {p : Plan} (a : AcceptedPlan p) where
   steps-sharding s [] h f = h
   steps-sharding s (t ∷ ts) h f = steps-sharding (after t s) ts (after-sharding (p .mesh) (p .sizes) (a .sizes-pos) t s h (f .0)) (f .1)
 
-  pub state-sharding : (k : ℕ) → IsSharding (p .mesh) (p .sizes) (announced p k)
+  state-sharding : (k : ℕ) → IsSharding (p .mesh) (p .sizes) (announced p k)
   unfolding announced
   state-sharding k = steps-sharding (p .start) (take k (p .steps)) (a .start-is) (fine-take (p .mesh) (p .sizes) k (p .start) (p .steps) (a .fine))
 
-  pub record StateWords (k : ℕ) : Type 0 where
-    pub pos : 0 < product (announcedShape p k)
-    pub few : product (announcedShape p k) ≤ product (p .sizes)
-
-  pub state-words : (k : ℕ) → StateWords k
+  -- the words of a shard, and of the table, in state k
+  state-words : (k : ℕ) → product (p .sizes) ≡ product (announcedShape p k) * span (p .mesh) (flat (announced p k .dims))
   unfolding announcedShape
-  state-words k =
-      let s : Sharding = announced p k in
-      let m : ℕ = product (shardSizes (p .mesh) (p .sizes) (s .dims)) in
-      let g : ℕ = span (p .mesh) (flat (s .dims)) in
-      let e : product (p .sizes) ≡ m * g = cut-product (p .mesh) (sharding-cut (p .mesh) (p .sizes) (a .sizes-pos) s (state-sharding k)) in
-      let h : 0 < g = span-pos (p .mesh) (a .sizes-pos) (flat (s .dims)) in
-      record { pos = pos-left m g (subst (λ z. 0 < z) e (a .words-pos)); few = subst (λ z. m ≤ z) (sym e) (le-mul-of-pos-right m h) }
+  state-words k = cut-product (p .mesh) (sharding-cut (p .mesh) (p .sizes) (a .sizes-pos) (announced p k) (state-sharding k))
+
+  -- every state fits the room
+  state-fits : (k : ℕ) → k ≤ length (p .steps) → devices (p .mesh) * product (announcedShape p k) ≤ room p
+  unfolding room
+  state-fits k h = mul-le-mul-left (devices (p .mesh)) (le-largest (length (p .steps) + 1) k (λ j. product (announcedShape p j)) (omega arith))
+
+  -- What code needs of state k.
+  pub record State (k : ℕ) : Type 0 where
+    pub sharding : IsSharding (p .mesh) (p .sizes) (announced p k)
+    pub words-pos : 0 < product (announcedShape p k)
+    pub words-few : product (announcedShape p k) ≤ mostWords
+    pub fits : k ≤ length (p .steps) → devices (p .mesh) * product (announcedShape p k) ≤ room p
+    pub divides : span (p .mesh) (remaining (p .mesh) (named (announced p k))) * span (p .mesh) (named (announced p k)) ≡ devices (p .mesh)
+
+  pub state : (k : ℕ) → State k
+  state k =
+      let s : IsSharding (p .mesh) (p .sizes) (announced p k) = state-sharding k in
+      let m : ℕ = product (announcedShape p k) in
+      let g : ℕ = span (p .mesh) (flat (announced p k .dims)) in
+      let e : product (p .sizes) ≡ m * g = state-words k in
+      let few : m ≤ product (p .sizes) = subst (λ z. m ≤ z) (sym e) (le-mul-of-pos-right m (span-pos (p .mesh) (a .sizes-pos) (flat (announced p k .dims)))) in
+      record {
+        sharding = s;
+        words-pos = pos-left m g (subst (λ z. 0 < z) e (a .words-pos));
+        words-few = omega (arith, few, a .words-few);
+        fits = state-fits k;
+        divides = groups-devices (p .mesh) (named (announced p k)) (s .once) (s .of-mesh);
+      }
     where
       pos-left : (m g : ℕ) → 0 < m * g → 0 < m
       pos-left zero g h = absurd (omega arith)
       pos-left (suc m) g h = omega arith
 
-  -- every state fits the room
-  pub state-room : (k : ℕ) → k ≤ length (p .steps) → devices (p .mesh) * product (announcedShape p k) ≤ room p
-  unfolding room
-  state-room k h = mul-le-mul-left (devices (p .mesh)) (le-largest (length (p .steps) + 1) k (λ j. product (announcedShape p j)) (omega arith))
-
-  -- "at most 1,048,576 words"
+  -- "so at most 1,048,576 words"
   pub room-few : room p ≤ mostDevices * mostWords
   unfolding room
   room-few =
       let w : largest (tab (length (p .steps) + 1) (λ k. product (announcedShape p k))) ≤ mostWords =
-      largest-le (length (p .steps) + 1) mostWords (λ k. product (announcedShape p k)) (λ k l. omega (arith, state-words k .few, a .words-few)) in
+      largest-le (length (p .steps) + 1) mostWords (λ k. product (announcedShape p k)) (λ k l. state k .words-few) in
       mul-le-mul (a .devices-few) w

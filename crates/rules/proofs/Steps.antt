@@ -239,7 +239,6 @@ module _ (mesh sizes : List ℕ) (pos : (a : ℕ) → zero < getD mesh a 1) wher
   pub record ToAll (source target : ℕ) (L : List ℕ) (s : Sharding) : Type 0 where
     pub first : Gathered (only (length (s .dims)) source L) s
     pub second : Sliced (only (length (s .dims)) target L) (gathered (only (length (s .dims)) source L) s)
-    pub moved : (a : ℕ) → In a (flat (only (length (s .dims)) target L)) → In a (flat (only (length (s .dims)) source L))
 
   pub to-all-sharding : (source target : ℕ) (L : List ℕ) (s : Sharding) → IsSharding mesh sizes s → ((a : ℕ) → In a L → a < length mesh)
       → ToAllFacts mesh sizes source target L s → ToAll source target L s
@@ -261,7 +260,6 @@ module _ (mesh sizes : List ℕ) (pos : (a : ℕ) → zero < getD mesh a 1) wher
           off = λ a i j. ⊎-elim (λ k. g .apart .off a (into a i) k) (λ k. p .2 a (g .cut-off a (into a i)) k) (in-append a (flat (each cutTail (s .dims) Gs)) (s .unreduced) j);
           divides = f .divides;
         });
-        moved = into;
       }
 
   -- The sharding after an accepted step is one.

@@ -54,7 +54,7 @@ use Rattle.rules.proofs.Steps.{
   after-shape,
 }
 use Rattle.rules.proofs.Accepted.{Fine, AcceptedPlan, accepted}
-use Rattle.rules.proofs.Room.{fine-take, state-sharding, state-room}
+use Rattle.rules.proofs.Room.{fine-take, state}
 
 -- ---- one accepted step
 
@@ -203,7 +203,7 @@ module _ {p : Plan} (a : AcceptedPlan p) where
       let shape : List ℕ = announcedShape p 0 in
       let n : ℕ = devices (p .mesh) * product shape in
       let b : List ℕ = tabulate (p .mesh) shape (held 0 (p .mesh) shape work) in
-      let l : n ≤ length work = omega (arith, state-room a 0 (omega arith), f .0) in
+      let l : n ≤ length work = omega (arith, state a 0 .fits (omega arith), f .0) in
       let s : lastState p work ≡ b =
       ap (λ (ts : List Step). tabulate (p .mesh) (go ts .shape) (go ts .words)) (ap (λ (ts : List Step). take (length ts) ts) none) in
       ap (take n) (ap (λ (r : Ran). r .work) (run-fits file p e work spare f) ∙ ap (λ (z : List ℕ). z ++ replicate (length work - length (lastState p work)) 0) s)
@@ -219,7 +219,7 @@ whole-plan file p e =
     record {
       ends = run-ends file p e;
       stops = run-stops file p e;
-      shardings = λ k h. state-sharding a k;
+      shardings = λ k h. state a k .sharding;
       shapes = λ work k h. plan-shapes a work k;
       leaves = plan-leaves a file e;
       stays = plan-stays a file e;
