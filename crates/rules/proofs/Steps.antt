@@ -9,7 +9,7 @@ use native.Mathlib.Omega.{arith}
 use lib.ListN.{length, getD, replicate}
 use lib.Dec.{T}
 use Rattle.rules.specs.Lists.{each, both, flat, In, Distinct}
-use Rattle.rules.specs.Sharding.{Sharding, named, divisible, shardSizes, IsSharding}
+use Rattle.rules.specs.Sharding.{Sharding, named, Replicated, divisible, shardSizes, IsSharding}
 use Rattle.rules.specs.Collectives.{
   Step,
   allSlice,
@@ -64,7 +64,7 @@ flat-only (suc r) (suc i) L h = flat-only r i L (omega arith)
 module _ (mesh sizes : List ℕ) where
   pub record SliceFacts (Ss : List (List ℕ)) (s : Sharding) : Type 0 where
     pub once : Distinct (flat Ss)
-    pub off : (a : ℕ) → In a (flat Ss) → ¬ In a (named s)
+    pub off : (a : ℕ) → In a (flat Ss) → Replicated a s
     pub divides : T (divisible mesh (shardSizes mesh sizes (s .dims)) Ss)
 
   pub record GatherFacts (Gs : List (List ℕ)) (s : Sharding) : Type 0 where
