@@ -1,4 +1,4 @@
--- What an accepted file tells of its plan (`accepted`): limits, positive sizes, a sharding at the start, and each step accepted in turn. The bounds
+-- What an accepted file tells of what stands before its steps (`front-accepted`) and of its plan (`accepted`): limits, positive sizes, a sharding at the start, and each step accepted in turn. The bounds
 -- that code needs are the fields of one record, which omega reads. Assumes nothing.
 use Prim.Native.Nat.{ℕ, zero, suc, _+_, _*_, _<_, _≤_}
 use mathlib.Core.Path.{_≡_, refl, sym, ap, subst}
@@ -35,6 +35,8 @@ use Rattle.rules.specs.PlanFile.{
   stepAt,
   judgeStep,
   stepsAt,
+  Front,
+  judgeFront,
   Plan,
   judge,
 }
@@ -127,20 +129,17 @@ steps-fine mesh sizes k (suc count) file at s r e =
 
 -- ---- the whole file
 
--- What an accepted plan satisfies.
-pub record AcceptedPlan (p : Plan) : Type 0 where
-  pub axes-some : 1 ≤ length (p .mesh)
-  pub axes-few : length (p .mesh) ≤ mostAxes
-  pub sizes-pos : (a : ℕ) → 0 < getD (p .mesh) a 1
-  pub devices-pos : 0 < product (p .mesh)
-  pub devices-few : product (p .mesh) ≤ mostDevices
-  pub rank-some : 1 ≤ length (p .sizes)
-  pub rank-few : length (p .sizes) ≤ mostDims
-  pub words-pos : 0 < product (p .sizes)
-  pub words-few : product (p .sizes) ≤ mostWords
-  pub steps-few : length (p .steps) ≤ mostSteps
-  pub start-is : IsSharding (p .mesh) (p .sizes) (p .start)
-  pub fine : Fine (p .mesh) (p .sizes) (p .start) (p .steps)
+-- A mesh and a table within their limits.
+pub record Within (mesh sizes : List ℕ) : Type 0 where
+  pub axes-some : 1 ≤ length mesh
+  pub axes-few : length mesh ≤ mostAxes
+  pub sizes-pos : (a : ℕ) → 0 < getD mesh a 1
+  pub devices-pos : 0 < product mesh
+  pub devices-few : product mesh ≤ mostDevices
+  pub rank-some : 1 ≤ length sizes
+  pub rank-few : length sizes ≤ mostDims
+  pub words-pos : 0 < product sizes
+  pub words-few : product sizes ≤ mostWords
 
 record HeaderFacts (file : List ℕ) : Type 0 where
   pub axes-some : 1 ≤ axisCount file
@@ -181,34 +180,58 @@ sizes-section most z o count offset file at r l e =
     subst (λ (w : Read (List ℕ)). (length (w .value) ≡ count) × SizesFacts most 1 (w .value)) {x = record { value = sizes; next = at + 2 * count }} (accept-inj (c .1))
     (length-tab count (λ i. u16At file (at + 2 * i)), sizes-facts most z o 1 sizes (lit< tt) l (c .0 .1))
 
+-- What stands before the steps, where it is accepted.
+pub record AcceptedFront (file : List ℕ) (f : Front) : Type 0 where
+  pub within : Within (f .mesh) (f .sizes)
+  pub start-is : IsSharding (f .mesh) (f .sizes) (f .start)
+  pub steps-few : stepCount file ≤ mostSteps
+
+pub front-accepted : (file : List ℕ) (f : Front) → judgeFront file ≡ accept f → AcceptedFront file f
+unfolding judgeFront
+front-accepted file f e =
+    let h0 = then-inv (judgeHeader file) _ f e in
+    let h : HeaderFacts file = header-facts file (h0 .0 .1) in
+    let m = bind-inv (sizesAt mostDevices 10 11 (axisCount file) (meshOffset file) file 18) _ f (h0 .1) in
+    let t = bind-inv (sizesAt mostWords 12 13 (rankCount file) (tensorOffset file) file (m .0 .next)) _ f (m .2) in
+    let s = bind-inv (shardingAt (axisCount file) (rankCount file) (shardingOffset file) file (t .0 .next)) _ f (t .2) in
+    let o = need-inv 0 (eqb (stepsOffset file) (s .0 .next)) 6 _ f (s .2) in
+    let j = then-inv (judgeStart (m .0 .value) (t .0 .value) (s .0 .value)) _ f (o .1) in
+    let fm : (length (m .0 .value) ≡ axisCount file) × SizesFacts mostDevices 1 (m .0 .value) =
+    sizes-section mostDevices 10 11 (axisCount file) (meshOffset file) file 18 (m .0) (lit≤ tt) (m .1) in
+    let ft : (length (t .0 .value) ≡ rankCount file) × SizesFacts mostWords 1 (t .0 .value) =
+    sizes-section mostWords 12 13 (rankCount file) (tensorOffset file) file (m .0 .next) (t .0) (lit≤ tt) (t .1) in
+    subst (AcceptedFront file) (accept-inj (j .1)) (record {
+      within = record {
+        axes-some = omega (arith, fm .0);
+        axes-few = omega (arith, fm .0);
+        sizes-pos = fm .1 .each-pos;
+        devices-pos = omega (arith, fm .1 .pos);
+        devices-few = omega (arith, fm .1 .few);
+        rank-some = omega (arith, ft .0);
+        rank-few = omega (arith, ft .0);
+        words-pos = omega (arith, ft .1 .pos);
+        words-few = omega (arith, ft .1 .few);
+      };
+      start-is = start-sharding (m .0 .value) (t .0 .value) (s .0 .value) (j .0 .1);
+      steps-few = h .steps-few;
+    })
+
+-- What an accepted plan satisfies.
+pub record AcceptedPlan (p : Plan) : Type 0 where
+  pub within : Within (p .mesh) (p .sizes)
+  pub start-is : IsSharding (p .mesh) (p .sizes) (p .start)
+  pub steps-few : length (p .steps) ≤ mostSteps
+  pub fine : Fine (p .mesh) (p .sizes) (p .start) (p .steps)
+
 -- THE FACTS OF AN ACCEPTED FILE
 pub accepted : (file : List ℕ) (p : Plan) → judge file ≡ accept p → AcceptedPlan p
 unfolding judge
 accepted file p e =
-    let h0 = then-inv (judgeHeader file) _ p e in
-    let h : HeaderFacts file = header-facts file (h0 .0 .1) in
-    let m = bind-inv (sizesAt mostDevices 10 11 (axisCount file) (meshOffset file) file 18) _ p (h0 .1) in
-    let t = bind-inv (sizesAt mostWords 12 13 (rankCount file) (tensorOffset file) file (m .0 .next)) _ p (m .2) in
-    let s = bind-inv (shardingAt (axisCount file) (rankCount file) (shardingOffset file) file (t .0 .next)) _ p (t .2) in
-    let o = need-inv 0 (eqb (stepsOffset file) (s .0 .next)) 6 _ p (s .2) in
-    let j = then-inv (judgeStart (m .0 .value) (t .0 .value) (s .0 .value)) _ p (o .1) in
-    let ts = bind-inv (stepsAt (m .0 .value) (t .0 .value) 1 (stepCount file) file (s .0 .next) (s .0 .value)) _ p (j .1) in
+    let f = bind-inv (judgeFront file) _ p e in
+    let a : AcceptedFront file (f .0) = front-accepted file (f .0) (f .1) in
+    let ts = bind-inv (stepsAt (f .0 .mesh) (f .0 .sizes) 1 (stepCount file) file (f .0 .next) (f .0 .start)) _ p (f .2) in
     let z = need-inv 0 (eqb (ts .0 .next) (length file)) 9 _ p (ts .2) in
-    let fm : (length (m .0 .value) ≡ axisCount file) × SizesFacts mostDevices 1 (m .0 .value) = sizes-section mostDevices 10 11 (axisCount file) (meshOffset file) file 18 (m .0) (lit≤ tt) (m .1) in
-    let ft : (length (t .0 .value) ≡ rankCount file) × SizesFacts mostWords 1 (t .0 .value) = sizes-section mostWords 12 13 (rankCount file) (tensorOffset file) file (m .0 .next) (t .0) (lit≤ tt) (t .1) in
-    let fs : Fine (m .0 .value) (t .0 .value) (s .0 .value) (ts .0 .value) × (length (ts .0 .value) ≡ stepCount file) =
-    steps-fine (m .0 .value) (t .0 .value) 1 (stepCount file) file (s .0 .next) (s .0 .value) (ts .0) (ts .1) in
-    subst AcceptedPlan (accept-inj (z .1)) (record {
-      axes-some = omega (arith, fm .0);
-      axes-few = omega (arith, fm .0);
-      sizes-pos = fm .1 .each-pos;
-      devices-pos = omega (arith, fm .1 .pos);
-      devices-few = omega (arith, fm .1 .few);
-      rank-some = omega (arith, ft .0);
-      rank-few = omega (arith, ft .0);
-      words-pos = omega (arith, ft .1 .pos);
-      words-few = omega (arith, ft .1 .few);
-      steps-few = omega (arith, fs .1);
-      start-is = start-sharding (m .0 .value) (t .0 .value) (s .0 .value) (j .0 .1);
-      fine = fs .0;
-    })
+    let fs : Fine (f .0 .mesh) (f .0 .sizes) (f .0 .start) (ts .0 .value) × (length (ts .0 .value) ≡ stepCount file) =
+    steps-fine (f .0 .mesh) (f .0 .sizes) 1 (stepCount file) file (f .0 .next) (f .0 .start) (ts .0) (ts .1) in
+    subst AcceptedPlan (accept-inj (z .1))
+    (record { within = a .within; start-is = a .start-is; steps-few = omega (arith, fs .1, a .steps-few); fine = fs .0 })

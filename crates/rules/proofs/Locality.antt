@@ -48,7 +48,7 @@ locality file p e k t rest d W addAll v w x bx same i bi =
     let s : Sharding = announced p k in
     let f : AcceptedStep (p .mesh) (p .sizes) t s = step-accepted (p .mesh) (p .sizes) k t (p .steps) rest (p .start) d (a .fine) in
     let g : shapeAfter (p .mesh) t (shardSizes (p .mesh) (p .sizes) (s .dims)) ≡ announcedShape p (k + 1) =
-    after-shape (p .mesh) (p .sizes) (a .sizes-pos) t s (state a k .sharding) f
+    after-shape (p .mesh) (p .sizes) (a .within .sizes-pos) t s (state a k .sharding) f
     ∙ ap (λ (z : Sharding). shardSizes (p .mesh) (p .sizes) (z .dims)) (sym (in-turn-next after k t (p .steps) rest (p .start) d)) in
-    step-local (p .mesh) addAll t (announcedShape p k) v w x i (step-ready (p .mesh) (p .sizes) (a .sizes-pos) t s (state a k .sharding) f) bx
+    step-local (p .mesh) addAll t (announcedShape p k) v w x i (step-ready (p .mesh) (p .sizes) (a .within .sizes-pos) t s (state a k .sharding) f) bx
     (subst (Below i) (sym g) bi) same

@@ -47,7 +47,7 @@ module _ {p : Plan} (a : AcceptedPlan p) where
   steps-sharding : (s : Sharding) (ts : List Step) → IsSharding (p .mesh) (p .sizes) s → Fine (p .mesh) (p .sizes) s ts
       → IsSharding (p .mesh) (p .sizes) (inTurn after ts s)
   steps-sharding s [] h f = h
-  steps-sharding s (t ∷ ts) h f = steps-sharding (after t s) ts (after-sharding (p .mesh) (p .sizes) (a .sizes-pos) t s h (f .0)) (f .1)
+  steps-sharding s (t ∷ ts) h f = steps-sharding (after t s) ts (after-sharding (p .mesh) (p .sizes) (a .within .sizes-pos) t s h (f .0)) (f .1)
 
   state-sharding : (k : ℕ) → IsSharding (p .mesh) (p .sizes) (announced p k)
   unfolding announced
@@ -56,7 +56,7 @@ module _ {p : Plan} (a : AcceptedPlan p) where
   -- the words of a shard, and of the table, in state k
   state-words : (k : ℕ) → product (p .sizes) ≡ product (announcedShape p k) * span (p .mesh) (flat (announced p k .dims))
   unfolding announcedShape
-  state-words k = cut-product (p .mesh) (sharding-cut (p .mesh) (p .sizes) (a .sizes-pos) (announced p k) (state-sharding k))
+  state-words k = cut-product (p .mesh) (sharding-cut (p .mesh) (p .sizes) (a .within .sizes-pos) (announced p k) (state-sharding k))
 
   -- every state fits the room
   state-fits : (k : ℕ) → k ≤ length (p .steps) → devices (p .mesh) * product (announcedShape p k) ≤ room p
@@ -77,11 +77,11 @@ module _ {p : Plan} (a : AcceptedPlan p) where
       let m : ℕ = product (announcedShape p k) in
       let g : ℕ = span (p .mesh) (flat (announced p k .dims)) in
       let e : product (p .sizes) ≡ m * g = state-words k in
-      let few : m ≤ product (p .sizes) = subst (λ z. m ≤ z) (sym e) (le-mul-of-pos-right m (span-pos (p .mesh) (a .sizes-pos) (flat (announced p k .dims)))) in
+      let few : m ≤ product (p .sizes) = subst (λ z. m ≤ z) (sym e) (le-mul-of-pos-right m (span-pos (p .mesh) (a .within .sizes-pos) (flat (announced p k .dims)))) in
       record {
         sharding = s;
-        words-pos = pos-left m g (subst (λ z. 0 < z) e (a .words-pos));
-        words-few = omega (arith, few, a .words-few);
+        words-pos = pos-left m g (subst (λ z. 0 < z) e (a .within .words-pos));
+        words-few = omega (arith, few, a .within .words-few);
         fits = state-fits k;
         divides = groups-devices (p .mesh) (named (announced p k)) (s .once) (s .of-mesh);
       }
@@ -96,4 +96,4 @@ module _ {p : Plan} (a : AcceptedPlan p) where
   room-few =
       let w : largest (tab (length (p .steps) + 1) (λ k. product (announcedShape p k))) ≤ mostWords =
       largest-le (length (p .steps) + 1) mostWords (λ k. product (announcedShape p k)) (λ k l. state k .words-few) in
-      mul-le-mul (a .devices-few) w
+      mul-le-mul (a .within .devices-few) w

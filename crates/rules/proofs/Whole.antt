@@ -174,14 +174,14 @@ module _ {p : Plan} (a : AcceptedPlan p) where
   plan-shapes : (work : List ℕ) (k : ℕ) → shardsAfter p work k .shape ≡ announcedShape p k
   unfolding shardsAfter announcedShape announced
   plan-shapes work k =
-      steps-shape (p .mesh) (p .sizes) (a .sizes-pos) addWords (take k (p .steps)) (p .start) _ (a .start-is)
+      steps-shape (p .mesh) (p .sizes) (a .within .sizes-pos) addWords (take k (p .steps)) (p .start) _ (a .start-is)
       (fine-take (p .mesh) (p .sizes) k (p .start) (p .steps) (a .fine)) refl
 
   plan-spreads : (table : List ℕ → ℕ) (work : List ℕ) → Words work → SpreadAt p table 0 (shardsAfter p work 0 .words)
       → (k : ℕ) → SpreadAt p table k (shardsAfter p work k .words)
   unfolding shardsAfter announcedShape announced held
   plan-spreads table work ws F k =
-      steps-spread (p .mesh) (p .sizes) (a .sizes-pos) (take k (p .steps)) (p .start) table _ (a .start-is)
+      steps-spread (p .mesh) (p .sizes) (a .within .sizes-pos) (take k (p .steps)) (p .start) table _ (a .start-is)
       (fine-take (p .mesh) (p .sizes) k (p .start) (p .steps) (a .fine)) refl (λ x i bx bi. ws _) F
 
   -- work begins with the last state at the return

@@ -266,6 +266,25 @@ stepsAt mesh sizes k (suc count) file at s = do
 
 -- ---- the whole file
 
+-- what stands before the steps, and where they begin
+pub record Front : Type 0 where
+  pub mesh : List ℕ
+  pub sizes : List ℕ
+  pub start : Sharding
+  pub next : ℕ
+
+-- "Then mesh, tensor, sharding and steps." "the mesh sizes start at 18" "Every offset is where the section before it ends"
+unfoldable pub judgeFront : List ℕ → Judged Front
+unfolding u16At judgeHeader sizesAt shardingAt judgeStart
+judgeFront file = do
+  judgeHeader file
+  m ← sizesAt mostDevices 10 11 (axisCount file) (meshOffset file) file 18
+  t ← sizesAt mostWords 12 13 (rankCount file) (tensorOffset file) file (m .next)
+  s ← shardingAt (axisCount file) (rankCount file) (shardingOffset file) file (t .next)
+  need (eqb (stepsOffset file) (s .next)) 6
+  judgeStart (m .value) (t .value) (s .value)
+  accept (record { mesh = m .value; sizes = t .value; start = s .value; next = s .next })
+
 -- "A plan names a device mesh, a table (tensor), a starting sharding and a list of collectives."
 pub record Plan : Type 0 where
   pub mesh : List ℕ
@@ -273,19 +292,14 @@ pub record Plan : Type 0 where
   pub start : Sharding
   pub steps : List Step
 
--- "Then mesh, tensor, sharding and steps." "the mesh sizes start at 18" "Every offset is where the section before it ends" "After the last step 9."
+-- "After the last step 9."
 unfoldable pub judge : List ℕ → Judged Plan
-unfolding u16At judgeHeader sizesAt shardingAt judgeStart stepsAt
+unfolding u16At judgeFront stepsAt
 judge file = do
-  judgeHeader file
-  m ← sizesAt mostDevices 10 11 (axisCount file) (meshOffset file) file 18
-  t ← sizesAt mostWords 12 13 (rankCount file) (tensorOffset file) file (m .next)
-  s ← shardingAt (axisCount file) (rankCount file) (shardingOffset file) file (t .next)
-  need (eqb (stepsOffset file) (s .next)) 6
-  judgeStart (m .value) (t .value) (s .value)
-  ts ← stepsAt (m .value) (t .value) 1 (stepCount file) file (s .next) (s .value)
+  f ← judgeFront file
+  ts ← stepsAt (f .mesh) (f .sizes) 1 (stepCount file) file (f .next) (f .start)
   need (eqb (ts .next) (length file)) 9
-  accept (record { mesh = m .value; sizes = t .value; start = s .value; steps = ts .value })
+  accept (record { mesh = f .mesh; sizes = f .sizes; start = f .start; steps = ts .value })
 
 -- ---- what a plan announces
 
