@@ -1,5 +1,5 @@
--- What an accepted file tells of what stands before its steps (`front-accepted`) and of its plan (`accepted`): limits, positive sizes, a sharding at the start, and each step accepted in turn. The bounds
--- that code needs are the fields of one record, which omega reads. Assumes nothing.
+-- What an accepted file tells, part by part: its header, its sizes, what stands before its steps (`front-accepted`), and its plan (`accepted`):
+-- limits, positive sizes, a sharding at the start, each step accepted in turn. Records that omega reads. Assumes nothing.
 use Prim.Native.Nat.{ℕ, zero, suc, _+_, _*_, _<_, _≤_}
 use mathlib.Core.Path.{_≡_, refl, sym, ap, subst}
 use mathlib.Core.Logic.{_⊎_, inl, inr, ⊎-elim}
@@ -141,14 +141,17 @@ pub record Within (mesh sizes : List ℕ) : Type 0 where
   pub words-pos : 0 < product sizes
   pub words-few : product sizes ≤ mostWords
 
-record HeaderFacts (file : List ℕ) : Type 0 where
+-- What an accepted header tells.
+pub record HeaderFacts (file : List ℕ) : Type 0 where
+  pub long : leastBytes ≤ length file
+  pub short : length file ≤ mostBytes
   pub axes-some : 1 ≤ axisCount file
   pub axes-few : axisCount file ≤ mostAxes
   pub rank-some : 1 ≤ rankCount file
   pub rank-few : rankCount file ≤ mostDims
   pub steps-few : stepCount file ≤ mostSteps
 
-header-facts : (file : List ℕ) → judgeHeader file ≡ accept tt → HeaderFacts file
+pub header-facts : (file : List ℕ) → judgeHeader file ≡ accept tt → HeaderFacts file
 unfolding judgeHeader
 header-facts file e =
     let a = need-inv 0 (leb leastBytes (length file)) 1 _ tt e in
@@ -161,6 +164,8 @@ header-facts file e =
     let x : T (leb 1 (axisCount file)) × T (leb (axisCount file) mostAxes) = T-and (leb 1 (axisCount file)) (leb (axisCount file) mostAxes) (n .0) in
     let y : T (leb 1 (rankCount file)) × T (leb (rankCount file) mostDims) = T-and (leb 1 (rankCount file)) (leb (rankCount file) mostDims) (r .0) in
     record {
+      long = leb→le leastBytes (length file) (a .0);
+      short = leb→le (length file) mostBytes (b .0);
       axes-some = leb→le 1 (axisCount file) (x .0);
       axes-few = leb→le (axisCount file) mostAxes (x .1);
       rank-some = leb→le 1 (rankCount file) (y .0);
@@ -168,17 +173,27 @@ header-facts file e =
       steps-few = leb→le (stepCount file) mostSteps k;
     }
 
--- a section of sizes: as many as were asked for, within the limit
-sizes-section : (most z o count offset : ℕ) (file : List ℕ) (at : ℕ) (r : Read (List ℕ)) → 1 ≤ most → sizesAt most z o count offset file at ≡ accept r
-    → (length (r .value) ≡ count) × SizesFacts most 1 (r .value)
+-- What an accepted section of sizes tells: as many as were asked for, within the limit, and within the file.
+pub record SectionFacts (most count : ℕ) (file : List ℕ) (at : ℕ) (r : Read (List ℕ)) : Type 0 where
+  pub many : length (r .value) ≡ count
+  pub sizes : SizesFacts most 1 (r .value)
+  pub next-is : r .next ≡ at + 2 * count
+  pub inside : r .next ≤ length file
+
+pub section-facts : (most z o count offset : ℕ) (file : List ℕ) (at : ℕ) (r : Read (List ℕ)) → 1 ≤ most
+    → sizesAt most z o count offset file at ≡ accept r → SectionFacts most count file at r
 unfolding sizesAt
-sizes-section most z o count offset file at r l e =
+section-facts most z o count offset file at r l e =
     let sizes : List ℕ = tab count (λ i. u16At file (at + 2 * i)) in
     let a = need-inv 0 (eqb offset at) 6 _ r e in
     let b = need-inv 0 (leb (at + 2 * count) (length file)) 7 _ r (a .1) in
     let c = then-inv (judgeSizes most z o 1 sizes) _ r (b .1) in
-    subst (λ (w : Read (List ℕ)). (length (w .value) ≡ count) × SizesFacts most 1 (w .value)) {x = record { value = sizes; next = at + 2 * count }} (accept-inj (c .1))
-    (length-tab count (λ i. u16At file (at + 2 * i)), sizes-facts most z o 1 sizes (lit< tt) l (c .0 .1))
+    subst (SectionFacts most count file at) {x = record { value = sizes; next = at + 2 * count }} (accept-inj (c .1)) (record {
+      many = length-tab count (λ i. u16At file (at + 2 * i));
+      sizes = sizes-facts most z o 1 sizes (lit< tt) l (c .0 .1);
+      next-is = refl;
+      inside = leb→le (at + 2 * count) (length file) (b .0);
+    })
 
 -- What stands before the steps, where it is accepted.
 pub record AcceptedFront (file : List ℕ) (f : Front) : Type 0 where
@@ -196,21 +211,21 @@ front-accepted file f e =
     let s = bind-inv (shardingAt (axisCount file) (rankCount file) (shardingOffset file) file (t .0 .next)) _ f (t .2) in
     let o = need-inv 0 (eqb (stepsOffset file) (s .0 .next)) 6 _ f (s .2) in
     let j = then-inv (judgeStart (m .0 .value) (t .0 .value) (s .0 .value)) _ f (o .1) in
-    let fm : (length (m .0 .value) ≡ axisCount file) × SizesFacts mostDevices 1 (m .0 .value) =
-    sizes-section mostDevices 10 11 (axisCount file) (meshOffset file) file 18 (m .0) (lit≤ tt) (m .1) in
-    let ft : (length (t .0 .value) ≡ rankCount file) × SizesFacts mostWords 1 (t .0 .value) =
-    sizes-section mostWords 12 13 (rankCount file) (tensorOffset file) file (m .0 .next) (t .0) (lit≤ tt) (t .1) in
+    let fm : SectionFacts mostDevices (axisCount file) file 18 (m .0) =
+    section-facts mostDevices 10 11 (axisCount file) (meshOffset file) file 18 (m .0) (lit≤ tt) (m .1) in
+    let ft : SectionFacts mostWords (rankCount file) file (m .0 .next) (t .0) =
+    section-facts mostWords 12 13 (rankCount file) (tensorOffset file) file (m .0 .next) (t .0) (lit≤ tt) (t .1) in
     subst (AcceptedFront file) (accept-inj (j .1)) (record {
       within = record {
-        axes-some = omega (arith, fm .0);
-        axes-few = omega (arith, fm .0);
-        sizes-pos = fm .1 .each-pos;
-        devices-pos = omega (arith, fm .1 .pos);
-        devices-few = omega (arith, fm .1 .few);
-        rank-some = omega (arith, ft .0);
-        rank-few = omega (arith, ft .0);
-        words-pos = omega (arith, ft .1 .pos);
-        words-few = omega (arith, ft .1 .few);
+        axes-some = omega (arith, fm .many);
+        axes-few = omega (arith, fm .many);
+        sizes-pos = fm .sizes .each-pos;
+        devices-pos = omega (arith, fm .sizes .pos);
+        devices-few = omega (arith, fm .sizes .few);
+        rank-some = omega (arith, ft .many);
+        rank-few = omega (arith, ft .many);
+        words-pos = omega (arith, ft .sizes .pos);
+        words-few = omega (arith, ft .sizes .few);
       };
       start-is = start-sharding (m .0 .value) (t .0 .value) (s .0 .value) (j .0 .1);
       steps-few = h .steps-few;

@@ -1,0 +1,11 @@
+use mathlib.Core.Path.{refl, sym}
+use Rattle.rules.specs.Limits.{mostAxes}
+use Rattle.reader.proofs.Sizing.{product-ones}
+use Rattle.reader.proofs.SizesRead.refused_for.Statement.{statement}
+use Rattle.reader.proofs.SizesRead.refused_for.Tie as tie
+
+returns : tie.Need-returns
+returns c = λ count. (refl, sym (product-ones count mostAxes))
+
+pub refused-for-spec : {M : Type 1} → statement M
+refused-for-spec = tie.close (tie.spec returns)

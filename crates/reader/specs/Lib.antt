@@ -1,0 +1,2 @@
+-- What the reader's answers stand for.
+pub mod Reading

@@ -1,0 +1,492 @@
+// Reading the bytes of a plan file into values, with refusals 1 to 8, 10 to 13 and 20.
+// What each function answers is a definition of rules/specs/PlanFile.antt; specs/Reading.antt says what the answers stand for.
+ghost use mathlib.Core.Path.{_≡_};
+ghost use mathlib.Core.Bool.{_&&_};
+ghost use Prim.Native.Nat.{ℕ, _≤_, _<_};
+ghost use lib.ListN.{length, getD, take};
+ghost use lib.Dec.{leb};
+ghost use Rattle.rules.specs.Lists.{product};
+ghost use Rattle.rules.specs.Limits.{mostAxes, mostDims, mostWords};
+ghost use Rattle.rules.specs.Refusals.{refuse, numberOf, refusedBy};
+ghost use Rattle.rules.specs.PlanFile.{u16At, sizesAt, listAt, listsAt, shardingAt, kindOf, listsOf, stepAt};
+ghost use Rattle.rules.specs.declared.Kind.the-variants.{AllReduce, AllToAll};
+ghost use Rattle.reader.specs.Reading.{byteAt, nextRefusal, headerOf, headerRead, headerRefusal};
+ghost use Rattle.reader.specs.Reading.{sizesRead, listRead, listsRead, shardingRead, stepRead, PerDim};
+use rules::Axis;
+use rules::AxisList;
+use rules::Dim;
+use rules::Kind;
+use rules::PlanFile;
+use rules::Reason;
+use rules::Refusal;
+use rules::Sharding;
+use rules::Step;
+
+// A byte of a file, or none past its end.
+pub enum Byte {
+    Is(u8),
+    PastEnd,
+}
+
+// The byte at a position.
+pub fn byte_at(file: &[u8], at: usize) -> Byte
+    ensures { λ r. ⌜ r ≡ byteAt (now (file .entry)) at ⌝ }
+{
+    if at < file.len() {
+        Byte::Is(file[at])
+    } else {
+        Byte::PastEnd
+    }
+}
+
+// The byte at a position as a number, 0 past the end.
+fn number_at(file: &[u8], at: usize) -> usize
+    ensures { λ r. ⌜ (r ≡ getD (now (file .entry)) at 0) × (r < 256) ⌝ }
+{
+    if at < file.len() {
+        file[at] as usize
+    } else {
+        0
+    }
+}
+
+// The 16-bit number at a position, little-endian; bytes past the end count as 0.
+pub fn u16_at(file: &[u8], at: usize) -> usize
+    ensures { λ r. ⌜ (r ≡ u16At (now (file .entry)) at) × (r < 65536) ⌝ }
+{
+    if at < file.len() {
+        let low = number_at(file, at);
+        let high = number_at(file, at + 1);
+        low + high * 256
+    } else {
+        0
+    }
+}
+
+// Where the next byte is, or why reading stopped.
+pub enum Next {
+    At(usize),
+    Refused(Refusal),
+}
+
+impl Next {
+    // The refusal of a reading that stopped.
+    pub fn refusal(self) -> Refusal
+        ensures { λ r. ⌜ r ≡ nextRefusal self ⌝ }
+    {
+        match self {
+            Next::At(_) => Refusal {
+                reason: Reason::SectionPastEnd,
+                step: 0,
+            },
+            Next::Refused(r) => r,
+        }
+    }
+}
+
+// The counts of a header.
+pub struct Header {
+    pub axes: usize,
+    pub rank: usize,
+    pub steps: usize,
+}
+
+// The counts, or the refusal.
+pub enum HeaderRead {
+    Is(Header),
+    Refused(Refusal),
+}
+
+impl HeaderRead {
+    // Refused, outside the steps.
+    fn refused_for(reason: Reason) -> HeaderRead
+        ensures { λ r. ⌜ headerRead r ≡ refuse (numberOf reason) 0 ⌝ }
+    {
+        HeaderRead::Refused(Refusal { reason, step: 0 })
+    }
+
+    // The refusal of a header that was refused.
+    pub fn refusal(self) -> Refusal
+        ensures { λ r. ⌜ r ≡ headerRefusal self ⌝ }
+    {
+        match self {
+            HeaderRead::Is(_) => Refusal {
+                reason: Reason::CountOutsideLimits,
+                step: 0,
+            },
+            HeaderRead::Refused(r) => r,
+        }
+    }
+}
+
+// Whether a count is from 1 to the most.
+fn in_limits(count: usize, most: usize) -> bool
+    ensures { λ r. ⌜ r ≡ leb 1 count && leb count most ⌝ }
+{
+    1 <= count && count <= most
+}
+
+// "Order: 1, 2, 3, 4, 5."
+pub fn read_header(file: &[u8]) -> HeaderRead
+    ensures { λ r. ⌜ headerRead r ≡ headerOf (now (file .entry)) ⌝ }
+{
+    if file.len() < PlanFile::LEAST {
+        return HeaderRead::refused_for(Reason::FileTooShort);
+    }
+    if PlanFile::MOST < file.len() {
+        return HeaderRead::refused_for(Reason::FileTooLong);
+    }
+    if u16_at(file, 0) != 1 {
+        return HeaderRead::refused_for(Reason::UnknownEdition);
+    }
+    if u16_at(file, 16) != file.len() {
+        return HeaderRead::refused_for(Reason::WrongLength);
+    }
+    let axes = u16_at(file, 2);
+    if !in_limits(axes, Axis::MOST) {
+        return HeaderRead::refused_for(Reason::CountOutsideLimits);
+    }
+    let rank = u16_at(file, 4);
+    if !in_limits(rank, Dim::MOST) {
+        return HeaderRead::refused_for(Reason::CountOutsideLimits);
+    }
+    let steps = u16_at(file, 6);
+    if Step::MOST < steps {
+        return HeaderRead::refused_for(Reason::CountOutsideLimits);
+    }
+    HeaderRead::Is(Header { axes, rank, steps })
+}
+
+// Sizes that were read, their product, and where the next byte is; a place that was not read has size 1.
+pub struct SizesRead {
+    pub next: Next,
+    pub product: usize,
+    pub sizes: [usize; Axis::MOST],
+}
+
+impl SizesRead {
+    // Refused, outside the steps.
+    fn refused_for(reason: Reason) -> SizesRead
+        ensures { λ r. ⌜ ((count : ℕ) → (sizesRead count r ≡ refuse (numberOf reason) 0) × (r .product ≡ product (take count (r .sizes)))) ⌝ }
+    {
+        SizesRead {
+            next: Next::Refused(Refusal { reason, step: 0 }),
+            product: 1,
+            sizes: [1; Axis::MOST],
+        }
+    }
+}
+
+// A section of sizes: "its offset (6) .. 7 if they don't fit, then each size in turn (zero, then running product)".
+pub fn read_sizes(
+    file: &[u8],
+    at: usize,
+    offset: usize,
+    count: usize,
+    most: usize,
+    zero: Reason,
+    over: Reason,
+) -> SizesRead
+    requires { ⌜ (at ≤ length (now file)) × (count ≤ mostAxes) × (most ≤ mostWords) ⌝ }
+    ensures { λ r. ⌜ sizesRead count r ≡ sizesAt most (numberOf zero) (numberOf over) count offset (now (file .entry)) at ⌝ }
+    ensures { λ r. ⌜ r .product ≡ product (take count (r .sizes)) ⌝ }
+{
+    if offset != at {
+        return SizesRead::refused_for(Reason::WrongOffset);
+    }
+    if file.len() - at < 2 * count {
+        return SizesRead::refused_for(Reason::SectionPastEnd);
+    }
+    let mut sizes = [1usize; Axis::MOST];
+    let mut product: usize = 1;
+    let mut i: usize = 0;
+    while i < count {
+        let size = u16_at(file, at + 2 * i);
+        if size == 0 {
+            return SizesRead::refused_for(zero);
+        }
+        product = product * size;
+        if most < product {
+            return SizesRead::refused_for(over);
+        }
+        sizes[i] = size;
+        i += 1;
+    }
+    SizesRead {
+        next: Next::At(at + 2 * count),
+        product,
+        sizes,
+    }
+}
+
+// A list that was read, and where the next byte is.
+pub struct ListRead {
+    pub next: Next,
+    pub list: AxisList,
+}
+
+impl ListRead {
+    // Refused, outside the steps.
+    fn refused_for(reason: Reason) -> ListRead
+        ensures { λ r. ⌜ listRead r ≡ refuse (numberOf reason) 0 ⌝ }
+    {
+        let list = AxisList::empty();
+        ListRead {
+            next: Next::Refused(Refusal { reason, step: 0 }),
+            list,
+        }
+    }
+}
+
+// "A list is a count byte and that many axis bytes."
+pub fn read_list(file: &[u8], at: usize, n: usize) -> ListRead
+    requires { ⌜ n ≤ mostAxes ⌝ }
+    ensures { λ r. ⌜ listRead r ≡ listAt n (now (file .entry)) at ⌝ }
+{
+    let first = byte_at(file, at);
+    let Byte::Is(byte) = first else {
+        return ListRead::refused_for(Reason::SectionPastEnd);
+    };
+    let count = byte as usize;
+    if n < count {
+        return ListRead::refused_for(Reason::ListTooLong);
+    }
+    let mut list = AxisList::empty();
+    let mut i: usize = 0;
+    while i < count {
+        let read = byte_at(file, at + 1 + i);
+        let Byte::Is(axis) = read else {
+            return ListRead::refused_for(Reason::SectionPastEnd);
+        };
+        list = list.with(Axis(axis));
+        i += 1;
+    }
+    ListRead {
+        next: Next::At(at + 1 + count),
+        list,
+    }
+}
+
+// Lists that were read, in the places of a sharding, and where the next byte is.
+pub struct ShardingRead {
+    pub next: Next,
+    pub sharding: Sharding,
+}
+
+impl ShardingRead {
+    // Refused, with no lists.
+    fn refused(refusal: Refusal) -> ShardingRead
+        ensures { λ r. ⌜ ((rank : ℕ) → (listsRead rank r ≡ refusedBy refusal) × (shardingRead rank r ≡ refusedBy refusal)) ⌝ }
+    {
+        let sharding = Sharding::replicated();
+        ShardingRead {
+            next: Next::Refused(refusal),
+            sharding,
+        }
+    }
+}
+
+// One list for each dimension.
+pub fn read_lists(file: &[u8], at: usize, n: usize, rank: usize) -> ShardingRead
+    requires { ⌜ (n ≤ mostAxes) × (rank ≤ mostDims) ⌝ }
+    ensures { λ r. ⌜ listsRead rank r ≡ listsAt n rank (now (file .entry)) at ⌝ }
+{
+    let mut sharding = Sharding::replicated();
+    let mut place = at;
+    let mut d: usize = 0;
+    while d < rank {
+        let one = read_list(file, place, n);
+        let next = one.next;
+        let Next::At(end) = next else {
+            return ShardingRead::refused(next.refusal());
+        };
+        let list = one.list;
+        sharding = sharding.with_list(Dim(d as u8), list);
+        place = end;
+        d += 1;
+    }
+    ShardingRead {
+        next: Next::At(place),
+        sharding,
+    }
+}
+
+// "The sharding is one list per dimension, then the unreduced list."
+pub fn read_sharding(file: &[u8], at: usize, n: usize, rank: usize, offset: usize) -> ShardingRead
+    requires { ⌜ (n ≤ mostAxes) × (rank ≤ mostDims) ⌝ }
+    ensures { λ r. ⌜ shardingRead rank r ≡ shardingAt n rank offset (now (file .entry)) at ⌝ }
+{
+    if offset != at {
+        return ShardingRead::refused(Refusal {
+            reason: Reason::WrongOffset,
+            step: 0,
+        });
+    }
+    let first = read_lists(file, at, n, rank);
+    let next = first.next;
+    let Next::At(place) = next else {
+        return ShardingRead::refused(next.refusal());
+    };
+    let lists = first.sharding;
+    let dims = lists.dims;
+    let last = read_list(file, place, n);
+    let after = last.next;
+    let Next::At(end) = after else {
+        return ShardingRead::refused(after.refusal());
+    };
+    let unreduced = last.list;
+    ShardingRead {
+        next: Next::At(end),
+        sharding: Sharding { dims, unreduced },
+    }
+}
+
+// A step that was read, and where the next byte is.
+pub struct StepRead {
+    pub next: Next,
+    pub step: Step,
+}
+
+impl StepRead {
+    // Refused, with no step.
+    fn refused(refusal: Refusal) -> StepRead
+        ensures { λ r. ⌜ ((rank : ℕ) → stepRead rank r ≡ refusedBy refusal) ⌝ }
+    {
+        let lists = Sharding::replicated();
+        StepRead {
+            next: Next::Refused(refusal),
+            step: Step {
+                kind: Kind::Unknown,
+                source: Dim(0),
+                target: Dim(0),
+                lists,
+            },
+        }
+    }
+}
+
+// "1 all-slice, 2 all-gather .., 3 all-reduce .., 4 all-to-all"
+pub fn kind_of(byte: u8) -> Kind
+    ensures { λ r. ⌜ r ≡ kindOf byte ⌝ }
+{
+    if byte == 1 {
+        Kind::AllSlice
+    } else if byte == 2 {
+        Kind::AllGather
+    } else if byte == 3 {
+        Kind::AllReduce
+    } else if byte == 4 {
+        Kind::AllToAll
+    } else {
+        Kind::Unknown
+    }
+}
+
+// An all-slice or all-gather after its kind byte: one list per dimension.
+fn read_per_dim(file: &[u8], at: usize, n: usize, rank: usize, kind: Kind) -> StepRead
+    requires { ⌜ (n ≤ mostAxes) × (rank ≤ mostDims) × PerDim kind ⌝ }
+    ensures { λ r. ⌜ ((k : ℕ) → stepRead rank r ≡ listsOf n rank k (now (file .entry)) at kind) ⌝ }
+{
+    let read = read_lists(file, at, n, rank);
+    let next = read.next;
+    let Next::At(end) = next else {
+        return StepRead::refused(next.refusal());
+    };
+    let lists = read.sharding;
+    StepRead {
+        next: Next::At(end),
+        step: Step {
+            kind,
+            source: Dim(0),
+            target: Dim(0),
+            lists,
+        },
+    }
+}
+
+// An all-reduce after its kind byte: one list.
+fn read_all_reduce(file: &[u8], at: usize, n: usize) -> StepRead
+    requires { ⌜ n ≤ mostAxes ⌝ }
+    ensures { λ r. ⌜ ((rank k : ℕ) → stepRead rank r ≡ listsOf n rank k (now (file .entry)) at AllReduce) ⌝ }
+{
+    let read = read_list(file, at, n);
+    let next = read.next;
+    let Next::At(end) = next else {
+        return StepRead::refused(next.refusal());
+    };
+    let unreduced = read.list;
+    let none = Sharding::replicated();
+    let dims = none.dims;
+    StepRead {
+        next: Next::At(end),
+        step: Step {
+            kind: Kind::AllReduce,
+            source: Dim(0),
+            target: Dim(0),
+            lists: Sharding { dims, unreduced },
+        },
+    }
+}
+
+// An all-to-all after its kind byte: "source byte, target byte, one list".
+fn read_all_to_all(file: &[u8], at: usize, n: usize) -> StepRead
+    requires { ⌜ n ≤ mostAxes ⌝ }
+    ensures { λ r. ⌜ ((rank k : ℕ) → stepRead rank r ≡ listsOf n rank k (now (file .entry)) at AllToAll) ⌝ }
+{
+    let first = byte_at(file, at);
+    let Byte::Is(source) = first else {
+        return StepRead::refused(Refusal {
+            reason: Reason::SectionPastEnd,
+            step: 0,
+        });
+    };
+    let second = byte_at(file, at + 1);
+    let Byte::Is(target) = second else {
+        return StepRead::refused(Refusal {
+            reason: Reason::SectionPastEnd,
+            step: 0,
+        });
+    };
+    let read = read_list(file, at + 2, n);
+    let next = read.next;
+    let Next::At(end) = next else {
+        return StepRead::refused(next.refusal());
+    };
+    let unreduced = read.list;
+    let none = Sharding::replicated();
+    let dims = none.dims;
+    StepRead {
+        next: Next::At(end),
+        step: Step {
+            kind: Kind::AllToAll,
+            source: Dim(source),
+            target: Dim(target),
+            lists: Sharding { dims, unreduced },
+        },
+    }
+}
+
+// Step k: "A step is a kind byte and its lists"; "A kind or count byte is judged when read."
+pub fn read_step(file: &[u8], at: usize, n: usize, rank: usize, k: u16) -> StepRead
+    requires { ⌜ (n ≤ mostAxes) × (rank ≤ mostDims) ⌝ }
+    ensures { λ r. ⌜ stepRead rank r ≡ stepAt n rank k (now (file .entry)) at ⌝ }
+{
+    let first = byte_at(file, at);
+    let Byte::Is(byte) = first else {
+        return StepRead::refused(Refusal {
+            reason: Reason::SectionPastEnd,
+            step: 0,
+        });
+    };
+    let kind = kind_of(byte);
+    match kind {
+        Kind::AllSlice => read_per_dim(file, at + 1, n, rank, kind),
+        Kind::AllGather => read_per_dim(file, at + 1, n, rank, kind),
+        Kind::AllReduce => read_all_reduce(file, at + 1, n),
+        Kind::AllToAll => read_all_to_all(file, at + 1, n),
+        Kind::Unknown => StepRead::refused(Refusal {
+            reason: Reason::UnknownKind,
+            step: k,
+        }),
+    }
+}
