@@ -161,7 +161,7 @@ pub fn read_header(file: &[u8]) -> HeaderRead
 pub struct SizesRead {
     pub next: Next,
     pub product: usize,
-    pub sizes: [usize; Axis::MOST],
+    pub sizes: [u16; Axis::MOST],
 }
 
 impl SizesRead {
@@ -197,7 +197,7 @@ pub fn read_sizes(
     if file.len() - at < 2 * count {
         return SizesRead::refused_for(Reason::SectionPastEnd);
     }
-    let mut sizes = [1usize; Axis::MOST];
+    let mut sizes = [1u16; Axis::MOST];
     let mut product: usize = 1;
     let mut i: usize = 0;
     while i < count {
@@ -209,7 +209,7 @@ pub fn read_sizes(
         if most < product {
             return SizesRead::refused_for(over);
         }
-        sizes[i] = size;
+        sizes[i] = size as u16;
         i += 1;
     }
     SizesRead {

@@ -76,6 +76,9 @@ returns-4 c =
     let over = at-over (p .before .before .loop .inv) (size .result) (p .before .loop-test .taken) (size .ensures .0) in
     (r .0 ∙ sym (over (omega arith) (c .before .before .if3 .left) (c .before .if4 .taken)), r .1)
 
+cast-sizes : tie.Need-cast-sizes Inv-loop μ-loop
+cast-sizes c = let size = c .before .before .u16-at .ensures .1 in omega arith
+
 mul-sizes : tie.Need-mul-sizes Inv-loop μ-loop
 mul-sizes c = omega arith
 
@@ -127,6 +130,7 @@ read-sizes-spec =
     mul-product
     refused-for-requires-4
     returns-4
+    cast-sizes
     mul-sizes
     array-write-sizes
     add-i
