@@ -15,3 +15,4 @@ pub mod Accepted
 pub mod Room
 pub mod Whole
 pub mod Locality
+pub mod Moves

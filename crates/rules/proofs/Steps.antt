@@ -50,7 +50,7 @@ use Rattle.rules.proofs.Sizes.{cut-divisible, cut-joined, cut-grown, cu
 use Rattle.rules.proofs.Judging.{accept-inj, need-inv, bind-inv, allBelow-lt, fresh-distinct, tails-joined, increasing-distinct, allIn-in, twoDims-facts}
 
 -- one list among empty ones
-flat-empty : (r : ℕ) → flat {A = ℕ} (replicate r []) ≡ []
+pub flat-empty : (r : ℕ) → flat {A = ℕ} (replicate r []) ≡ []
 flat-empty zero = refl
 flat-empty (suc r) = flat-empty r
 
