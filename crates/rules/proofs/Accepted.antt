@@ -5,7 +5,7 @@ use mathlib.Core.Path.{_≡_, refl, sym, ap, subst}
 use mathlib.Core.Logic.{_⊎_, inl, inr, ⊎-elim}
 use mathlib.Core.Bool.{Bool, true, false, not, _&&_}
 use mathlib.Core.List.{List, [], _∷_}
-use native.Mathlib.Nat.{mul-pos, mul-assoc}
+use native.Mathlib.Nat.{mul-pos, mul-assoc, mul-le-mul}
 use native.Mathlib.Omega.{arith}
 use lib.ListN.{length, getD}
 use lib.Dec.{T, ltb, leb, eqb, ltb→lt, leb→le, lit<, lit≤}
@@ -48,12 +48,13 @@ use Rattle.rules.proofs.Steps.{AcceptedStep, facts}
 
 pub record SizesFacts (most running : ℕ) (sizes : List ℕ) : Type 0 where
   pub each-pos : (a : ℕ) → 0 < getD sizes a 1
+  pub each-few : (a : ℕ) → getD sizes a 1 ≤ most
   pub pos : 0 < running * product sizes
   pub few : running * product sizes ≤ most
 
 pub sizes-facts : (most z o running : ℕ) (sizes : List ℕ) → 0 < running → running ≤ most → judgeSizes most z o running sizes ≡ accept tt → SizesFacts most running sizes
 unfolding judgeSizes
-sizes-facts most z o running [] p l e = record { each-pos = λ a. lit< tt; pos = omega arith; few = omega arith }
+sizes-facts most z o running [] p l e = record { each-pos = λ a. lit< tt; each-few = λ a. omega arith; pos = omega arith; few = omega arith }
 sizes-facts most z o running (n ∷ sizes) p l e =
     let q : T (ltb 0 n) × (_ ≡ accept tt) = need-inv 0 (ltb 0 n) z _ tt e in
     let r : T (leb (running * n) most) × (judgeSizes most z o (running * n) sizes ≡ accept tt) = need-inv 0 (leb (running * n) most) o _ tt (q .1) in
@@ -62,6 +63,7 @@ sizes-facts most z o running (n ∷ sizes) p l e =
     let w : running * n * product sizes ≡ running * (n * product sizes) = mul-assoc running n (product sizes) in
     record {
       each-pos = positive h (f .each-pos);
+      each-few = small (omega (arith, leb→le (running * n) most (r .0), mul-le-mul {n₁ = 1} {m₁ = n} {n₂ = running} {m₂ = n} p (omega arith))) (f .each-few);
       pos = subst (λ k. 0 < k) w (f .pos);
       few = subst (λ k. k ≤ most) w (f .few);
     }
@@ -69,6 +71,10 @@ sizes-facts most z o running (n ∷ sizes) p l e =
     positive : 0 < n → ((a : ℕ) → 0 < getD sizes a 1) → (a : ℕ) → 0 < getD (n ∷ sizes) a 1
     positive h g zero = h
     positive h g (suc a) = g a
+
+    small : n ≤ most → ((a : ℕ) → getD sizes a 1 ≤ most) → (a : ℕ) → getD (n ∷ sizes) a 1 ≤ most
+    small h g zero = h
+    small h g (suc a) = g a
 
 -- ---- the starting sharding
 
@@ -112,7 +118,7 @@ abbrev pub Fine : (mesh sizes : List ℕ) → Sharding → List Step → Type 0
 Fine mesh sizes s [] = Unit {0}
 Fine mesh sizes s (t ∷ ts) = AcceptedStep mesh sizes t s × Fine mesh sizes (after t s) ts
 
-steps-fine : (mesh sizes : List ℕ) (k count : ℕ) (file : List ℕ) (at : ℕ) (s : Sharding) (r : Read (List Step)) → stepsAt mesh sizes k count file at s ≡ accept r
+pub steps-fine : (mesh sizes : List ℕ) (k count : ℕ) (file : List ℕ) (at : ℕ) (s : Sharding) (r : Read (List Step)) → stepsAt mesh sizes k count file at s ≡ accept r
     → Fine mesh sizes s (r .value) × (length (r .value) ≡ count)
 unfolding stepsAt
 steps-fine mesh sizes k zero file at s r e = subst (λ (z : Read (List Step)). Fine mesh sizes s (z .value) × (length (z .value) ≡ 0)) (accept-inj e) (tt, refl)

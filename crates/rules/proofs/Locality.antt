@@ -23,7 +23,7 @@ first-entry : {A : Type 0} {a b : A} {l m : List A} → a ∷ l ≡ b ∷ m → 
 first-entry e = cc
 
 -- the entry after the first k, taken in turn
-in-turn-next : {A B : Type 0} (f : A → B → B) (k : ℕ) (a : A) (l rest : List A) (b : B) → drop k l ≡ a ∷ rest
+pub in-turn-next : {A B : Type 0} (f : A → B → B) (k : ℕ) (a : A) (l rest : List A) (b : B) → drop k l ≡ a ∷ rest
     → inTurn f (take (k + 1) l) b ≡ f a (inTurn f (take k l) b)
 in-turn-next {A = A} {B = B} f k a l rest b e = rw (add-one k) (go k l b e)
   where
@@ -34,7 +34,7 @@ in-turn-next {A = A} {B = B} f k a l rest b e = rw (add-one k) (go k l b e)
     go (suc k) (c ∷ l) b e = go k l (f c b) e
 
 -- the step after the first k is accepted of the sharding announced there
-step-accepted : (mesh sizes : List ℕ) (k : ℕ) (t : Step) (ts rest : List Step) (s : Sharding) → drop k ts ≡ t ∷ rest → Fine mesh sizes s ts
+pub step-accepted : (mesh sizes : List ℕ) (k : ℕ) (t : Step) (ts rest : List Step) (s : Sharding) → drop k ts ≡ t ∷ rest → Fine mesh sizes s ts
     → AcceptedStep mesh sizes t (inTurn after (take k ts) s)
 step-accepted mesh sizes zero t [] rest s e f = absurd (no-entry e)
 step-accepted mesh sizes zero t (u ∷ ts) rest s e f = subst (λ (z : Step). AcceptedStep mesh sizes z s) (first-entry e) (f .0)

@@ -20,7 +20,7 @@ use Rattle.rules.proofs.Accepted.{Fine, AcceptedPlan}
 
 -- ---- the largest of numbers
 
-largest-snoc : (l : List ℕ) (n : ℕ) → largest (l ++ n ∷ []) ≡ max (largest l) n
+pub largest-snoc : (l : List ℕ) (n : ℕ) → largest (l ++ n ∷ []) ≡ max (largest l) n
 largest-snoc [] n = omega arith
 largest-snoc (m ∷ l) n = omega (arith, largest-snoc l n)
 

@@ -1,0 +1,29 @@
+use borrow.Author.Needs.{needs}
+use native.Mathlib.Omega.{arith}
+use mathlib.Core.Path.{refl}
+use Rattle.rules.specs.Types.{axesOf}
+use Rattle.axes.proofs.Lists.{cut-counted}
+use Rattle.axes.proofs.cut_tail.Statement.{statement}
+use Rattle.axes.proofs.cut_tail.Tie as tie
+use Rattle.axes.proofs.cut_tail.Reads as reads
+use Rattle.axes.proofs.cut_tail.Lts as lts
+use Rattle.rules.proofs.AxisList.len.Reads as len-reads
+
+len-requires : tie.Need-len-requires
+len-requires c κs = search needs
+
+len-requires-2 : tie.Need-len-requires-2
+len-requires-2 c κs = search needs
+
+returns : tie.Need-returns
+returns c =
+    let c3 = c .before .before .before in
+    let a = c3 .args in cut-counted (a .list) (axesOf (a .tail)) _ _ 0 (c .before .before .len .ensures) (c .before .len2 .ensures) (omega arith)
+
+returns-2 : tie.Need-returns-2
+returns-2 c =
+    let c3 = c .before .before .before in
+    let a = c3 .args in cut-counted (a .list) (axesOf (a .tail)) _ _ _ (c .before .before .len .ensures) (c .before .len2 .ensures) refl
+
+pub cut-tail-spec : {M : Type 1} → statement M
+cut-tail-spec = tie.close (tie.spec len-requires len-requires-2 returns returns-2)

@@ -1,0 +1,3 @@
+-- What the contracts of axis lists are written with.
+pub mod Mesh
+pub mod Marks

@@ -1,0 +1,252 @@
+// One axis list at a time: the tests and changes of lists that a judgement is made of, marks of named axes, and the sizes of a mesh.
+ghost use mathlib.Core.Path.{_≡_};
+ghost use mathlib.Core.List.{List, [], _∷_, _++_};
+ghost use Prim.Native.Nat.{ℕ, _+_, _≤_, _<_};
+ghost use lib.ListN.{length, getD};
+ghost use Rattle.rules.specs.Lists.{pick, mem, without as withoutOf};
+ghost use Rattle.rules.specs.Limits.{mostAxes};
+ghost use Rattle.rules.specs.Mesh.{span as spanOf};
+ghost use Rattle.rules.specs.Collectives.{cutTail};
+ghost use Rattle.rules.specs.PlanFile.{allBelow, increasingFrom, allIn, isTail};
+ghost use Rattle.rules.specs.Types.{axesOf};
+ghost use Rattle.axes.specs.Mesh.{meshOf, Sized};
+ghost use Rattle.axes.specs.Marks.{StandFor};
+use rules::Axis;
+use rules::AxisList;
+
+// A mesh: the sizes of its axes are the first `n` places.
+pub struct Mesh {
+    pub n: usize,
+    pub sizes: [u16; Axis::MOST],
+}
+
+// Marks of named axes: a place for each axis.
+pub struct Marks {
+    pub places: [bool; Axis::MOST],
+}
+
+impl Mesh {
+    // The size of an axis, 1 past the last.
+    pub fn size(self, a: Axis) -> usize
+        ensures { λ r. ⌜ r ≡ getD (meshOf self) (a .0) 1 ⌝ }
+    {
+        let i = a.0 as usize;
+        if Axis::MOST <= i {
+            return 1;
+        }
+        if self.n <= i {
+            return 1;
+        }
+        self.sizes[i] as usize
+    }
+}
+
+// The product of the sizes of a list's axes.
+pub fn span(list: AxisList, mesh: Mesh) -> usize
+    requires { ⌜ Sized (meshOf mesh) ⌝ }
+    ensures { λ r. ⌜ r ≡ spanOf (meshOf mesh) (axesOf list) ⌝ }
+{
+    let count = list.len();
+    let mut product: usize = 1;
+    let mut i: usize = 0;
+    while i < count {
+        let axis = list.at(i);
+        product = product * mesh.size(axis);
+        i += 1;
+    }
+    product
+}
+
+// Whether each axis is below n.
+pub fn all_below(list: AxisList, n: usize) -> bool
+    ensures { λ r. ⌜ r ≡ allBelow n (axesOf list) ⌝ }
+{
+    let count = list.len();
+    let mut i: usize = 0;
+    while i < count {
+        let axis = list.at(i);
+        let a = axis.0 as usize;
+        if n <= a {
+            return false;
+        }
+        i += 1;
+    }
+    true
+}
+
+// Whether the axes strictly increase.
+pub fn increasing(list: AxisList) -> bool
+    ensures { λ r. ⌜ r ≡ increasingFrom 0 (axesOf list) ⌝ }
+{
+    let count = list.len();
+    let mut low: usize = 0;
+    let mut i: usize = 0;
+    while i < count {
+        let axis = list.at(i);
+        let a = axis.0 as usize;
+        if a < low {
+            return false;
+        }
+        low = a + 1;
+        i += 1;
+    }
+    true
+}
+
+// Whether an axis is one of the list.
+pub fn is_in(a: Axis, list: AxisList) -> bool
+    ensures { λ r. ⌜ r ≡ mem (a .0) (axesOf list) ⌝ }
+{
+    let count = list.len();
+    let mut i: usize = 0;
+    while i < count {
+        let axis = list.at(i);
+        if a.0 == axis.0 {
+            return true;
+        }
+        i += 1;
+    }
+    false
+}
+
+// Whether each axis of a list is one of another.
+pub fn all_in(list: AxisList, other: AxisList) -> bool
+    ensures { λ r. ⌜ r ≡ allIn (axesOf list) (axesOf other) ⌝ }
+{
+    let count = list.len();
+    let mut i: usize = 0;
+    while i < count {
+        let axis = list.at(i);
+        if !is_in(axis, other) {
+            return false;
+        }
+        i += 1;
+    }
+    true
+}
+
+fn unless(gone: bool, kept: AxisList, a: Axis) -> AxisList
+    requires { ⌜ length (axesOf kept) < mostAxes ⌝ }
+    ensures { λ r. ⌜ axesOf r ≡ axesOf kept ++ pick gone [] (a .0 ∷ []) ⌝ }
+{
+    if gone { kept } else { kept.with(a) }
+}
+
+// The axes of a list that are none of another's, in their order.
+pub fn without(list: AxisList, other: AxisList) -> AxisList
+    ensures { λ r. ⌜ axesOf r ≡ withoutOf (axesOf list) (axesOf other) ⌝ }
+{
+    let count = list.len();
+    let mut kept = AxisList::empty();
+    let mut i: usize = 0;
+    while i < count {
+        let axis = list.at(i);
+        let gone = is_in(axis, other);
+        kept = unless(gone, kept, axis);
+        i += 1;
+    }
+    kept
+}
+
+// Whether a list ends with another.
+pub fn is_tail(list: AxisList, tail: AxisList) -> bool
+    ensures { λ r. ⌜ r ≡ isTail (axesOf list) (axesOf tail) ⌝ }
+{
+    let have = list.len();
+    let want = tail.len();
+    if have < want {
+        return false;
+    }
+    let from = have - want;
+    let mut i: usize = 0;
+    while i < want {
+        let axis = list.at(from + i);
+        let other = tail.at(i);
+        if axis.0 != other.0 {
+            return false;
+        }
+        i += 1;
+    }
+    true
+}
+
+// A list without so many axes at its end as another has.
+pub fn cut_tail(list: AxisList, tail: AxisList) -> AxisList
+    ensures { λ r. ⌜ axesOf r ≡ cutTail (axesOf list) (axesOf tail) ⌝ }
+{
+    let have = list.len();
+    let want = tail.len();
+    let mut front = list;
+    if have < want {
+        front.count = 0;
+    } else {
+        front.count = have - want;
+    }
+    front
+}
+
+// A list with another at its end.
+pub fn join(list: AxisList, tail: AxisList) -> AxisList
+    requires { ⌜ length (axesOf list) + length (axesOf tail) ≤ mostAxes ⌝ }
+    ensures { λ r. ⌜ axesOf r ≡ axesOf list ++ axesOf tail ⌝ }
+{
+    let count = tail.len();
+    let mut whole = list;
+    let mut i: usize = 0;
+    while i < count {
+        let axis = tail.at(i);
+        whole = whole.with(axis);
+        i += 1;
+    }
+    whole
+}
+
+impl Marks {
+    // No axis named.
+    pub fn none() -> Marks
+        ensures { λ r. ⌜ StandFor r [] ⌝ }
+    {
+        Marks {
+            places: [false; Axis::MOST],
+        }
+    }
+
+    // Whether an axis is named; one past the last place has no mark.
+    pub fn has(self, a: Axis) -> bool
+        ensures { λ r. ⌜ ((named : List ℕ) → StandFor self named → a .0 < mostAxes → r ≡ mem (a .0) named) ⌝ }
+    {
+        let i = a.0 as usize;
+        if i < Axis::MOST {
+            self.places[i]
+        } else {
+            false
+        }
+    }
+
+    // The marks with one axis more.
+    pub fn with(self, a: Axis) -> Marks
+        ensures { λ r. ⌜ ((named : List ℕ) → StandFor self named → StandFor r (named ++ (a .0 ∷ []))) ⌝ }
+    {
+        let i = a.0 as usize;
+        let mut next = self;
+        if i < Axis::MOST {
+            next.places[i] = true;
+        }
+        next
+    }
+
+    // The marks with the axes of a list.
+    pub fn with_list(self, list: AxisList) -> Marks
+        ensures { λ r. ⌜ ((named : List ℕ) → StandFor self named → StandFor r (named ++ axesOf list)) ⌝ }
+    {
+        let count = list.len();
+        let mut next = self;
+        let mut i: usize = 0;
+        while i < count {
+            let axis = list.at(i);
+            next = next.with(axis);
+            i += 1;
+        }
+        next
+    }
+}

@@ -1,0 +1,3 @@
+-- The laws of loops over dimensions.
+pub mod Pairs
+pub mod Dims

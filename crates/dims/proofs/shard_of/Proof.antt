@@ -1,0 +1,107 @@
+use borrow.Author.Needs.{needs}
+use native.Mathlib.Omega.{arith}
+use Prim.Native.Nat.{ℕ, _-_, _/_}
+use mathlib.Core.List.{List, []}
+use mathlib.Core.Path.{_≡_, refl, sym}
+use lib.ListN.{length-map, take}
+use lib.Seq.{getD-take, length-take-le}
+use Rattle.rules.specs.Mesh.{span as spanOf}
+use Rattle.rules.specs.Types.{axesOf, dimsOf}
+use Rattle.axes.specs.Mesh.{meshOf}
+use Rattle.dims.specs.Dims.{sizesOf}
+use Rattle.dims.proofs.Pairs.{Making, making, makes, all-made}
+use Rattle.dims.proofs.Dims.{dims-length, list-at, span-least}
+use Rattle.dims.proofs.shard_of.Statement.{statement}
+use Rattle.dims.proofs.shard_of.Tie as tie
+use Rattle.dims.proofs.shard_of.Reads as reads
+use Rattle.dims.proofs.shard_of.Lts as lts
+use Rattle.axes.proofs.span.Reads as span-reads
+use Rattle.dims.proofs.quotient.Reads as quotient-reads
+use Rattle.rules.proofs.Sharding.list.Reads as list-reads
+
+abbrev Inv-loop : tie.InvT-loop
+Inv-loop sharding mesh table rank shard₀ d₀ shard d =
+    Making (λ (n : ℕ) (l : List ℕ). n / spanOf (meshOf mesh) l) (sizesOf table) (take rank (dimsOf sharding)) (shard .sizes) rank d
+    × (shard .rank ≡ table .rank)
+
+abbrev μ-loop : tie.MeasureT-loop
+μ-loop sharding mesh table rank shard₀ d₀ shard d = rank - d
+
+loop-holds : tie.Need-loop-holds Inv-loop μ-loop
+loop-holds c =
+    let a = c .args in
+    let s = simp length-map at (c .good .0 .1 .1 .1 .0 .1 .0 .1) in (
+      making _ _ _ _ (a .t1 .rank) (length-take-le (a .t1 .rank) (a .t1 .sizes) (omega (arith, s)))
+          (dims-length (a .sharding) (a .t1 .rank) (simp length-map at (c .good .1 .0 .1 .1 .0 .1 .0 .1)) (omega arith)) (omega (arith, s)),
+      refl,
+    )
+
+cast-t12 : tie.Need-cast-t12 Inv-loop μ-loop
+cast-t12 c = search needs
+
+list-requires : tie.Need-list-requires Inv-loop μ-loop
+list-requires c κs = search needs
+
+mul-size : tie.Need-mul-size Inv-loop μ-loop
+mul-size c = search needs
+
+element-copy-out-size : tie.Need-element-copy-out-size Inv-loop μ-loop
+element-copy-out-size c = search needs
+
+span-requires : tie.Need-span-requires Inv-loop μ-loop
+span-requires c κs = search needs
+
+quotient-requires : tie.Need-quotient-requires Inv-loop μ-loop
+quotient-requires c κs =
+    let c5 = c .before .before .before .before .before in
+    omega (arith, c .span .ensures, span-least (meshOf (c5 .args .mesh)) (c5 .pre .1) (axesOf (c .before .before .list .result)))
+
+mul-shard : tie.Need-mul-shard Inv-loop μ-loop
+mul-shard c = search needs
+
+element-write-shard : tie.Need-element-write-shard Inv-loop μ-loop
+element-write-shard c = search needs
+
+add-d : tie.Need-add-d Inv-loop μ-loop
+add-d c = search needs
+
+loop-less : tie.Need-loop-less Inv-loop μ-loop
+loop-less c = search needs
+
+loop-again : tie.Need-loop-again Inv-loop μ-loop
+loop-again c =
+    let c3 = c .before .before .before in
+    let c4 = c3 .before in
+    let c5 = c4 .before in
+    let c6 = c5 .before in
+    let a = c6 .args in
+    let i = c5 .loop .inv in
+    let h = c4 .loop-test .taken in
+    let p = sym (getD-take (a .t1 .rank) (a .t1 .sizes) (c5 .loop .d) 0 h) in
+    let q = list-at (a .sharding) (a .t1 .rank) (c5 .loop .d) _ h (c3 .list .ensures) in
+    (makes (i .0) h _ 0 p _ [] q _ _ refl (rw (← (c .before .span .ensures)) (c .quotient .ensures)), i .1)
+
+returns : tie.Need-returns Inv-loop μ-loop
+returns c =
+    let i = c .before .loop .inv in
+    (i .1, rw (i .1) (all-made (i .0) (c .loop-test .left)))
+
+pub shard-of-spec : {M : Type 1} → statement M
+shard-of-spec =
+    tie.close
+    (tie.spec
+    Inv-loop
+    μ-loop
+    loop-holds
+    cast-t12
+    list-requires
+    mul-size
+    element-copy-out-size
+    span-requires
+    quotient-requires
+    mul-shard
+    element-write-shard
+    add-d
+    loop-less
+    loop-again
+    returns)

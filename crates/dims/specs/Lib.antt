@@ -1,0 +1,2 @@
+-- What the contracts by dimension are written with.
+pub mod Dims

@@ -1,0 +1,197 @@
+// Dimension by dimension: the tests and changes of one axis list for each dimension, and shard sizes. One loop over the dimensions each.
+ghost use mathlib.Core.Path.{_≡_};
+ghost use mathlib.Core.List.{List, _++_};
+ghost use Prim.Native.Nat.{ℕ, _+_, _/_, _%_, _≤_, _<_};
+ghost use lib.Dec.{eqb};
+ghost use lib.ListN.{take};
+ghost use Rattle.rules.specs.Lists.{both, flat, product};
+ghost use Rattle.rules.specs.Limits.{mostDims};
+ghost use Rattle.rules.specs.Sharding.{divisible as divisibleOf, shardSizes};
+ghost use Rattle.rules.specs.Collectives.{sliced as slicedOf, gathered as gatheredOf};
+ghost use Rattle.rules.specs.PlanFile.{some, allBelow, isTail};
+ghost use Rattle.rules.specs.Types.{dimsOf, shardingOf};
+ghost use Rattle.axes.specs.Mesh.{meshOf, Sized};
+ghost use Rattle.axes.specs.Marks.{StandFor};
+ghost use Rattle.dims.specs.Dims.{sizesOf, Room};
+use axes::Marks;
+use axes::Mesh;
+use axes::all_below;
+use axes::cut_tail;
+use axes::is_tail;
+use axes::join;
+use axes::span;
+use rules::AxisList;
+use rules::Dim;
+use rules::Sharding;
+use rules::Table;
+
+// Whether the lists name an axis.
+pub fn names_axis(lists: Sharding, rank: usize) -> bool
+    requires { ⌜ rank ≤ mostDims ⌝ }
+    ensures { λ r. ⌜ r ≡ some (flat (take rank (dimsOf lists))) ⌝ }
+{
+    let mut d: usize = 0;
+    while d < rank {
+        let list = lists.list(Dim(d as u8));
+        if list.len() != 0 {
+            return true;
+        }
+        d += 1;
+    }
+    false
+}
+
+// Whether each axis of the lists is below n.
+pub fn names_below(lists: Sharding, rank: usize, n: usize) -> bool
+    requires { ⌜ rank ≤ mostDims ⌝ }
+    ensures { λ r. ⌜ r ≡ allBelow n (flat (take rank (dimsOf lists))) ⌝ }
+{
+    let mut d: usize = 0;
+    while d < rank {
+        let list = lists.list(Dim(d as u8));
+        if !all_below(list, n) {
+            return false;
+        }
+        d += 1;
+    }
+    true
+}
+
+// The marks with the axes of the lists.
+pub fn mark_dims(lists: Sharding, rank: usize, marks: Marks) -> Marks
+    requires { ⌜ rank ≤ mostDims ⌝ }
+    ensures { λ r. ⌜ ((named : List ℕ) → StandFor marks named → StandFor r (named ++ flat (take rank (dimsOf lists)))) ⌝ }
+{
+    let mut next = marks;
+    let mut d: usize = 0;
+    while d < rank {
+        let list = lists.list(Dim(d as u8));
+        next = next.with_list(list);
+        d += 1;
+    }
+    next
+}
+
+// Whether each list is the tail of its dimension's list.
+pub fn tails(sharding: Sharding, lists: Sharding, rank: usize) -> bool
+    requires { ⌜ rank ≤ mostDims ⌝ }
+    ensures { λ r. ⌜ r ≡ both isTail (take rank (dimsOf sharding)) (take rank (dimsOf lists)) ⌝ }
+{
+    let mut d: usize = 0;
+    while d < rank {
+        let list = sharding.list(Dim(d as u8));
+        let tail = lists.list(Dim(d as u8));
+        if !is_tail(list, tail) {
+            return false;
+        }
+        d += 1;
+    }
+    true
+}
+
+// The sharding after an all-gather: each list is cut off its dimension's list.
+pub fn gathered(sharding: Sharding, lists: Sharding, rank: usize) -> Sharding
+    requires { ⌜ rank ≤ mostDims ⌝ }
+    ensures { λ r. ⌜ shardingOf rank r ≡ gatheredOf (take rank (dimsOf lists)) (shardingOf rank sharding) ⌝ }
+{
+    let mut next = sharding;
+    let mut d: usize = 0;
+    while d < rank {
+        let dim = Dim(d as u8);
+        let list = sharding.list(dim);
+        let tail = lists.list(dim);
+        next = next.with_list(dim, cut_tail(list, tail));
+        d += 1;
+    }
+    next
+}
+
+// The sharding after an all-slice: each list is joined to the end of its dimension's list.
+pub fn sliced(sharding: Sharding, lists: Sharding, rank: usize) -> Sharding
+    requires { ⌜ (rank ≤ mostDims) × Room (take rank (dimsOf sharding)) (take rank (dimsOf lists)) ⌝ }
+    ensures { λ r. ⌜ shardingOf rank r ≡ slicedOf (take rank (dimsOf lists)) (shardingOf rank sharding) ⌝ }
+{
+    let mut next = sharding;
+    let mut d: usize = 0;
+    while d < rank {
+        let dim = Dim(d as u8);
+        let list = sharding.list(dim);
+        let tail = lists.list(dim);
+        next = next.with_list(dim, join(list, tail));
+        d += 1;
+    }
+    next
+}
+
+fn divides(span: usize, size: u16) -> bool
+    requires { ⌜ 1 ≤ span ⌝ }
+    ensures { λ r. ⌜ r ≡ eqb (size % span) 0 ⌝ }
+{
+    let whole = size as usize;
+    whole % span == 0
+}
+
+// Whether each size of a table is divisible by the span of its dimension's list.
+pub fn divisible(table: Table, lists: Sharding, mesh: Mesh) -> bool
+    requires { ⌜ (table .rank ≤ mostDims) × Sized (meshOf mesh) ⌝ }
+    ensures { λ r. ⌜ r ≡ divisibleOf (meshOf mesh) (sizesOf table) (take (table .rank) (dimsOf lists)) ⌝ }
+{
+    let rank = table.rank;
+    let mut d: usize = 0;
+    while d < rank {
+        let list = lists.list(Dim(d as u8));
+        let size = table.sizes[d];
+        if !divides(span(list, mesh), size) {
+            return false;
+        }
+        d += 1;
+    }
+    true
+}
+
+fn quotient(size: u16, span: usize) -> u16
+    requires { ⌜ 1 ≤ span ⌝ }
+    ensures { λ r. ⌜ r ≡ size / span ⌝ }
+{
+    let whole = size as usize;
+    (whole / span) as u16
+}
+
+// One shard of a table under a sharding, itself a table.
+pub fn shard_of(table: Table, sharding: Sharding, mesh: Mesh) -> Table
+    requires { ⌜ (table .rank ≤ mostDims) × Sized (meshOf mesh) ⌝ }
+    ensures { λ r. ⌜ (r .rank ≡ table .rank) × (sizesOf r ≡ shardSizes (meshOf mesh) (sizesOf table) (take (table .rank) (dimsOf sharding))) ⌝ }
+{
+    let rank = table.rank;
+    let mut shard = table;
+    let mut d: usize = 0;
+    while d < rank {
+        let list = sharding.list(Dim(d as u8));
+        let size = table.sizes[d];
+        shard.sizes[d] = quotient(size, span(list, mesh));
+        d += 1;
+    }
+    shard
+}
+
+fn wide(size: u16) -> usize
+    ensures { λ r. ⌜ (r ≡ size) × (r < 65536) ⌝ }
+{
+    size as usize
+}
+
+// The words of a table.
+pub fn words(table: Table) -> usize
+    requires { ⌜ table .rank ≤ mostDims ⌝ }
+    ensures { λ r. ⌜ r ≡ product (sizesOf table) ⌝ }
+{
+    let rank = table.rank;
+    let mut product: usize = 1;
+    let mut d: usize = 0;
+    while d < rank {
+        let size = wide(table.sizes[d]);
+        product = product * size;
+        d += 1;
+    }
+    product
+}

@@ -1,0 +1,5 @@
+-- The laws of the group listing.
+pub mod Lists
+pub mod Ordering
+pub mod Tests
+pub mod Listing

@@ -1,0 +1,165 @@
+-- The whole call: what it answers and leaves where a test refuses (`RefusedHere`) and where all pass (`listed`), and that an accepted listing is a
+-- rearrangement (`lists-all`, specs/Promises.antt). Assumes nothing.
+use Prim.Native.Nat.{ℕ, _≤_}
+use mathlib.Core.Path.{_≡_, refl, sym, ap, _∙_, subst}
+use mathlib.Core.Bool.{Bool, false, _&&_}
+use mathlib.Core.List.{List, [], _++_}
+use native.Mathlib.Omega.{arith}
+use lib.ListN.{length, drop}
+use lib.Seq.{take-at, drop-at}
+use lib.Dec.{T, leb, leb→le, lit<, lit≤}
+use Rattle.rules.specs.Lists.{tab}
+use Rattle.rules.specs.Mesh.{devices, listing}
+use Rattle.rules.specs.Limits.{mostAxes, mostDevices}
+use Rattle.rules.specs.Refusals.{Judged, accept, refuse, need, refusedBy, _>>_}
+use Rattle.rules.specs.PlanFile.{judgeSizes, judgeAxes}
+use Rattle.rules.specs.Types.{axesOf}
+use Rattle.rules.specs.Calls.{groupsOf, groupsOut, groupsLeave}
+use Rattle.rules.specs.declared.Refusal.{Refusal}
+use Rattle.rules.proofs.Lists.{T-and}
+use Rattle.rules.proofs.Judging.{accept-inj, never, need-inv, need-true, then-inv}
+use Rattle.rules.proofs.Accepted.{SizesFacts, sizes-facts, AxesFacts, axes-facts}
+use Rattle.rules.proofs.Groups.{listing-length, listing-rearranges}
+use Rattle.mesh.specs.Fitting.{Fits}
+use Rattle.groups.specs.declared.Judgement.{Judgement}
+use Rattle.groups.specs.declared.AxesRead.{AxesRead}
+use Rattle.groups.specs.declared.Judgement.the-variants.{Passed, Refused}
+use Rattle.groups.specs.Answers.{judged, refusalOf, readBy, axesRead, axesOrRefusal}
+use Rattle.groups.specs.Ordering.{orderOf, along, IsList, IsOrder}
+use Rattle.groups.specs.Promises.{ListsAll}
+use Rattle.groups.proofs.Ordering.{order-list, order-span, listing-along}
+
+-- ---- what a test that passed tells
+
+-- 5, as groupsOf has it
+abbrev countTest : List ℕ → Judged (Unit {0})
+countTest mesh = need (leb 1 (length mesh) && leb (length mesh) mostAxes) 5
+
+pub count-few : (mesh : List ℕ) → countTest mesh ≡ accept tt → length mesh ≤ mostAxes
+count-few mesh e =
+    leb→le (length mesh) mostAxes
+    (T-and (leb 1 (length mesh)) (leb (length mesh) mostAxes) (need-true 0 (leb 1 (length mesh) && leb (length mesh) mostAxes) 5 e) .1)
+
+pub sizes-fit : (mesh : List ℕ) → judgeSizes mostDevices 10 11 1 mesh ≡ accept tt → Fits mesh
+sizes-fit mesh e =
+    let f : SizesFacts mostDevices 1 mesh = sizes-facts mostDevices 10 11 1 mesh (lit< tt) (lit≤ tt) e in
+    record { some = omega (arith, f .pos); few = omega (arith, f .few) }
+
+axes-are : (n : ℕ) (axes : List ℕ) → n ≤ mostAxes → judgeAxes n false 0 [] axes ≡ accept tt → IsList n axes
+axes-are n axes h e =
+    let f : AxesFacts n [] axes = axes-facts n false 0 [] axes e in
+    record { few = h; below = f .below; once = f .once }
+
+pub axes-read : (n : ℕ) (axes L : List ℕ) → n ≤ mostAxes → accept L ≡ axesOrRefusal n axes → IsList n L
+axes-read n axes L h e =
+    let t = then-inv (judgeAxes n false 0 [] axes) (accept axes) L (sym e) in
+    subst (IsList n) (accept-inj (t .1)) (axes-are n axes h (t .0 .1))
+
+-- ---- the code's answers
+
+-- a test of the code that passed, or did not, and the test that it stands for
+pub passed : {m : Judged (Unit {0})} {v : Judgement} → judged v ≡ m → v ≡ Passed → m ≡ accept tt
+passed e p = sym e ∙ ap judged p
+
+pub not-passed : {m : Judged (Unit {0})} {v : Judgement} {r s : Refusal} → judged v ≡ m → v ≡ Refused r → s ≡ refusalOf v → m ≡ refusedBy s
+not-passed e p w = sym e ∙ rw (w, p) refl
+
+pub not-read : {m : Judged (List ℕ)} (a : AxesRead) {r s : Refusal} → axesRead a ≡ m → a .verdict ≡ Refused r → s ≡ refusalOf (a .verdict)
+    → m ≡ refusedBy s
+not-read a e p w = sym e ∙ rw (w, p) refl
+
+pub read-whole : {m : Judged (List ℕ)} (a : AxesRead) → axesRead a ≡ m → a .verdict ≡ Passed → accept (axesOf (a .list)) ≡ m
+read-whole a e p = sym (ap (λ (v : Judgement). readBy v (a .list)) p) ∙ e
+
+-- ---- the answer, test by test
+
+-- only the first of two can refuse, where the second accepts
+then-refused : {A B : Type 0} (m : Judged A) (b : B) (n k : ℕ) → _>>_ m (accept b) ≡ refuse n k → m ≡ refuse n k
+then-refused (accept a) b n k e = absurd (never (sym e))
+then-refused (refuse i j) b n k e = let p : i ≡ n = cc in let q : j ≡ k = cc in rw (p, q) refl
+
+module _ (mesh axes out : List ℕ) where
+  -- a refusal that the tests come to is the answer, and all lent memory is as it was
+  pub record RefusedHere (r : Refusal) : Type 0 where
+    pub answer : refusedBy r ≡ groupsOf mesh axes out
+    pub leaves : out ≡ groupsLeave mesh axes out
+
+  refused-here : (r : Refusal) → groupsOf mesh axes out ≡ refusedBy r → RefusedHere r
+  unfolding groupsLeave
+  refused-here r e = record { answer = sym e; leaves = sym (ap (λ (m : Judged ℕ). groupsOut m mesh axes out) e) }
+
+  module _ (r : Refusal) where
+    pub count-refused : countTest mesh ≡ refusedBy r → RefusedHere r
+    unfolding groupsOf
+    count-refused e = refused-here r (rw e refl)
+
+    pub sizes-refused : countTest mesh ≡ accept tt → judgeSizes mostDevices 10 11 1 mesh ≡ refusedBy r → RefusedHere r
+    unfolding groupsOf
+    sizes-refused e5 e = refused-here r (rw (e5, e) refl)
+
+    pub axes-refused : countTest mesh ≡ accept tt → judgeSizes mostDevices 10 11 1 mesh ≡ accept tt → axesOrRefusal (length mesh) axes ≡ refusedBy r
+        → RefusedHere r
+    unfolding groupsOf
+    axes-refused e5 e10 e = refused-here r (rw (e5, e10, then-refused (judgeAxes (length mesh) false 0 [] axes) axes _ _ e) refl)
+
+  -- the tests before the last, passed
+  pub record Tried (L : List ℕ) : Type 0 where
+    pub counted : countTest mesh ≡ accept tt
+    pub sized : judgeSizes mostDevices 10 11 1 mesh ≡ accept tt
+    pub read : accept L ≡ axesOrRefusal (length mesh) axes
+
+  module _ {L : List ℕ} (t : Tried L) where
+    all-axes : (judgeAxes (length mesh) false 0 [] axes ≡ accept tt) × (axes ≡ L)
+    all-axes =
+        let p = then-inv (judgeAxes (length mesh) false 0 [] axes) (accept axes) L (sym (t .read)) in
+        (p .0 .1, accept-inj (p .1))
+
+    pub room-refused : (r : Refusal) (d : ℕ) → d ≡ devices mesh → need (leb d (length out)) 33 ≡ refusedBy r → RefusedHere r
+    unfolding groupsOf
+    room-refused r d w e = refused-here r (rw (t .counted, t .sized, all-axes .0, ← w, e) refl)
+
+    pub order-ready : (order : List ℕ) (d : ℕ) → order ≡ orderOf (length mesh) L → d ≡ devices mesh → need (leb d (length out)) 33 ≡ accept tt
+        → IsOrder mesh order d (length out)
+    order-ready order d eo w e =
+        let f : Fits mesh = sizes-fit mesh (t .sized) in
+        let l : IsList (length mesh) L = axes-read (length mesh) axes L (count-few mesh (t .counted)) (t .read) in
+        rw eo (record {
+          fits = f;
+          list = order-list l;
+          whole = order-span mesh L f l;
+          counted = w;
+          enough = leb→le d (length out) (need-true 0 (leb d (length out)) 33 e);
+        })
+
+    -- "It writes D device numbers .. Entries after the first D stay."
+    pub listed : (order : List ℕ) (d : ℕ) → order ≡ orderOf (length mesh) L → d ≡ devices mesh → need (leb d (length out)) 33 ≡ accept tt
+        → (accept d ≡ groupsOf mesh axes out) × (tab d (along mesh order) ++ drop d out ≡ groupsLeave mesh axes out)
+    unfolding groupsOf groupsLeave
+    listed order d eo w e =
+        let f : Fits mesh = sizes-fit mesh (t .sized) in
+        let l : IsList (length mesh) L = axes-read (length mesh) axes L (count-few mesh (t .counted)) (t .read) in
+        let a : groupsOf mesh axes out ≡ accept d = rw (t .counted, t .sized, all-axes .0, ← w, e) refl in
+        let front : tab d (along mesh order) ≡ listing mesh axes = rw (w, eo, all-axes .1) (sym (listing-along mesh L f l)) in (
+          sym a,
+          ap (λ (l : List ℕ). l ++ drop d out) front ∙ sym (ap (λ (m : Judged ℕ). groupsOut m mesh axes out) a),
+        )
+
+-- ---- the promise
+
+pub lists-all : ListsAll
+unfolding groupsOf groupsLeave
+lists-all mesh axes out d e =
+    let few : Bool = leb 1 (length mesh) && leb (length mesh) mostAxes in
+    let a : T few × (_ ≡ accept d) = need-inv 0 few 5 _ d e in
+    let b = then-inv (judgeSizes mostDevices 10 11 1 mesh) _ d (a .1) in
+    let j = then-inv (judgeAxes (length mesh) false 0 [] axes) _ d (b .1) in
+    let k = need-inv 0 (leb (devices mesh) (length out)) 33 (accept (devices mesh)) d (j .1) in
+    let x = axes-facts (length mesh) false 0 [] axes (j .0 .1) in
+    let w : devices mesh ≡ d = accept-inj (k .1) in
+    let n : length (listing mesh axes) ≡ d = listing-length mesh axes (x .once) (x .below) ∙ w in
+    let l : groupsLeave mesh axes out ≡ listing mesh axes ++ drop d out = ap (λ (m : Judged ℕ). groupsOut m mesh axes out) e in
+    record {
+      all = sym w;
+      rearranged = rw (l, take-at (listing mesh axes) (drop d out) d n, ← w) (listing-rearranges mesh axes (x .once) (x .below));
+      stay = rw l (drop-at (listing mesh axes) (drop d out) d n);
+    }

@@ -1,0 +1,206 @@
+use mathlib.Core.Path.{_∙_}
+use borrow.Author.Needs.{needs}
+use denote.Ref.{now}
+use Rattle.rules.specs.Types.{axesOf}
+use Rattle.groups.proofs.Listing.{
+  count-few,
+  sizes-fit,
+  axes-read,
+  passed,
+  not-passed,
+  not-read,
+  read-whole,
+  count-refused,
+  sizes-refused,
+  axes-refused,
+  Tried,
+  room-refused,
+  order-ready,
+  listed,
+}
+use Rattle.groups.proofs.groups.Statement.{statement}
+use Rattle.groups.proofs.groups.Tie as tie
+
+judge-count-requires : tie.Need-judge-count-requires
+judge-count-requires c κs = search needs
+
+enum-told : tie.Need-enum-told
+enum-told c = search needs
+
+enum-told-2 : tie.Need-enum-told-2
+enum-told-2 c = search needs
+
+refusal-requires : tie.Need-refusal-requires
+refusal-requires c κs = search needs
+
+returns : tie.Need-returns
+returns c =
+    let j = c .before .before .before in
+    let a = j .before .before .before .before .args in
+    let h = count-refused (now (a .mesh)) (now (a .axes)) (now (a .out)) (c .refusal .result)
+    (not-passed (j .judge-count .ensures) (c .before .enum-told2 .given .1) (c .refusal .ensures)) in
+    (h .answer, h .leaves)
+
+judge-sizes-requires : tie.Need-judge-sizes-requires
+judge-sizes-requires c κs = search needs
+
+enum-told-3 : tie.Need-enum-told-3
+enum-told-3 c = search needs
+
+enum-told-4 : tie.Need-enum-told-4
+enum-told-4 c = search needs
+
+refusal-requires-2 : tie.Need-refusal-requires-2
+refusal-requires-2 c κs = search needs
+
+returns-2 : tie.Need-returns-2
+returns-2 c =
+    let j = c .before .before .before in
+    let n = j .before in
+    let a = n .before .before .before .before .before .before .args in
+    let h = sizes-refused (now (a .mesh)) (now (a .axes)) (now (a .out)) (c .refusal2 .result)
+    (passed (n .before .before .judge-count .ensures) (n .enum-told .given .1))
+    (not-passed (j .judge-sizes .ensures) (c .before .enum-told4 .given .1) (c .refusal2 .ensures)) in
+    (h .answer, h .leaves)
+
+product-from-requires : tie.Need-product-from-requires
+product-from-requires c κs =
+    let a = c .before .before .before .before .before .before .before .before .before .args in
+    sizes-fit (now (a .mesh)) (passed (c .before .before .judge-sizes .ensures) (c .enum-told3 .given .1))
+
+read-axes-requires : tie.Need-read-axes-requires
+read-axes-requires c κs =
+    let n = c .before .before .before .before in
+    let a = n .before .before .before .before .before .before .args in
+    count-few (now (a .mesh)) (passed (n .before .before .judge-count .ensures) (n .enum-told .given .1))
+
+judge-room-requires : tie.Need-judge-room-requires
+judge-room-requires c κs = search needs
+
+enum-told-5 : tie.Need-enum-told-5
+enum-told-5 c = search needs
+
+enum-told-6 : tie.Need-enum-told-6
+enum-told-6 c = search needs
+
+refusal-requires-3 : tie.Need-refusal-requires-3
+refusal-requires-3 c κs = search needs
+
+returns-3 : tie.Need-returns-3
+returns-3 c =
+    let r = c .before .before .before .before in
+    let s = r .before .before in
+    let n = s .before .before .before in
+    let a = n .before .before .before .before .before .before .args in
+    let h = axes-refused (now (a .mesh)) (now (a .axes)) (now (a .out)) (c .refusal3 .result)
+    (passed (n .before .before .judge-count .ensures) (n .enum-told .given .1))
+    (passed (s .before .before .judge-sizes .ensures) (s .enum-told3 .given .1))
+    (not-read (r .read-axes .result) (r .read-axes .ensures) (c .before .enum-told6 .given .1) (c .refusal3 .ensures)) in
+    (h .answer, h .leaves)
+
+enum-told-7 : tie.Need-enum-told-7
+enum-told-7 c = search needs
+
+enum-told-8 : tie.Need-enum-told-8
+enum-told-8 c = search needs
+
+refusal-requires-4 : tie.Need-refusal-requires-4
+refusal-requires-4 c κs = search needs
+
+returns-4 : tie.Need-returns-4
+returns-4 c =
+    let p = c .before .before .before in
+    let r = p .before .before .before in
+    let s = r .before .before in
+    let n = s .before .before .before in
+    let a = n .before .before .before .before .before .before .args in
+    let t : Tried (now (a .mesh)) (now (a .axes)) (now (a .out)) (axesOf (r .read-axes .result .list)) = record {
+      counted = passed (n .before .before .judge-count .ensures) (n .enum-told .given .1);
+      sized = passed (s .before .before .judge-sizes .ensures) (s .enum-told3 .given .1);
+      read = read-whole (r .read-axes .result) (r .read-axes .ensures) (p .enum-told5 .given .1);
+    } in
+    let d = r .before .product-from in
+    let h = room-refused (now (a .mesh)) (now (a .axes)) (now (a .out)) t (c .refusal4 .result) (d .result) (d .ensures)
+    (not-passed (p .before .before .judge-room .ensures) (c .before .enum-told8 .given .1) (c .refusal4 .ensures)) in
+    (h .answer, h .leaves)
+
+order-of-requires : tie.Need-order-of-requires
+order-of-requires c κs =
+    let p = c .before .before .before in
+    let r = p .before .before .before in
+    let s = r .before .before in
+    let n = s .before .before .before in
+    let a = n .before .before .before .before .before .before .args in
+    let t : Tried (now (a .mesh)) (now (a .axes)) (now (a .out)) (axesOf (r .read-axes .result .list)) = record {
+      counted = passed (n .before .before .judge-count .ensures) (n .enum-told .given .1);
+      sized = passed (s .before .before .judge-sizes .ensures) (s .enum-told3 .given .1);
+      read = read-whole (r .read-axes .result) (r .read-axes .ensures) (p .enum-told5 .given .1);
+    } in
+    axes-read _ (now (a .axes)) (axesOf (r .read-axes .result .list)) (count-few (now (a .mesh)) (t .counted)) (t .read)
+
+write-devices-requires : tie.Need-write-devices-requires
+write-devices-requires c κs =
+    let p = c .before .before .before .before .before in
+    let r = p .before .before .before in
+    let s = r .before .before in
+    let n = s .before .before .before in
+    let a = n .before .before .before .before .before .before .args in
+    let t : Tried (now (a .mesh)) (now (a .axes)) (now (a .out)) (axesOf (r .read-axes .result .list)) = record {
+      counted = passed (n .before .before .judge-count .ensures) (n .enum-told .given .1);
+      sized = passed (s .before .before .judge-sizes .ensures) (s .enum-told3 .given .1);
+      read = read-whole (r .read-axes .result) (r .read-axes .ensures) (p .enum-told5 .given .1);
+    } in
+    let d = r .before .product-from in
+    order-ready (now (a .mesh)) (now (a .axes)) (now (a .out)) t _ (d .result) (c .before .order-of .ensures) (d .ensures)
+    (passed (p .before .before .judge-room .ensures) (c .before .before .before .enum-told7 .given .1))
+
+same-length : tie.Need-same-length
+same-length c = search needs
+
+returns-5 : tie.Need-returns-5
+returns-5 c =
+    let p = c .before .before .before .before .before .before .before .before in
+    let r = p .before .before .before in
+    let s = r .before .before in
+    let n = s .before .before .before in
+    let a = n .before .before .before .before .before .before .args in
+    let t : Tried (now (a .mesh)) (now (a .axes)) (now (a .out)) (axesOf (r .read-axes .result .list)) = record {
+      counted = passed (n .before .before .judge-count .ensures) (n .enum-told .given .1);
+      sized = passed (s .before .before .judge-sizes .ensures) (s .enum-told3 .given .1);
+      read = read-whole (r .read-axes .result) (r .read-axes .ensures) (p .enum-told5 .given .1);
+    } in
+    let w = c .before .before in
+    let d = r .before .product-from in
+    let h = listed (now (a .mesh)) (now (a .axes)) (now (a .out)) t _ (d .result) (w .before .before .order-of .ensures) (d .ensures)
+    (passed (p .before .before .judge-room .ensures) (w .before .before .before .before .enum-told7 .given .1)) in
+    (h .0, w .write-devices .ensures ∙ h .1)
+
+pub groups-spec : {M : Type 1} → statement M
+groups-spec =
+    tie.close
+    (tie.spec
+    judge-count-requires
+    enum-told
+    enum-told-2
+    refusal-requires
+    returns
+    judge-sizes-requires
+    enum-told-3
+    enum-told-4
+    refusal-requires-2
+    returns-2
+    product-from-requires
+    read-axes-requires
+    judge-room-requires
+    enum-told-5
+    enum-told-6
+    refusal-requires-3
+    returns-3
+    enum-told-7
+    enum-told-8
+    refusal-requires-4
+    returns-4
+    order-of-requires
+    write-devices-requires
+    same-length
+    returns-5)

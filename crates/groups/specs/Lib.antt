@@ -1,0 +1,4 @@
+-- What the contracts of the group listing are written with.
+pub mod Answers
+pub mod Ordering
+pub mod Promises

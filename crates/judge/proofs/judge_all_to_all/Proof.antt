@@ -1,0 +1,148 @@
+use borrow.Author.Needs.{needs}
+use native.Mathlib.Omega.{arith}
+use mathlib.Core.List.{List}
+use mathlib.Core.Path.{sym, ap, _∙_}
+use Prim.Native.Nat.{ℕ}
+use borrow.Author.Tests.{not-true, not-false}
+use lib.ListN.{length-map}
+use lib.Seq.{length-take-le}
+use Rattle.rules.specs.PlanFile.{allBelow, gatherOff, sliceOn}
+use Rattle.rules.specs.Types.{axesOf, shardingOf}
+use Rattle.axes.specs.Mesh.{meshOf}
+use Rattle.dims.specs.Dims.{sizesOf}
+use Rattle.dims.proofs.Dims.{dims-length}
+use Rattle.judge.proofs.Sound.{two-dims}
+use Rattle.judge.proofs.Steps.{only-at, no-dims, gather-stops, gather-passes, moved-room}
+use Rattle.judge.proofs.judge_all_to_all.Statement.{statement}
+use Rattle.judge.proofs.judge_all_to_all.Tie as tie
+use Rattle.judge.proofs.judge_all_to_all.Reads as reads
+use Rattle.judge.proofs.judge_all_to_all.Lts as lts
+use Rattle.judge.proofs.gather_off.Reads as gather-off-reads
+use Rattle.judge.proofs.refused_step.Reads as refused-step-reads
+use Rattle.judge.proofs.slice_on.Reads as slice-on-reads
+use Rattle.judge.proofs.two_dims.Reads as two-dims-reads
+use Rattle.rules.proofs.Sharding.replicated.Reads as replicated-reads
+use Rattle.rules.proofs.Sharding.with_list.Reads as with-list-reads
+
+two-dims-requires : tie.Need-two-dims-requires
+two-dims-requires c κs = search needs
+
+refused-step-requires : tie.Need-refused-step-requires
+refused-step-requires c κs = search needs
+
+returns : tie.Need-returns
+returns c =
+    let c3 = c .before .before .before in
+    let a = c3 .args in
+    let r = a .table .rank in
+    let w = dims-length (a .sharding) r (simp length-map at (c3 .good .1 .1 .1 .1 .0 .1 .1 .0 .1 .0 .1)) (omega (arith, c3 .pre .0 .fits .rank)) in
+    c .refused-step .ensures r
+    ∙ sym (no-dims (meshOf (a .mesh)) (sizesOf (a .table)) (a .k) (a .source .0) (a .target .0) (axesOf (a .list)) (shardingOf r (a .sharding)) r w
+    (sym (c .before .before .two-dims .ensures) ∙ not-true _ (c .before .if1 .taken)))
+
+replicated-requires : tie.Need-replicated-requires
+replicated-requires c κs = search needs
+
+with-list-requires : tie.Need-with-list-requires
+with-list-requires c κs = search needs
+
+gather-off-requires : tie.Need-gather-off-requires
+gather-off-requires c κs = search needs
+
+enum-told : tie.Need-enum-told
+enum-told c = search needs
+
+enum-told-2 : tie.Need-enum-told-2
+enum-told-2 c = search needs
+
+returns-2 : tie.Need-returns-2
+returns-2 c =
+    let c3 = c .before .before .before in
+    let c4 = c3 .before in
+    let c5 = c4 .before in
+    let c6 = c5 .before in
+    let c7 = c6 .before in
+    let a = c7 .args in
+    let r = a .table .rank in
+    let L = axesOf (a .list) in
+    let s = shardingOf r (a .sharding) in
+    let h = c7 .pre .0 .fits .rank in
+    let w = dims-length (a .sharding) r (simp length-map at (c7 .good .1 .1 .1 .1 .0 .1 .1 .0 .1 .0 .1)) (omega (arith, h)) in
+    let d = sym (c6 .two-dims .ensures) ∙ not-false _ (c5 .if1 .left) in
+    let off = only-at r (a .source .0) L _ _ h (two-dims r (a .source .0) (a .target .0) d .0) (c4 .replicated .ensures .0)
+    (c3 .with-list .ensures .0) in
+    gather-stops (meshOf (a .mesh)) (sizesOf (a .table)) (a .k) (a .source .0) (a .target .0) L s r w d _ _
+    (c .before .before .gather-off .ensures ∙ ap (λ (x : List (List ℕ)). gatherOff (a .k) x s) off) _ (c .enum-told2 .given .1)
+
+with-list-requires-2 : tie.Need-with-list-requires-2
+with-list-requires-2 c κs = search needs
+
+slice-on-requires : tie.Need-slice-on-requires
+slice-on-requires c κs =
+    let c4 = c .before .before .before .before in
+    let c5 = c4 .before in
+    let c6 = c5 .before in
+    let c7 = c6 .before in
+    let c8 = c7 .before in
+    let c9 = c8 .before in
+    let a = c9 .args in
+    let g = c9 .pre .0 in
+    let r = a .table .rank in
+    let L = axesOf (a .list) in
+    let s = shardingOf r (a .sharding) in
+    let h = g .fits .rank in
+    let w = dims-length (a .sharding) r (simp length-map at (c9 .good .1 .1 .1 .1 .0 .1 .1 .0 .1 .0 .1)) (omega (arith, h)) in
+    let e = length-take-le (a .mesh .n) (a .mesh .sizes)
+    (omega (arith, g .fits .axes, simp length-map at (c9 .good .1 .1 .1 .1 .1 .0 .1 .1 .1 .0 .1 .0 .1))) in
+    let b = ap (λ (x : ℕ). allBelow x L) e ∙ c9 .pre .1 in
+    let d = sym (c8 .two-dims .ensures) ∙ not-false _ (c7 .if1 .left) in
+    let t = two-dims r (a .source .0) (a .target .0) d in
+    let off = only-at r (a .source .0) L _ _ h (t .0) (c6 .replicated .ensures .0) (c5 .with-list .ensures .0) in
+    let on = only-at r (a .target .0) L _ _ h (t .1) (c6 .replicated .ensures .0) (c .with-list2 .ensures .0) in (
+      g .fits,
+      rw on (moved-room (meshOf (a .mesh)) (sizesOf (a .table)) (a .k) (a .source .0) (a .target .0) L s r w d _
+          (shardingOf r (c4 .gather-off .result .sharding))
+          (c4 .gather-off .ensures ∙ ap (λ (x : List (List ℕ)). gatherOff (a .k) x s) off) (c .before .before .enum-told .given .1) (g .sound)
+          (omega (arith, e, g .fits .axes)) b (t .0) (t .1)),
+    )
+
+returns-3 : tie.Need-returns-3
+returns-3 c =
+    let c3 = c .before .before .before in
+    let c5 = c3 .before .before in
+    let c6 = c5 .before in
+    let c7 = c6 .before in
+    let c8 = c7 .before in
+    let c9 = c8 .before in
+    let c10 = c9 .before in
+    let a = c10 .args in
+    let r = a .table .rank in
+    let L = axesOf (a .list) in
+    let s = shardingOf r (a .sharding) in
+    let h = c10 .pre .0 .fits .rank in
+    let w = dims-length (a .sharding) r (simp length-map at (c10 .good .1 .1 .1 .1 .0 .1 .1 .0 .1 .0 .1)) (omega (arith, h)) in
+    let d = sym (c9 .two-dims .ensures) ∙ not-false _ (c8 .if1 .left) in
+    let t = two-dims r (a .source .0) (a .target .0) d in
+    let off = only-at r (a .source .0) L _ _ h (t .0) (c7 .replicated .ensures .0) (c6 .with-list .ensures .0) in
+    let on = only-at r (a .target .0) L _ _ h (t .1) (c7 .replicated .ensures .0) (c .before .with-list2 .ensures .0) in
+    let b = shardingOf r (c5 .gather-off .result .sharding) in
+    c .slice-on .ensures ∙ ap (λ (x : List (List ℕ)). sliceOn (meshOf (a .mesh)) (sizesOf (a .table)) (a .k) x b) on
+    ∙ sym (gather-passes (meshOf (a .mesh)) (sizesOf (a .table)) (a .k) (a .source .0) (a .target .0) L s r w d _ b
+    (c5 .gather-off .ensures ∙ ap (λ (x : List (List ℕ)). gatherOff (a .k) x s) off) (c3 .enum-told .given .1))
+
+pub judge-all-to-all-spec : {M : Type 1} → statement M
+judge-all-to-all-spec =
+    tie.close
+    (tie.spec
+    two-dims-requires
+    refused-step-requires
+    returns
+    replicated-requires
+    with-list-requires
+    gather-off-requires
+    enum-told
+    enum-told-2
+    returns-2
+    with-list-requires-2
+    slice-on-requires
+    returns-3)

@@ -1,0 +1,20 @@
+use borrow.Author.Needs.{needs}
+use mathlib.Core.Path.{refl}
+use Rattle.rules.specs.Collectives.{reduced as reducedOf}
+use Rattle.rules.specs.Types.{dimsOf}
+use Rattle.dims.proofs.Dims.{sharding-is}
+use Rattle.judge.proofs.reduced.Statement.{statement}
+use Rattle.judge.proofs.reduced.Tie as tie
+use Rattle.judge.proofs.reduced.Reads as reads
+use Rattle.judge.proofs.reduced.Lts as lts
+use Rattle.axes.proofs.without.Reads as without-reads
+
+without-requires : tie.Need-without-requires
+without-requires c κs = search needs
+
+returns : tie.Need-returns
+unfolding reducedOf dimsOf
+returns c = λ rank. sharding-is _ _ _ _ refl (c .without .ensures)
+
+pub reduced-spec : {M : Type 1} → statement M
+reduced-spec = tie.close (tie.spec without-requires returns)

@@ -1,0 +1,260 @@
+// The judgement of a step, and the sharding after it. Order and numbers are those of Rattle.rules.specs.PlanFile; gather_off, slice_on and
+// judge_step stand for the definitions of the same names.
+ghost use mathlib.Core.Path.{_≡_};
+ghost use mathlib.Core.Bool.{true};
+ghost use mathlib.Core.List.{List};
+ghost use Prim.Native.Nat.{ℕ, _≤_};
+ghost use lib.ListN.{take};
+ghost use Rattle.rules.specs.Lists.{flat};
+ghost use Rattle.rules.specs.Limits.{mostDims};
+ghost use Rattle.rules.specs.Refusals.{accept, refuse, numberOf};
+ghost use Rattle.rules.specs.Collectives.{allSlice, allReduce, allToAll, stepAxes, reduced as reducedOf};
+ghost use Rattle.rules.specs.PlanFile.{allBelow, twoDims, gatherOff, sliceOn, judgeKind, judgeStep};
+ghost use Rattle.rules.specs.Types.{axesOf, dimsOf, shardingOf, stepOf};
+ghost use Rattle.axes.specs.Mesh.{meshOf};
+ghost use Rattle.dims.specs.Dims.{sizesOf, Room};
+ghost use Rattle.start.specs.Start.{meaning, Fits};
+ghost use Rattle.judge.specs.Step.{meaningAfter, judgeNamed, Ready};
+use axes::Marks;
+use axes::Mesh;
+use axes::all_below;
+use axes::all_in;
+use axes::increasing;
+use axes::without;
+use dims::divisible;
+use dims::gathered;
+use dims::mark_dims;
+use dims::names_axis;
+use dims::names_below;
+use dims::shard_of;
+use dims::sliced;
+use dims::tails;
+use rules::AxisList;
+use rules::Dim;
+use rules::Kind;
+use rules::Reason;
+use rules::Refusal;
+use rules::Sharding;
+use rules::Step;
+use rules::Table;
+use start::Verdict;
+use start::judge_dims;
+use start::refused;
+
+// A verdict, and the sharding after the step where it is fine.
+pub struct After {
+    pub verdict: Verdict,
+    pub sharding: Sharding,
+}
+
+fn refused_step(reason: Reason, k: u16, sharding: Sharding) -> After
+    ensures { λ r. ⌜ ((rank : ℕ) → meaningAfter rank r ≡ refuse (numberOf reason) k) ⌝ }
+{
+    After {
+        verdict: Verdict::Refused(Refusal { reason, step: k }),
+        sharding,
+    }
+}
+
+// The axes of a step's one list: 21, then 22.
+fn named_list(list: AxisList, k: u16, n: usize) -> Verdict
+    ensures { λ r. ⌜ meaning r ≡ judgeNamed n k (axesOf list) ⌝ }
+{
+    if list.len() == 0 {
+        return refused(Reason::NoAxis, k);
+    }
+    if !all_below(list, n) {
+        return refused(Reason::AxisTooLarge, k);
+    }
+    Verdict::Fine
+}
+
+// The axes of a step's lists by dimension: 21, then 22.
+fn named_dims(lists: Sharding, k: u16, rank: usize, n: usize) -> Verdict
+    requires { ⌜ rank ≤ mostDims ⌝ }
+    ensures { λ r. ⌜ meaning r ≡ judgeNamed n k (flat (take rank (dimsOf lists))) ⌝ }
+{
+    if !names_axis(lists, rank) {
+        return refused(Reason::NoAxis, k);
+    }
+    if !names_below(lists, rank, n) {
+        return refused(Reason::AxisTooLarge, k);
+    }
+    Verdict::Fine
+}
+
+// The axes that a step names, by its kind.
+fn judge_named(step: Step, k: u16, rank: usize, n: usize) -> Verdict
+    requires { ⌜ rank ≤ mostDims ⌝ }
+    ensures { λ r. ⌜ meaning r ≡ judgeNamed n k (stepAxes (stepOf rank step)) ⌝ }
+{
+    let kind = step.kind;
+    let lists = step.lists;
+    let list = lists.unreduced;
+    match kind {
+        Kind::AllSlice => named_dims(lists, k, rank, n),
+        Kind::AllGather => named_dims(lists, k, rank, n),
+        Kind::AllReduce => named_list(list, k, n),
+        Kind::AllToAll => named_list(list, k, n),
+        Kind::Unknown => refused(Reason::NoAxis, k),
+    }
+}
+
+// An all-gather: 24 by dimension, then the lists are cut off.
+pub fn gather_off(lists: Sharding, k: u16, sharding: Sharding, rank: usize) -> After
+    requires { ⌜ rank ≤ mostDims ⌝ }
+    ensures { λ r. ⌜ meaningAfter rank r ≡ gatherOff k (take rank (dimsOf lists)) (shardingOf rank sharding) ⌝ }
+{
+    if !tails(sharding, lists, rank) {
+        return refused_step(Reason::NotTail, k, sharding);
+    }
+    let next = gathered(sharding, lists, rank);
+    After {
+        verdict: Verdict::Fine,
+        sharding: next,
+    }
+}
+
+// A slice: 25 by dimension, of the present shard sizes, then the lists are joined.
+pub fn slice_on(lists: Sharding, k: u16, sharding: Sharding, mesh: Mesh, table: Table) -> After
+    requires { ⌜ Fits mesh table × Room (take (table .rank) (dimsOf sharding)) (take (table .rank) (dimsOf lists)) ⌝ }
+    ensures { λ r. ⌜ meaningAfter (table .rank) r
+        ≡ sliceOn (meshOf mesh) (sizesOf table) k (take (table .rank) (dimsOf lists)) (shardingOf (table .rank) sharding) ⌝ }
+{
+    let shard = shard_of(table, sharding, mesh);
+    if !divisible(shard, lists, mesh) {
+        return refused_step(Reason::ShardNotDivisible, k, sharding);
+    }
+    let next = sliced(sharding, lists, table.rank);
+    After {
+        verdict: Verdict::Fine,
+        sharding: next,
+    }
+}
+
+// All-slice: 23, then the slice. The axes are below n already, so judge_dims refuses an axis that is named, and nothing else.
+pub fn judge_slice(lists: Sharding, k: u16, sharding: Sharding, mesh: Mesh, table: Table) -> After
+    requires { ⌜ Ready mesh table sharding × (allBelow (mesh .n) (flat (take (table .rank) (dimsOf lists))) ≡ true) ⌝ }
+    ensures { λ r. ⌜ meaningAfter (table .rank) r
+        ≡ judgeKind (meshOf mesh) (sizesOf table) k (allSlice (take (table .rank) (dimsOf lists))) (shardingOf (table .rank) sharding) ⌝ }
+{
+    let sharded = mark_dims(sharding, table.rank, Marks::none());
+    let unreduced = sharding.unreduced;
+    let named = sharded.with_list(unreduced);
+    let fresh = judge_dims(lists, table.rank, mesh.n, named);
+    let Verdict::Fine = fresh else {
+        return refused_step(Reason::NotReplicated, k, sharding);
+    };
+    slice_on(lists, k, sharding, mesh, table)
+}
+
+fn reduced(list: AxisList, sharding: Sharding) -> Sharding
+    ensures { λ r. ⌜ ((rank : ℕ) → shardingOf rank r ≡ reducedOf (axesOf list) (shardingOf rank sharding)) ⌝ }
+{
+    let dims = sharding.dims;
+    let unreduced = without(sharding.unreduced, list);
+    Sharding { dims, unreduced }
+}
+
+// All-reduce: 26, then 27, then the axes are replicated.
+pub fn judge_reduce(list: AxisList, k: u16, sharding: Sharding) -> After
+    ensures { λ r. ⌜ ((mesh sizes : List ℕ) (rank : ℕ) → meaningAfter rank r
+        ≡ judgeKind mesh sizes k (allReduce (axesOf list)) (shardingOf rank sharding)) ⌝ }
+{
+    let rising = increasing(list);
+    let owed = all_in(list, sharding.unreduced);
+    if !rising {
+        return refused_step(Reason::NotIncreasing, k, sharding);
+    }
+    if !owed {
+        return refused_step(Reason::NotUnreduced, k, sharding);
+    }
+    let next = reduced(list, sharding);
+    After {
+        verdict: Verdict::Fine,
+        sharding: next,
+    }
+}
+
+// 28: two dimensions below the rank.
+fn two_dims(source: Dim, target: Dim, rank: usize) -> bool
+    ensures { λ r. ⌜ r ≡ twoDims rank (source .0) (target .0) ⌝ }
+{
+    let s = source.0 as usize;
+    let t = target.0 as usize;
+    if rank <= s {
+        return false;
+    }
+    if rank <= t {
+        return false;
+    }
+    s != t
+}
+
+// All-to-all: 28, then the gather off the source, then the slice on the target.
+pub fn judge_all_to_all(
+    source: Dim,
+    target: Dim,
+    list: AxisList,
+    k: u16,
+    sharding: Sharding,
+    mesh: Mesh,
+    table: Table,
+) -> After
+    requires { ⌜ Ready mesh table sharding × (allBelow (mesh .n) (axesOf list) ≡ true) ⌝ }
+    ensures { λ r. ⌜ meaningAfter (table .rank) r
+        ≡ judgeKind (meshOf mesh) (sizesOf table) k (allToAll (source .0) (target .0) (axesOf list)) (shardingOf (table .rank) sharding) ⌝ }
+{
+    if !two_dims(source, target, table.rank) {
+        return refused_step(Reason::WrongDims, k, sharding);
+    }
+    let none = Sharding::replicated();
+    let off = none.with_list(source, list);
+    let gathered = gather_off(off, k, sharding, table.rank);
+    let verdict = gathered.verdict;
+    let Verdict::Fine = verdict else {
+        return gathered;
+    };
+    let between = gathered.sharding;
+    let on = none.with_list(target, list);
+    slice_on(on, k, between, mesh, table)
+}
+
+// A step whose axes are judged, by its kind.
+fn judge_kind(step: Step, k: u16, sharding: Sharding, mesh: Mesh, table: Table) -> After
+    requires { ⌜ Ready mesh table sharding × (judgeNamed (mesh .n) k (stepAxes (stepOf (table .rank) step)) ≡ accept tt) ⌝ }
+    ensures { λ r. ⌜ meaningAfter (table .rank) r
+        ≡ judgeKind (meshOf mesh) (sizesOf table) k (stepOf (table .rank) step) (shardingOf (table .rank) sharding) ⌝ }
+{
+    let kind = step.kind;
+    let lists = step.lists;
+    let list = lists.unreduced;
+    match kind {
+        Kind::AllSlice => judge_slice(lists, k, sharding, mesh, table),
+        Kind::AllGather => gather_off(lists, k, sharding, table.rank),
+        Kind::AllReduce => judge_reduce(list, k, sharding),
+        Kind::AllToAll => judge_all_to_all(
+            step.source,
+            step.target,
+            list,
+            k,
+            sharding,
+            mesh,
+            table,
+        ),
+        Kind::Unknown => refused_step(Reason::UnknownKind, k, sharding),
+    }
+}
+
+// Step k of a plan, after the steps that left a sharding.
+pub fn judge_step(step: Step, k: u16, sharding: Sharding, mesh: Mesh, table: Table) -> After
+    requires { ⌜ Ready mesh table sharding ⌝ }
+    ensures { λ r. ⌜ meaningAfter (table .rank) r
+        ≡ judgeStep (meshOf mesh) (sizesOf table) k (stepOf (table .rank) step) (shardingOf (table .rank) sharding) ⌝ }
+{
+    let verdict = judge_named(step, k, table.rank, mesh.n);
+    let Verdict::Fine = verdict else {
+        return After { verdict, sharding };
+    };
+    judge_kind(step, k, sharding, mesh, table)
+}

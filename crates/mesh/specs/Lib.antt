@@ -1,0 +1,2 @@
+-- What the contracts of the mesh's leaves ask for.
+pub mod Fitting

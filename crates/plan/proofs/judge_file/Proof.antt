@@ -1,0 +1,104 @@
+use borrow.Author.Needs.{needs}
+use Rattle.reader.proofs.Answers.{read-on, read-stopped}
+use Rattle.plan.proofs.Wholes.{
+  open-on,
+  open-stopped,
+  judges-refused,
+  ready,
+  front-stops,
+  walk-stops,
+  bytes-left,
+  judges-plan,
+}
+use Rattle.plan.proofs.judge_file.Statement.{statement}
+use Rattle.plan.proofs.judge_file.Tie as tie
+use Rattle.plan.proofs.judge_file.Reads as reads
+use Rattle.plan.proofs.judge_file.Lts as lts
+
+open-requires : tie.Need-open-requires
+open-requires c κs = search needs
+
+enum-known-next : tie.Need-enum-known-next
+enum-known-next c = search needs
+
+enum-told : tie.Need-enum-told
+enum-told c = search needs
+
+refusal-requires : tie.Need-refusal-requires
+refusal-requires c κs = search needs
+
+refused-requires : tie.Need-refused-requires
+refused-requires c κs = search needs
+
+returns : tie.Need-returns
+returns c =
+    let o = c .before .before .before .before .«open» .ensures in
+    judges-refused _ _ (c .refused .ensures) (front-stops _ (open-stopped _ (o .0) (c .before .before .enum-told .given .1) (c .before .refusal .ensures)))
+
+walk-steps-requires : tie.Need-walk-steps-requires
+walk-steps-requires c κs =
+    let n = c .before .before .before .before in
+    let o = n .before .before .«open» .ensures in
+    ready _ _ (o .0) (o .1) (n .next .given .1)
+
+enum-known-end : tie.Need-enum-known-end
+enum-known-end c = search needs
+
+enum-told-2 : tie.Need-enum-told-2
+enum-told-2 c = search needs
+
+refusal-requires-2 : tie.Need-refusal-requires-2
+refusal-requires-2 c κs = search needs
+
+refused-requires-2 : tie.Need-refused-requires-2
+refused-requires-2 c κs = search needs
+
+returns-2 : tie.Need-returns-2
+returns-2 c =
+    let w = c .before .before .before .before in
+    let n = w .before .before .before .before .before in
+    let o = n .before .before .«open» .ensures in
+    let f = open-on _ (o .0) (n .next .given .1) in
+    let stop = read-stopped _ (w .walk-steps .ensures) (c .before .before .enum-told2 .given .1) (c .before .refusal2 .ensures) in
+    judges-refused _ _ (c .refused2 .ensures) (walk-stops _ f (o .1 .steps-are _ f) stop)
+
+refused-requires-3 : tie.Need-refused-requires-3
+refused-requires-3 c κs = search needs
+
+returns-3 : tie.Need-returns-3
+returns-3 c =
+    let e = c .before .before .before in
+    let w = e .before .before in
+    let n = w .before .before .before .before .before in
+    let o = n .before .before .«open» .ensures in
+    let f = open-on _ (o .0) (n .next .given .1) in
+    let q = read-on _ (w .walk-steps .ensures) (e .end .given .1) in
+    judges-refused _ _ (c .refused3 .ensures) (bytes-left _ f (o .1 .steps-are _ f) q (c .before .if1 .taken))
+
+returns-4 : tie.Need-returns-4
+returns-4 c =
+    let e = c .before .before .before in
+    let w = e .before .before in
+    let n = w .before .before .before .before .before in
+    let o = n .before .before .«open» .ensures in
+    judges-plan _ _ _ (o .0) (o .1) (n .next .given .1) (w .walk-steps .ensures) (e .end .given .1) (c .before .if1 .left)
+
+pub judge-file-spec : {M : Type 1} → statement M
+judge-file-spec =
+    tie.close
+    (tie.spec
+    open-requires
+    enum-known-next
+    enum-told
+    refusal-requires
+    refused-requires
+    returns
+    walk-steps-requires
+    enum-known-end
+    enum-told-2
+    refusal-requires-2
+    refused-requires-2
+    returns-2
+    refused-requires-3
+    returns-3
+    returns-4)

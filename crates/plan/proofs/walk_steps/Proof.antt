@@ -1,0 +1,119 @@
+use Prim.Native.Nat.{ℕ, _-_, max}
+use borrow.Author.Needs.{needs}
+use mathlib.Core.Path.{sym, ap, _∙_}
+use native.Mathlib.Omega.{arith}
+use Rattle.rules.specs.Lists.{product}
+use Rattle.rules.specs.Types.{shardingOf}
+use Rattle.axes.specs.Mesh.{meshOf}
+use Rattle.dims.specs.Dims.{sizesOf}
+use Rattle.reader.proofs.Answers.{read-on, read-stopped}
+use Rattle.plan.proofs.Walks.{Walking, walking, halted, arrived, onward}
+use Rattle.plan.proofs.walk_steps.Statement.{statement}
+use Rattle.plan.proofs.walk_steps.Tie as tie
+use Rattle.plan.proofs.walk_steps.Reads as reads
+use Rattle.plan.proofs.walk_steps.Lts as lts
+
+abbrev Inv-loop : tie.InvT-loop
+Inv-loop file at count mesh table start sharding₀ most₀ place₀ k₀ sharding most place k =
+    Walking (meshOf mesh) (sizesOf table) file count at (shardingOf (table .rank) start) k place (shardingOf (table .rank) sharding) most
+
+abbrev μ-loop : tie.MeasureT-loop
+μ-loop file at count mesh table start sharding₀ most₀ place₀ k₀ sharding most place k = count - k
+
+shard-of-requires : tie.Need-shard-of-requires Inv-loop μ-loop
+shard-of-requires c κs = let f = c .before .pre .0 .fits in (f .rank, f .sized)
+
+words-requires : tie.Need-words-requires Inv-loop μ-loop
+words-requires c κs = let f = c .before .before .pre .0 .fits in omega (arith, f .rank, c .shard-of .ensures .0)
+
+loop-holds : tie.Need-loop-holds Inv-loop μ-loop
+loop-holds c =
+    let p = c .before .before .before .pre .0 in
+    walking _ _ _ _ _ _ _ (p .sound) (c .words .ensures ∙ ap product (c .before .shard-of .ensures .1))
+
+add-take-step : tie.Need-add-take-step Inv-loop μ-loop
+add-take-step c = omega arith
+
+cast-take-step : tie.Need-cast-take-step Inv-loop μ-loop
+cast-take-step c = let l = c .before .before .before .before .before .pre .1 in omega arith
+
+take-step-requires : tie.Need-take-step-requires Inv-loop μ-loop
+take-step-requires c κs =
+    record { fits = c .before .before .before .before .before .pre .0 .fits; sound = c .before .loop .inv .sound }
+
+enum-known-next : tie.Need-enum-known-next Inv-loop μ-loop
+enum-known-next c = search needs
+
+enum-told : tie.Need-enum-told Inv-loop μ-loop
+enum-told c = search needs
+
+refusal-requires : tie.Need-refusal-requires Inv-loop μ-loop
+refusal-requires c κs = search needs
+
+refused-requires : tie.Need-refused-requires Inv-loop μ-loop
+refused-requires c κs = search needs
+
+returns : tie.Need-returns Inv-loop μ-loop
+returns c =
+    let t = c .before .before .before .before in
+    let l = t .before .before in
+    let a = l .before .before .before .before .args in
+    let stop = read-stopped _ (t .take-step .ensures) (c .before .before .enum-told .given .1) (c .before .refusal .ensures) in
+    c .refused .ensures (a .table .rank) ∙ sym (halted _ _ _ (l .loop .inv) (t .before .loop-test .taken) stop)
+
+shard-of-requires-2 : tie.Need-shard-of-requires-2 Inv-loop μ-loop
+shard-of-requires-2 c κs =
+    let f = c .before .before .before .before .before .before .before .before .before .before .pre .0 .fits in
+    (f .rank, f .sized)
+
+words-requires-2 : tie.Need-words-requires-2 Inv-loop μ-loop
+words-requires-2 c κs =
+    let f = c .before .before .before .before .before .before .before .before .before .before .before .pre .0 .fits in
+    omega (arith, f .rank, c .shard-of2 .ensures .0)
+
+larger-requires : tie.Need-larger-requires Inv-loop μ-loop
+larger-requires c κs = search needs
+
+add-k : tie.Need-add-k Inv-loop μ-loop
+add-k c = omega arith
+
+loop-less : tie.Need-loop-less Inv-loop μ-loop
+loop-less c = omega arith
+
+loop-again : tie.Need-loop-again Inv-loop μ-loop
+loop-again c =
+    let n = c .before .before .before .before .before in
+    let t = n .before .before in
+    let l = t .before .before in
+    let f = l .before .before .before .before .pre .0 .fits in
+    let m = read-on _ (t .take-step .ensures) (n .next .given .1) in
+    let words = c .before .words2 .ensures ∙ ap product (c .before .before .shard-of2 .ensures .1) in
+    onward _ _ _ (l .loop .inv) (f .sized .least) (t .before .loop-test .taken) m _ (c .larger .ensures ∙ ap (max _) words)
+
+returns-2 : tie.Need-returns-2 Inv-loop μ-loop
+returns-2 c = sym (arrived _ _ _ (c .before .loop .inv) (c .loop-test .left))
+
+pub walk-steps-spec : {M : Type 1} → statement M
+walk-steps-spec =
+    tie.close
+    (tie.spec
+    Inv-loop
+    μ-loop
+    shard-of-requires
+    words-requires
+    loop-holds
+    add-take-step
+    cast-take-step
+    take-step-requires
+    enum-known-next
+    enum-told
+    refusal-requires
+    refused-requires
+    returns
+    shard-of-requires-2
+    words-requires-2
+    larger-requires
+    add-k
+    loop-less
+    loop-again
+    returns-2)

@@ -1,0 +1,2 @@
+-- What the answers of the check's parts stand for.
+pub mod Parts

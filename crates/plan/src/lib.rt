@@ -1,0 +1,457 @@
+// The check of a plan file: what stands before its steps, the steps in turn, and the answer.
+// Order and numbers are those of rules/specs/PlanFile.antt; specs/Parts.antt says what the parts answer.
+ghost use mathlib.Core.Path.{_≡_};
+ghost use Prim.Native.Nat.{ℕ, _+_, _≤_, _<_, max};
+ghost use lib.ListN.{length, take};
+ghost use Rattle.rules.specs.Lists.{product};
+ghost use Rattle.rules.specs.Limits.{mostSteps, mostDims};
+ghost use Rattle.rules.specs.Refusals.{accept, refuse, refusedBy};
+ghost use Rattle.rules.specs.PlanFile.{stepCount, judgeFront};
+ghost use Rattle.rules.specs.Types.{shardingOf};
+ghost use Rattle.rules.specs.Calls.{checkMeaning, checkOf};
+ghost use Rattle.reader.specs.Reading.{headerOf};
+ghost use Rattle.axes.specs.Mesh.{meshOf};
+ghost use Rattle.dims.specs.Dims.{sizesOf};
+ghost use Rattle.judge.specs.Step.{Ready};
+ghost use Rattle.plan.specs.Parts.{verdictRefusal, shapeAt, shapeRead, openRead, Counts, Opens, Counted, takeStep, takenRead, walkAt, walkRead, Judges, Bounded, answerOf, Blank};
+use axes::Mesh;
+use dims::shard_of;
+use dims::words;
+use judge::judge_step;
+use reader::Header;
+use reader::HeaderRead;
+use reader::Next;
+use reader::read_header;
+use reader::read_sharding;
+use reader::read_sizes;
+use reader::read_step;
+use reader::u16_at;
+use rules::Axis;
+use rules::CheckOutcome;
+use rules::Checked;
+use rules::Device;
+use rules::Dim;
+use rules::Kind;
+use rules::PlanFile;
+use rules::Reason;
+use rules::Refusal;
+use rules::Sharding;
+use rules::Step;
+use rules::Table;
+use rules::Totals;
+use start::Verdict;
+use start::judge_start;
+
+// The sizes of mesh and table, and where the next byte is.
+pub struct Shape {
+    pub next: Next,
+    pub devices: usize,
+    pub mesh: Mesh,
+    pub table: Table,
+}
+
+// What stands before the steps, and where they begin.
+pub struct Opening {
+    pub next: Next,
+    pub devices: usize,
+    pub steps: usize,
+    pub mesh: Mesh,
+    pub table: Table,
+    pub start: Sharding,
+}
+
+// A step that was read and judged, the sharding after it, and where the next byte is.
+pub struct Taken {
+    pub next: Next,
+    pub step: Step,
+    pub sharding: Sharding,
+}
+
+// The sharding after some steps, the most words that a shard had on the way, and where the next byte is.
+pub struct Walk {
+    pub next: Next,
+    pub most: usize,
+    pub sharding: Sharding,
+}
+
+fn refusal_of(verdict: Verdict) -> Refusal
+    ensures { λ r. ⌜ r ≡ verdictRefusal verdict ⌝ }
+{
+    match verdict {
+        Verdict::Fine => Refusal {
+            reason: Reason::CountOutsideLimits,
+            step: 0,
+        },
+        Verdict::Refused(r) => r,
+    }
+}
+
+impl Shape {
+    // Refused, for a mesh of n axes and a table of a rank.
+    fn refused(refusal: Refusal, n: usize, rank: usize) -> Shape
+        ensures { λ r. ⌜ (shapeRead r ≡ refusedBy refusal) × Counts n rank r ⌝ }
+    {
+        let mesh = Mesh {
+            n,
+            sizes: [1; Axis::MOST],
+        };
+        let table = Table {
+            rank,
+            sizes: [1; Dim::MOST],
+        };
+        Shape {
+            next: Next::Refused(refusal),
+            devices: 1,
+            mesh,
+            table,
+        }
+    }
+}
+
+// A table of the first sizes.
+fn table_of(rank: usize, sizes: [u16; Axis::MOST]) -> Table
+    requires { ⌜ rank ≤ mostDims ⌝ }
+    ensures { λ r. ⌜ (r .rank ≡ rank) × (sizesOf r ≡ take rank sizes) ⌝ }
+{
+    Table {
+        rank,
+        sizes: [sizes[0], sizes[1], sizes[2], sizes[3]],
+    }
+}
+
+// The mesh and the tensor sections.
+fn read_shape(file: &[u8], header: Header) -> Shape
+    requires { ⌜ headerOf (now file) ≡ accept header ⌝ }
+    ensures { λ r. ⌜ shapeRead r ≡ shapeAt (header .axes) (header .rank) (now (file .entry)) ⌝ }
+    ensures { λ r. ⌜ Counts (header .axes) (header .rank) r ⌝ }
+{
+    let n = header.axes;
+    let rank = header.rank;
+    let at = u16_at(file, 8);
+    let first = read_sizes(
+        file,
+        PlanFile::LEAST,
+        at,
+        n,
+        Device::MOST,
+        Reason::MeshSizeZero,
+        Reason::TooManyDevices,
+    );
+    let next = first.next;
+    let Next::At(place) = next else {
+        return Shape::refused(next.refusal(), n, rank);
+    };
+    let offset = u16_at(file, 10);
+    let second = read_sizes(
+        file,
+        place,
+        offset,
+        rank,
+        Table::MOST,
+        Reason::TensorSizeZero,
+        Reason::TooManyWords,
+    );
+    let last = second.next;
+    let Next::At(end) = last else {
+        return Shape::refused(last.refusal(), n, rank);
+    };
+    let devices = first.product;
+    let sizes = first.sizes;
+    let tensor = second.sizes;
+    let table = table_of(rank, tensor);
+    Shape {
+        next: Next::At(end),
+        devices,
+        mesh: Mesh { n, sizes },
+        table,
+    }
+}
+
+impl Opening {
+    fn refused(refusal: Refusal) -> Opening
+        ensures { λ r. ⌜ openRead r ≡ refusedBy refusal ⌝ }
+    {
+        let none = Shape::refused(refusal, 0, 0);
+        let mesh = none.mesh;
+        let table = none.table;
+        let start = Sharding::replicated();
+        Opening {
+            next: Next::Refused(refusal),
+            devices: 1,
+            steps: 0,
+            mesh,
+            table,
+            start,
+        }
+    }
+}
+
+// The sharding section, the steps' offset, and the judgement of the start.
+fn open_with(file: &[u8], header: Header, shape: Shape, at: usize) -> Opening
+    requires { ⌜ Opens (now file) header shape at ⌝ }
+    ensures { λ r. ⌜ openRead r ≡ judgeFront (now (file .entry)) ⌝ }
+    ensures { λ r. ⌜ Counted (now (file .entry)) r ⌝ }
+{
+    let mesh = shape.mesh;
+    let table = shape.table;
+    let n = mesh.n;
+    let rank = table.rank;
+    let offset = u16_at(file, 12);
+    let read = read_sharding(file, at, n, rank, offset);
+    let next = read.next;
+    let Next::At(end) = next else {
+        return Opening::refused(next.refusal());
+    };
+    if u16_at(file, 14) != end {
+        return Opening::refused(Refusal {
+            reason: Reason::WrongOffset,
+            step: 0,
+        });
+    }
+    let start = read.sharding;
+    let verdict = judge_start(start, mesh, table);
+    let Verdict::Fine = verdict else {
+        return Opening::refused(refusal_of(verdict));
+    };
+    Opening {
+        next: Next::At(end),
+        devices: shape.devices,
+        steps: header.steps,
+        mesh,
+        table,
+        start,
+    }
+}
+
+// What stands before the steps.
+pub fn open(file: &[u8]) -> Opening
+    ensures { λ r. ⌜ openRead r ≡ judgeFront (now (file .entry)) ⌝ }
+    ensures { λ r. ⌜ Counted (now (file .entry)) r ⌝ }
+{
+    let read = read_header(file);
+    let HeaderRead::Is(header) = read else {
+        return Opening::refused(read.refusal());
+    };
+    let shape = read_shape(file, header);
+    let next = shape.next;
+    let Next::At(at) = next else {
+        return Opening::refused(next.refusal());
+    };
+    open_with(file, header, shape, at)
+}
+
+impl Taken {
+    fn refused(refusal: Refusal, step: Step, sharding: Sharding) -> Taken
+        ensures { λ r. ⌜ ((rank : ℕ) → takenRead rank r ≡ refusedBy refusal) ⌝ }
+    {
+        Taken {
+            next: Next::Refused(refusal),
+            step,
+            sharding,
+        }
+    }
+}
+
+// Step k, read and judged.
+pub fn take_step(
+    file: &[u8],
+    at: usize,
+    k: u16,
+    mesh: Mesh,
+    table: Table,
+    sharding: Sharding,
+) -> Taken
+    requires { ⌜ Ready mesh table sharding ⌝ }
+    ensures { λ r. ⌜ takenRead (table .rank) r ≡ takeStep (meshOf mesh) (sizesOf table) k (now (file .entry)) at (shardingOf (table .rank) sharding) ⌝ }
+{
+    let read = read_step(file, at, mesh.n, table.rank, k);
+    let next = read.next;
+    let step = read.step;
+    let Next::At(end) = next else {
+        return Taken::refused(next.refusal(), step, sharding);
+    };
+    let judged = judge_step(step, k, sharding, mesh, table);
+    let verdict = judged.verdict;
+    let Verdict::Fine = verdict else {
+        return Taken::refused(refusal_of(verdict), step, sharding);
+    };
+    let after = judged.sharding;
+    Taken {
+        next: Next::At(end),
+        step,
+        sharding: after,
+    }
+}
+
+fn larger(a: usize, b: usize) -> usize
+    ensures { λ r. ⌜ r ≡ max a b ⌝ }
+{
+    if a < b { b } else { a }
+}
+
+impl Walk {
+    fn refused(refusal: Refusal, sharding: Sharding) -> Walk
+        ensures { λ r. ⌜ ((rank : ℕ) → walkRead rank r ≡ refusedBy refusal) ⌝ }
+    {
+        Walk {
+            next: Next::Refused(refusal),
+            most: 0,
+            sharding,
+        }
+    }
+}
+
+// So many steps in turn, from the start.
+pub fn walk_steps(
+    file: &[u8],
+    at: usize,
+    count: usize,
+    mesh: Mesh,
+    table: Table,
+    start: Sharding,
+) -> Walk
+    requires { ⌜ Ready mesh table start × (count ≤ mostSteps) ⌝ }
+    ensures { λ r. ⌜ walkRead (table .rank) r ≡ walkAt (meshOf mesh) (sizesOf table) count (now (file .entry)) at (shardingOf (table .rank) start) ⌝ }
+{
+    let mut sharding = start;
+    let mut most = words(shard_of(table, start, mesh));
+    let mut place = at;
+    let mut k: usize = 0;
+    while k < count {
+        let taken = take_step(file, place, (k + 1) as u16, mesh, table, sharding);
+        let next = taken.next;
+        let Next::At(end) = next else {
+            return Walk::refused(next.refusal(), start);
+        };
+        sharding = taken.sharding;
+        most = larger(most, words(shard_of(table, sharding, mesh)));
+        place = end;
+        k += 1;
+    }
+    Walk {
+        next: Next::At(place),
+        most,
+        sharding,
+    }
+}
+
+// A file that was judged whole: what stands before its steps, where these begin, the most words of a shard, and the last sharding.
+pub struct Whole {
+    pub next: Next,
+    pub devices: usize,
+    pub steps: usize,
+    pub most: usize,
+    pub mesh: Mesh,
+    pub table: Table,
+    pub start: Sharding,
+    pub last: Sharding,
+}
+
+impl Whole {
+    fn refused(refusal: Refusal) -> Whole
+        ensures { λ r. ⌜ r .next ≡ Next.Refused refusal ⌝ }
+    {
+        let none = Opening::refused(refusal);
+        let mesh = none.mesh;
+        let table = none.table;
+        let start = none.start;
+        Whole {
+            next: Next::Refused(refusal),
+            devices: 1,
+            steps: 0,
+            most: 0,
+            mesh,
+            table,
+            start,
+            last: start,
+        }
+    }
+}
+
+// The whole file.
+pub fn judge_file(file: &[u8]) -> Whole
+    ensures { λ r. ⌜ Judges (now (file .entry)) r ⌝ }
+{
+    let opening = open(file);
+    let next = opening.next;
+    let Next::At(at) = next else {
+        return Whole::refused(next.refusal());
+    };
+    let devices = opening.devices;
+    let steps = opening.steps;
+    let mesh = opening.mesh;
+    let table = opening.table;
+    let start = opening.start;
+    let walk = walk_steps(file, at, steps, mesh, table, start);
+    let end = walk.next;
+    let Next::At(place) = end else {
+        return Whole::refused(end.refusal());
+    };
+    if place != file.len() {
+        return Whole::refused(Refusal {
+            reason: Reason::BytesLeft,
+            step: 0,
+        });
+    }
+    let most = walk.most;
+    let last = walk.sharding;
+    Whole {
+        next: Next::At(at),
+        devices,
+        steps,
+        most,
+        mesh,
+        table,
+        start,
+        last,
+    }
+}
+
+// No lists and no sizes, beside a refusal.
+fn refused(refusal: Refusal) -> Checked
+    ensures { λ r. ⌜ (checkMeaning r ≡ refusedBy refusal) × Blank (r .sharding) (r .shard) ⌝ }
+{
+    let sharding = Sharding::replicated();
+    Checked {
+        outcome: CheckOutcome::Refused(refusal),
+        sharding,
+        shard: [0; Dim::MOST],
+    }
+}
+
+// The answer for a plan that passed.
+fn passed(whole: Whole) -> Checked
+    requires { ⌜ Bounded whole ⌝ }
+    ensures { λ r. ⌜ checkMeaning r ≡ accept (answerOf whole) ⌝ }
+{
+    let mesh = whole.mesh;
+    let table = whole.table;
+    let sharding = whole.last;
+    let shard = shard_of(table, sharding, mesh);
+    let sizes = shard.sizes;
+    let room = whole.devices * whole.most;
+    let totals = Totals {
+        room: room as u32,
+        devices: whole.devices as u16,
+        steps: whole.steps as u16,
+        rank: table.rank,
+    };
+    Checked {
+        outcome: CheckOutcome::Passed(totals),
+        sharding,
+        shard: sizes,
+    }
+}
+
+// The check: the room, D, the number of steps, the rank, the final sharding and its shard sizes, or the refusal.
+pub fn check(file: &[u8]) -> Checked
+    ensures { λ r. ⌜ checkMeaning r ≡ checkOf (now (file .entry)) ⌝ }
+    ensures { λ r. ⌜ ((n k : ℕ) → checkOf (now (file .entry)) ≡ refuse n k → Blank (r .sharding) (r .shard)) ⌝ }
+{
+    let whole = judge_file(file);
+    let next = whole.next;
+    let Next::At(_) = next else {
+        return refused(next.refusal());
+    };
+    passed(whole)
+}

@@ -1,0 +1,146 @@
+// The judgement of axes in turn and of a starting sharding. Order and numbers are those of Rattle.rules.specs.PlanFile.
+ghost use mathlib.Core.Path.{_≡_};
+ghost use mathlib.Core.Bool.{false};
+ghost use mathlib.Core.List.{List, []};
+ghost use Prim.Native.Nat.{ℕ, _+_, _≤_};
+ghost use lib.ListN.{take};
+ghost use Rattle.rules.specs.Lists.{flat, pick};
+ghost use Rattle.rules.specs.Limits.{mostAxes, mostDims};
+ghost use Rattle.rules.specs.Refusals.{refuse, numberOf};
+ghost use Rattle.rules.specs.PlanFile.{judgeAxes, judgeStart};
+ghost use Rattle.rules.specs.Types.{axesOf, dimsOf, shardingOf};
+ghost use Rattle.axes.specs.Mesh.{meshOf};
+ghost use Rattle.axes.specs.Marks.{StandFor};
+ghost use Rattle.dims.specs.Dims.{sizesOf};
+ghost use Rattle.start.specs.Start.{meaning, judgeAxis, Fits};
+use axes::Marks;
+use axes::Mesh;
+use dims::divisible;
+use dims::mark_dims;
+use rules::Axis;
+use rules::AxisList;
+use rules::Dim;
+use rules::Reason;
+use rules::Refusal;
+use rules::Sharding;
+use rules::Table;
+
+pub enum Verdict {
+    Fine,
+    Refused(Refusal),
+}
+
+// The refusal of a reason.
+pub fn refused(reason: Reason, step: u16) -> Verdict
+    ensures { λ r. ⌜ meaning r ≡ refuse (numberOf reason) step ⌝ }
+{
+    Verdict::Refused(Refusal { reason, step })
+}
+
+// One axis of a starting sharding: 14, 15, 16.
+fn judge_axis(a: Axis, n: usize, low: usize, marks: Marks) -> Verdict
+    requires { ⌜ n ≤ mostAxes ⌝ }
+    ensures { λ r. ⌜ ((before : List ℕ) → StandFor marks before → meaning r ≡ judgeAxis n low before (a .0)) ⌝ }
+{
+    let i = a.0 as usize;
+    let past = n <= i;
+    let again = marks.has(a);
+    if past {
+        return refused(Reason::StartAxisTooLarge, 0);
+    }
+    if again {
+        return refused(Reason::StartAxisRepeated, 0);
+    }
+    if i < low {
+        return refused(Reason::StartNotIncreasing, 0);
+    }
+    Verdict::Fine
+}
+
+fn next_low(increasing: bool, a: Axis) -> usize
+    ensures { λ r. ⌜ r ≡ pick increasing (a .0 + 1) 0 ⌝ }
+{
+    if increasing { a.0 as usize + 1 } else { 0 }
+}
+
+// The axes of a list in turn, after the marked ones.
+pub fn judge_list(list: AxisList, n: usize, increasing: bool, marks: Marks) -> Verdict
+    requires { ⌜ n ≤ mostAxes ⌝ }
+    ensures { λ r. ⌜ ((before : List ℕ) → StandFor marks before → meaning r ≡ judgeAxes n increasing 0 before (axesOf list)) ⌝ }
+{
+    let count = list.len();
+    let mut named = marks;
+    let mut low: usize = 0;
+    let mut i: usize = 0;
+    while i < count {
+        let axis = list.at(i);
+        let verdict = judge_axis(axis, n, low, named);
+        let Verdict::Fine = verdict else {
+            return verdict;
+        };
+        named = named.with(axis);
+        low = next_low(increasing, axis);
+        i += 1;
+    }
+    Verdict::Fine
+}
+
+// The axes of a lent list in turn, as the group listing names them.
+pub fn judge_axes(axes: &[u8], n: usize) -> Verdict
+    requires { ⌜ n ≤ mostAxes ⌝ }
+    ensures { λ r. ⌜ meaning r ≡ judgeAxes n false 0 [] (now (axes .entry)) ⌝ }
+{
+    let mut named = Marks::none();
+    let mut i: usize = 0;
+    while i < axes.len() {
+        let axis = Axis(axes[i]);
+        let verdict = judge_axis(axis, n, 0, named);
+        let Verdict::Fine = verdict else {
+            return verdict;
+        };
+        named = named.with(axis);
+        i += 1;
+    }
+    Verdict::Fine
+}
+
+// The axes of the dimensions' lists in turn, after the marked ones.
+pub fn judge_dims(lists: Sharding, rank: usize, n: usize, marks: Marks) -> Verdict
+    requires { ⌜ (rank ≤ mostDims) × (n ≤ mostAxes) ⌝ }
+    ensures { λ r. ⌜ ((before : List ℕ) → StandFor marks before → meaning r ≡ judgeAxes n false 0 before (flat (take rank (dimsOf lists)))) ⌝ }
+{
+    let mut named = marks;
+    let mut d: usize = 0;
+    while d < rank {
+        let list = lists.list(Dim(d as u8));
+        let verdict = judge_list(list, n, false, named);
+        let Verdict::Fine = verdict else {
+            return verdict;
+        };
+        named = named.with_list(list);
+        d += 1;
+    }
+    Verdict::Fine
+}
+
+// A starting sharding: its axes in file order, then 17.
+pub fn judge_start(sharding: Sharding, mesh: Mesh, table: Table) -> Verdict
+    requires { ⌜ Fits mesh table ⌝ }
+    ensures { λ r. ⌜ meaning r ≡ judgeStart (meshOf mesh) (sizesOf table) (shardingOf (table .rank) sharding) ⌝ }
+{
+    let none = Marks::none();
+    let dims = judge_dims(sharding, table.rank, mesh.n, none);
+    let Verdict::Fine = dims else {
+        return dims;
+    };
+    let sharded = mark_dims(sharding, table.rank, none);
+    let unreduced = sharding.unreduced;
+    let last = judge_list(unreduced, mesh.n, true, sharded);
+    let Verdict::Fine = last else {
+        return last;
+    };
+    if !divisible(table, sharding, mesh) {
+        return refused(Reason::StartNotDivisible, 0);
+    }
+    Verdict::Fine
+}
