@@ -4,13 +4,14 @@ use Prim.Native.Nat.{ℕ, _+_, _*_, _≤_}
 use mathlib.Core.Path.{_≡_}
 use mathlib.Core.List.{List, []}
 use lib.ListN.{length, take, replicate}
+use lib.Dec.{leb}
 use Rattle.rules.specs.Lists.{tab, inTurn, product, largest}
 use Rattle.rules.specs.Mesh.{devices}
 use Rattle.rules.specs.Sharding.{Sharding, shardSizes}
 use Rattle.rules.specs.Collectives.{Step, after}
 use Rattle.rules.specs.Limits.{mostDevices, mostWords, mostDims, mostSteps}
-use Rattle.rules.specs.Refusals.{Judged, accept, _>>=_, refusedBy}
-use Rattle.rules.specs.PlanFile.{Read, meshOffset, tensorOffset, stepCount, sizesAt, stepAt, judgeStep, stepsAt, Front, judgeFront, Plan, judge, announced, room}
+use Rattle.rules.specs.Refusals.{Judged, accept, _>>=_, _>>_, need, refusedBy}
+use Rattle.rules.specs.PlanFile.{Read, meshOffset, tensorOffset, stepCount, sizesAt, stepAt, judgeStep, stepsAt, Front, judgeFront, Plan, judge, announced, announcedShape, room}
 use Rattle.rules.specs.Types.{axesOf, dimsOf, shardingOf, stepOf}
 use Rattle.rules.specs.Calls.{CheckAnswer}
 use Rattle.rules.specs.declared.Sharding as code
@@ -31,6 +32,7 @@ use Rattle.plan.specs.declared.Opening.{Opening}
 use Rattle.plan.specs.declared.Taken.{Taken}
 use Rattle.plan.specs.declared.Walk.{Walk}
 use Rattle.plan.specs.declared.Whole.{Whole}
+use Rattle.plan.specs.declared.State.{State}
 
 -- the refusal of a verdict
 abbrev pub verdictRefusal : Verdict → Refusal
@@ -174,3 +176,42 @@ pub record Blank (s : code.Sharding) (shard : List ℕ) : Type 0 where
   pub dims : dimsOf s ≡ replicate mostDims []
   pub unreduced : axesOf (s .unreduced) ≡ []
   pub sizes : shard ≡ replicate mostDims 0
+
+-- ---- a state
+
+-- the announced sharding and shard sizes after k steps
+pub record StateAnswer : Type 0 where
+  pub devices : ℕ
+  pub mesh : List ℕ
+  pub sizes : List ℕ
+  pub rank : ℕ
+  pub sharding : Sharding
+  pub shard : List ℕ
+
+unfoldable pub stateOf : List ℕ → ℕ → Judged StateAnswer
+unfolding judge announced announcedShape
+stateOf file k = do
+  p ← judge file
+  need (leb k (length (p .steps))) 34
+  accept (record {
+    devices = devices (p .mesh);
+    mesh = p .mesh;
+    sizes = p .sizes;
+    rank = length (p .sizes);
+    sharding = announced p k;
+    shard = announcedShape p k;
+  })
+
+abbrev pub stateBy : Next → State → Judged StateAnswer
+stateBy (next.At k) r = accept (record {
+  devices = r .devices;
+  mesh = meshOf (r .mesh);
+  sizes = sizesOf (r .table);
+  rank = r .table .rank;
+  sharding = shardingOf (r .table .rank) (r .sharding);
+  shard = sizesOf (r .shard);
+})
+stateBy (next.Refused x) r = refusedBy x
+
+abbrev pub stateMeaning : State → Judged StateAnswer
+stateMeaning r = stateBy (r .next) r

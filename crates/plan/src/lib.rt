@@ -13,7 +13,7 @@ ghost use Rattle.reader.specs.Reading.{headerOf};
 ghost use Rattle.axes.specs.Mesh.{meshOf};
 ghost use Rattle.dims.specs.Dims.{sizesOf};
 ghost use Rattle.judge.specs.Step.{Ready};
-ghost use Rattle.plan.specs.Parts.{verdictRefusal, shapeAt, shapeRead, openRead, Counts, Opens, Counted, takeStep, takenRead, walkAt, walkRead, Judges, Bounded, answerOf, Blank};
+ghost use Rattle.plan.specs.Parts.{verdictRefusal, shapeAt, shapeRead, openRead, Counts, Opens, Counted, takeStep, takenRead, walkAt, walkRead, Judges, Bounded, answerOf, Blank, stateOf, stateMeaning};
 use axes::Mesh;
 use dims::shard_of;
 use dims::words;
@@ -454,4 +454,61 @@ pub fn check(file: &[u8]) -> Checked
         return refused(next.refusal());
     };
     passed(whole)
+}
+
+// A state of a plan that passed: mesh and table, the announced sharding and shard sizes.
+pub struct State {
+    pub next: Next,
+    pub devices: usize,
+    pub mesh: Mesh,
+    pub table: Table,
+    pub sharding: Sharding,
+    pub shard: Table,
+}
+
+impl State {
+    fn refused(refusal: Refusal) -> State
+        ensures { λ r. ⌜ stateMeaning r ≡ refusedBy refusal ⌝ }
+    {
+        let none = Opening::refused(refusal);
+        let mesh = none.mesh;
+        let table = none.table;
+        let sharding = none.start;
+        State {
+            next: Next::Refused(refusal),
+            devices: 1,
+            mesh,
+            table,
+            sharding,
+            shard: table,
+        }
+    }
+}
+
+// What the plan announces after so many steps; 34 where it has fewer.
+pub fn state_after(file: &[u8], state: usize) -> State
+    ensures { λ r. ⌜ stateMeaning r ≡ stateOf (now (file .entry)) state ⌝ }
+{
+    let whole = judge_file(file);
+    let next = whole.next;
+    let Next::At(at) = next else {
+        return State::refused(next.refusal());
+    };
+    if whole.steps < state {
+        let reason = Reason::NoSuchState;
+        return State::refused(Refusal { reason, step: 0 });
+    }
+    let mesh = whole.mesh;
+    let table = whole.table;
+    let walk = walk_steps(file, at, state, mesh, table, whole.start);
+    let sharding = walk.sharding;
+    let shard = shard_of(table, sharding, mesh);
+    State {
+        next,
+        devices: whole.devices,
+        mesh,
+        table,
+        sharding,
+        shard,
+    }
 }

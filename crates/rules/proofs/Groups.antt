@@ -137,7 +137,7 @@ span-all (n ∷ ns) = span-cons n ns (length ns) ∙ ap (λ (s : ℕ). n * s) (s
 
 -- ---- the listing
 
-tab-add : {A : Type 0} (n m : ℕ) (f : ℕ → A) → tab (n + m) f ≡ tab n f ++ tab m (λ k. f (n + k))
+pub tab-add : {A : Type 0} (n m : ℕ) (f : ℕ → A) → tab (n + m) f ≡ tab n f ++ tab m (λ k. f (n + k))
 tab-add n zero f = ap (λ (k : ℕ). tab k f) (add-zero n) ∙ sym (append-nil (tab n f))
 tab-add {A} n (suc m) f =
     ap (λ (k : ℕ). tab k f) (add-suc n m) ∙ ap (λ (l : List A). l ++ f (n + m) ∷ []) (tab-add n m f)

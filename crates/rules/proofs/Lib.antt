@@ -6,6 +6,7 @@ pub mod Buffers
 pub mod Groups
 pub mod Shapes
 pub mod Sizes
+pub mod Fronts
 pub mod Sums
 pub mod Sources
 pub mod Spreads

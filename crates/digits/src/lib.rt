@@ -1,0 +1,131 @@
+// The set-up of a step's digits: the strides of the devices, and the digits of a group's axes and of all devices.
+// Digits are written from the end of a slice to its front. specs/Digits.antt says what they are.
+use rules;
+ghost use mathlib.Core.Path.{_≡_};
+ghost use mathlib.Core.List.{_∷_};
+ghost use Prim.Native.Nat.{_+_, _-_, _*_, _≤_, _<_};
+ghost use lib.ListN.{length, getD, drop};
+ghost use Rattle.rules.specs.Lists.{product};
+ghost use Rattle.rules.specs.Mesh.{span};
+ghost use Rattle.rules.specs.Types.{axesOf};
+ghost use Rattle.digits.specs.Digits.{strides, cleared, axisDigits, meshDigits, Sizes, Members, Shards, Axes, Devices};
+
+// The axis at a place of a list.
+pub fn axis_at(axes: rules::AxisList, i: usize) -> usize
+    ensures { λ r. ⌜ r ≡ getD (axesOf axes) i 0 ⌝ }
+{
+    let a = axes.at(i);
+    a.0 as usize
+}
+
+// The size of an axis of the mesh.
+pub fn size_at(mesh: &[u16], a: usize) -> usize
+    requires { ⌜ a < length (now mesh) ⌝ }
+    ensures { λ r. ⌜ r ≡ getD (now (mesh .entry)) a 1 ⌝ }
+{
+    mesh[a] as usize
+}
+
+// The product of the sizes.
+pub fn product_of(sizes: &[u16]) -> usize
+    requires { ⌜ Sizes (now sizes) ⌝ }
+    ensures { λ r. ⌜ r ≡ product (now (sizes .entry)) ⌝ }
+{
+    let mut i = sizes.len();
+    let mut words: usize = 1;
+    while 0 < i {
+        i -= 1;
+        words = size_at(sizes, i) * words;
+    }
+    words
+}
+
+// The number of devices of a group.
+pub fn span_of(mesh: &[u16], axes: rules::AxisList) -> usize
+    requires { ⌜ Members (now mesh) (axesOf axes) ⌝ }
+    ensures { λ r. ⌜ r ≡ span (now (mesh .entry)) (axesOf axes) ⌝ }
+{
+    let mut i = axes.len();
+    let mut count: usize = 1;
+    while 0 < i {
+        i -= 1;
+        let a = axis_at(axes, i);
+        count = size_at(mesh, a) * count;
+    }
+    count
+}
+
+// The strides of the devices, for shards of m words.
+pub fn fill_strides(zs: &mut [usize], mesh: &[u16], m: usize)
+    requires { ⌜ Shards (now zs) (now mesh) m ⌝ }
+    ensures { λ _. ⌜ now (zs .exit) ≡ strides (now (mesh .entry)) m ⌝ }
+{
+    let mut words = m;
+    let mut i = mesh.len();
+    while 0 < i {
+        i -= 1;
+        zs[i] = words;
+        words = size_at(mesh, i) * words;
+    }
+}
+
+// Stores one digit.
+pub fn put_digit(digits: &mut [usize], first: usize, size: usize, words: usize, stride: usize)
+    requires { ⌜ first + 3 ≤ length (now digits) ⌝ }
+    ensures { λ _. ⌜ drop first (now (digits .exit)) ≡ size ∷ words ∷ stride ∷ drop (first + 3) (now (digits .entry)) ⌝ }
+{
+    let second = first + 1;
+    let third = first + 2;
+    digits[first] = size;
+    digits[second] = words;
+    digits[third] = stride;
+}
+
+// The digits of a list of axes, before those at end; their strides are cleared. Answers the words that all these digits count.
+pub fn axis_digits(
+    digits: &mut [usize],
+    zs: &mut [usize],
+    mesh: &[u16],
+    axes: rules::AxisList,
+    end: usize,
+    words: usize,
+) -> usize
+    requires { ⌜ Axes (now digits) (now zs) (now mesh) (axesOf axes) end words ⌝ }
+    ensures { λ r. ⌜ r ≡ span (now (mesh .entry)) (axesOf axes) * words ⌝ }
+    ensures { λ r. ⌜ drop (end - 3 * length (axesOf axes)) (now (digits .exit)) ≡ axisDigits (now (mesh .entry)) (axesOf axes)
+        (now (zs .entry)) (drop end (now (digits .entry))) ⌝ }
+    ensures { λ r. ⌜ now (zs .exit) ≡ cleared (axesOf axes) (now (zs .entry)) ⌝ }
+{
+    let mut first = end;
+    let mut count = words;
+    let mut i = axes.len();
+    while 0 < i {
+        i -= 1;
+        first -= 3;
+        let a = axis_at(axes, i);
+        let size = size_at(mesh, a);
+        let stride = zs[a];
+        put_digit(digits, first, size, count, stride);
+        zs[a] = 0;
+        count = size * count;
+    }
+    count
+}
+
+// The digits of all devices, before those at end.
+pub fn mesh_digits(digits: &mut [usize], zs: &[usize], mesh: &[u16], end: usize, words: usize)
+    requires { ⌜ Devices (now digits) (now zs) (now mesh) end words ⌝ }
+    ensures { λ _. ⌜ drop (end - 3 * length (now (mesh .entry))) (now (digits .exit)) ≡ meshDigits (now (mesh .entry)) (now (zs .entry)) (drop end
+        (now (digits .entry))) ⌝ }
+{
+    let mut first = end;
+    let mut count = words;
+    let mut i = mesh.len();
+    while 0 < i {
+        i -= 1;
+        first -= 3;
+        let size = size_at(mesh, i);
+        put_digit(digits, first, size, count, zs[i]);
+        count = size * count;
+    }
+}

@@ -1,0 +1,119 @@
+use native.Mathlib.Omega.{arith}
+use Prim.Native.Nat.{_-_, _*_}
+use mathlib.Core.Path.{refl, _∙_}
+use lib.ListN.{length}
+use denote.Ref.{now}
+use Rattle.rules.specs.Lists.{product}
+use Rattle.digits.specs.Digits.{strides, Devices}
+use Rattle.moves.specs.Moves.{lists, movedShape, DimensionsAt}
+use Rattle.moves.proofs.Whole.{shape-asked, strides-asked, dims-asked, adding-asked, mesh-asked, digits-are}
+use Rattle.moves.proofs.make_digits.Statement.{statement}
+use Rattle.moves.proofs.make_digits.Tie as tie
+
+-- the places behind each call, from the last one back
+abbrev filled : tie.After-fill-strides → tie.Start
+filled c = c .before .before .before .before .before .before .before .before
+
+abbrev shaped : tie.After-shape-digits → tie.After-fill-strides
+shaped c = c .before .before .before .before .before .before
+
+abbrev added : tie.After-add-strides → tie.After-shape-digits
+added c = c .before .before .before .before .before .before .before .before .before
+
+abbrev made : tie.After-mesh-digits → tie.After-add-strides
+made c = c .before .before .before .before .before
+
+product-of-requires : tie.Need-product-of-requires
+product-of-requires c κs = shape-asked (c .before .before .before .before .before .pre)
+
+fill-strides-requires : tie.Need-fill-strides-requires
+fill-strides-requires c κs = rw (c .before .product-of .ensures) (strides-asked (c .before .before .before .before .before .before .before .pre))
+
+shape-digits-requires : tie.Need-shape-digits-requires
+shape-digits-requires c κs =
+    let f = c .before .before .before .before .before in
+    let s = filled f in
+    rw (f .fill-strides .ensures, f .before .before .product-of .ensures)
+    (dims-asked (s .pre) (strides (now (s .args .mesh)) (product (now (s .args .shape)))) refl)
+
+-- the digits of the dimensions
+dims : (c : tie.After-shape-digits)
+    → (let s = filled (shaped c) in
+    let mesh = now (s .args .mesh) in
+    let shape = now (s .args .shape) in
+    let Gs = lists shape (s .args .gathers) in
+    let Ss = lists shape (s .args .slices) in
+    let r = c .shape-digits in
+    DimensionsAt mesh shape Gs Ss (strides mesh (product shape)) (now (s .args .ys)) (r .last .0) (r .last .1 .0) (r .last .1 .1 .0) (r .result)
+    (product (movedShape mesh shape Gs Ss)) (product shape) 0)
+dims c =
+    rw (
+      c .before .before .before .before .before .before .fill-strides .ensures,
+      c .before .before .before .before .before .before .before .before .product-of .ensures,
+    ) at (c .shape-digits .ensures)
+
+ready : (c : tie.After-add-strides)
+    → (let x = added c in
+    let s = filled (shaped x) in
+    Devices (x .shape-digits .last .0) (c .add-strides .last .0) (now (s .args .mesh)) (x .shape-digits .result) (s .args .words))
+ready c =
+    let x = added c in
+    mesh-asked (filled (shaped x) .pre) (dims x) (c .add-strides .last .0) (c .add-strides .kept .0) (x .shape-digits .kept .0)
+
+add-strides-requires : tie.Need-add-strides-requires
+add-strides-requires c κs =
+    let x = c .before .before .before .before .before .before .before .before in
+    adding-asked (filled (shaped x) .pre) (dims x) (x .shape-digits .kept .1 .1 .0)
+
+mesh-digits-requires : tie.Need-mesh-digits-requires
+mesh-digits-requires c κs = ready (c .before .before .before .before)
+
+mul-result : tie.Need-mul-result
+mul-result c =
+    let a = made (c .before .before) in
+    let x = added a in
+    let u = ready a in
+    omega (arith, u .front .room, u .front .inside, x .shape-digits .kept .0, filled (shaped x) .pre .room)
+
+sub-result : tie.Need-sub-result
+sub-result c = omega (arith, ready (made (c .before .before)) .front .room)
+
+same-length : tie.Need-same-length
+same-length c = c .before .before .mesh-digits .kept .0 ∙ added (made (c .before .before)) .shape-digits .kept .0
+
+same-length-2 : tie.Need-same-length-2
+same-length-2 c =
+    let a = made (c .before .before) in
+    let x = added a in
+    a .add-strides .kept .0 ∙ x .shape-digits .kept .1 .0 ∙ shaped x .fill-strides .kept .0
+
+same-length-3 : tie.Need-same-length-3
+same-length-3 c = added (made (c .before .before)) .shape-digits .kept .1 .1 .0
+
+returns : tie.Need-returns
+returns c =
+    let m = c .before .before in
+    let a = made m in
+    let x = added a in
+    let s = filled (shaped x) in
+    let first = x .shape-digits .result - 3 * length (now (s .args .mesh)) in
+    let u = ready a in (
+      omega (arith, u .front .inside, x .shape-digits .kept .0, s .pre .room),
+      digits-are (s .pre) (dims x) (m .mesh-digits .last .0) first (rw (a .add-strides .ensures) at (m .mesh-digits .ensures)),
+    )
+
+pub make-digits-spec : {M : Type 1} → statement M
+make-digits-spec =
+    tie.close
+    (tie.spec
+    product-of-requires
+    fill-strides-requires
+    shape-digits-requires
+    add-strides-requires
+    mesh-digits-requires
+    mul-result
+    sub-result
+    same-length
+    same-length-2
+    same-length-3
+    returns)

@@ -1,0 +1,129 @@
+use borrow.Author.Needs.{needs}
+use native.Mathlib.Omega.{arith}
+use Prim.Native.Nat.{_≤_, _+_, _-_, _*_}
+use mathlib.Core.Path.{_≡_, ap, ap₂, _∙_}
+use mathlib.Core.List.{_++_}
+use lib.ListN.{length, take, drop}
+use denote.Ref.{now}
+use borrow.Rule.Slice.PartMut.{same-len-mid}
+use Rattle.rules.specs.Lists.{product}
+use Rattle.rules.proofs.Fronts.{tail-all, lent-length, lent-put}
+use Rattle.moves.specs.Moves.{lists, stepDigits}
+use Rattle.moves.proofs.Whole.{mesh-sizes, copy-asked, copy-leaves}
+use Rattle.moves.proofs.move_with.Statement.{statement}
+use Rattle.moves.proofs.move_with.Tie as tie
+
+-- the places behind each call, from the last one back
+abbrev made : tie.After-make-digits → tie.Start
+made c = c .before .before .before .before .before .before .before .before .before .before .before
+
+abbrev counted : tie.After-product-of → tie.After-make-digits
+counted c = c .before .before .before .before .before .before .before
+
+abbrev copied : tie.After-copy-strided → tie.After-product-of
+copied c = c .before .before .before .before
+
+make-digits-requires : tie.Need-make-digits-requires
+make-digits-requires c κs = search needs
+
+product-of-requires : tie.Need-product-of-requires
+product-of-requires c κs = mesh-sizes (made (c .before .before .before .before .before .before) .pre .0)
+
+-- the words of the new state, and that they have room
+all-words : (c : tie.After-product-of)
+    → (let s = made (counted c) in c .product-of .result * s .args .words ≡ product (now (s .args .mesh)) * s .args .words)
+all-words c = ap (λ n. n * made (counted c) .args .words) (c .product-of .ensures)
+
+room : (c : tie.After-product-of) → (let s = made (counted c) in c .product-of .result * s .args .words ≤ length (now (s .args .new)))
+room c = omega (arith, all-words c, made (counted c) .pre .1 .1)
+
+-- the digits, as they are lent
+digits-are : (c : tie.After-make-digits)
+    → (let s = made c in
+    let shape = now (s .args .shape) in
+    let r = c .make-digits in
+    take (length (r .last .0) - r .result) (drop (r .result) (r .last .0))
+    ≡ stepDigits (now (s .args .mesh)) shape (lists shape (s .args .gathers)) (lists shape (s .args .slices)))
+digits-are c = let r = c .make-digits in tail-all (r .last .0) (r .result) (length (r .last .0) - r .result) (omega arith) ∙ r .ensures .1
+
+within : (c : tie.After-make-digits) → c .make-digits .result ≤ length (c .make-digits .last .0)
+within c = let r = c .make-digits in omega (arith, r .ensures .0, r .kept .0, made c .pre .0 .room)
+
+mul-all : tie.Need-mul-all
+mul-all c = omega (arith, room c)
+
+sub-copy-strided : tie.Need-sub-copy-strided
+sub-copy-strided c = search needs
+
+part-copy-strided-start : tie.Need-part-copy-strided-start
+part-copy-strided-start c = search needs
+
+part-copy-strided-end : tie.Need-part-copy-strided-end
+part-copy-strided-end c = omega (arith, room c)
+
+mul-copy-strided : tie.Need-mul-copy-strided
+mul-copy-strided c = omega (arith, within (counted (c .before)))
+
+sub-copy-strided-2 : tie.Need-sub-copy-strided-2
+sub-copy-strided-2 c = omega (arith, within (counted (c .before)))
+
+part-copy-strided-start-2 : tie.Need-part-copy-strided-start-2
+part-copy-strided-start-2 c = omega (arith, within (counted (c .before .before)))
+
+part-copy-strided-end-2 : tie.Need-part-copy-strided-end-2
+part-copy-strided-end-2 c = search needs
+
+copy-strided-requires : tie.Need-copy-strided-requires
+copy-strided-requires c κs =
+    let p = c .before .before .before in
+    let s = made (counted p) in
+    copy-asked (s .pre .0) _ _ (length (now (s .args .old))) (digits-are (counted p))
+    (lent-length (now (s .args .new)) (p .product-of .result * s .args .words) (room p) ∙ all-words p) (s .pre .1 .0)
+
+same-length : tie.Need-same-length
+same-length c =
+    let r = c .before .before .copy-strided in
+    let p = copied (c .before .before) in
+    let s = made (counted p) in
+    same-len-mid 0 (p .product-of .result * s .args .words - 0) (now (s .args .new)) (r .last .0) (r .kept .0)
+
+same-length-2 : tie.Need-same-length-2
+same-length-2 c = search needs
+
+same-length-3 : tie.Need-same-length-3
+same-length-3 c = search needs
+
+same-length-4 : tie.Need-same-length-4
+same-length-4 c = search needs
+
+returns : tie.Need-returns
+returns c =
+    let r = c .before .before .copy-strided in
+    let p = copied (c .before .before) in
+    let s = made (counted p) in
+    let new = now (s .args .new) in
+    let n = p .product-of .result * s .args .words in
+    lent-put new (r .last .0) n
+    ∙ ap₂ (λ l k. l ++ drop k new)
+    (r .ensures ∙ copy-leaves (s .pre .0) _ _ (now (s .args .old)) (digits-are (counted p)) (lent-length new n (room p) ∙ all-words p)) (all-words p)
+
+pub move-with-spec : {M : Type 1} → statement M
+move-with-spec =
+    tie.close
+    (tie.spec
+    make-digits-requires
+    product-of-requires
+    mul-all
+    sub-copy-strided
+    part-copy-strided-start
+    part-copy-strided-end
+    mul-copy-strided
+    sub-copy-strided-2
+    part-copy-strided-start-2
+    part-copy-strided-end-2
+    copy-strided-requires
+    same-length
+    same-length-2
+    same-length-3
+    same-length-4
+    returns)

@@ -1,0 +1,2 @@
+-- What the contracts of the moving steps cite.
+pub mod Moves

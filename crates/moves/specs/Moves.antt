@@ -1,0 +1,152 @@
+-- A step that only moves words: along each dimension a device takes a piece of its shard, by one list of axes, and joins the pieces of its group,
+-- by another. All-slice, all-gather and all-to-all are such steps. The new buffer is row-major over digits: the mesh's axes, then for each dimension
+-- its gathered axes and the words of one piece. A gathered axis has its stride at its own digit and none at the mesh's; slicing makes the strides
+-- of its axes larger. Assumes nothing.
+use Prim.Native.Nat.{ℕ, _+_, _*_, _/_, _≤_, _<_}
+use mathlib.Core.Path.{_≡_}
+use mathlib.Core.List.{List, [], _∷_, _++_}
+use lib.ListN.{length, getD, set, take, drop, replicate}
+use Rattle.rules.specs.Lists.{flat, product, In, Distinct}
+use Rattle.rules.specs.Mesh.{devices, span}
+use Rattle.rules.specs.Sharding.{shardSizes, firstIndexes}
+use Rattle.rules.specs.Spread.{StateOf, tabulate, held, from}
+use Rattle.rules.specs.Collectives.{grown, owner, within}
+use Rattle.rules.specs.Limits.{mostAxes, mostDevices, mostDims, mostWords}
+use Rattle.rules.specs.Types.{dimsOf}
+use Rattle.rules.specs.declared.Sharding.{Sharding}
+use Rattle.digits.specs.Digits.{mostRoom, strides, push, cleared, axisDigits, meshDigits, Front}
+
+-- ---- the step
+
+-- the shape and the words of the new shards, by the gathered and the sliced axes of each dimension
+abbrev pub movedShape : (mesh shape : List ℕ) → (Gs Ss : List (List ℕ)) → List ℕ
+movedShape mesh shape Gs Ss = grown mesh Gs (shardSizes mesh shape Ss)
+
+abbrev pub moved : (mesh shape : List ℕ) → (Gs Ss : List (List ℕ)) → (old : List ℕ) → StateOf ℕ
+moved mesh shape Gs Ss old x i =
+    held 0 mesh shape old (owner mesh Gs (shardSizes mesh shape Ss) i x)
+    (from (firstIndexes mesh Ss (shardSizes mesh shape Ss) x) (within (shardSizes mesh shape Ss) i))
+
+-- the lists of a step of the code, one for each dimension of a shape
+abbrev pub lists : List ℕ → Sharding → List (List ℕ)
+lists shape s = take (length shape) (dimsOf s)
+
+-- the buffer that the step leaves: the new state, of shards of `words` words, and what was behind it
+abbrev pub movedBuffer : (mesh shape : List ℕ) → (Gs Ss : List (List ℕ)) → ℕ → (old new : List ℕ) → List ℕ
+movedBuffer mesh shape Gs Ss words old new =
+    tabulate mesh (movedShape mesh shape Gs Ss) (moved mesh shape Gs Ss old) ++ drop (devices mesh * words) new
+
+-- ---- its digits
+
+-- the strides that are left where each dimension's gathered axes are cleared
+abbrev pub left : List (List ℕ) → List ℕ → List ℕ
+left [] zs = zs
+left (G ∷ Gs) zs = cleared G (left Gs zs)
+
+-- the digits of the dimensions, of the given sizes, with pieces of the given sizes
+abbrev pub dimDigits : List ℕ → List ℕ → List ℕ → List (List ℕ) → List ℕ → List ℕ
+dimDigits mesh [] ws Gs zs = []
+dimDigits mesh (n ∷ ns) [] Gs zs = []
+dimDigits mesh (n ∷ ns) (w ∷ ws) [] zs = []
+dimDigits mesh (n ∷ ns) (w ∷ ws) (G ∷ Gs) zs = axisDigits mesh G (left Gs zs) (push w (product ns) (dimDigits mesh ns ws Gs zs))
+
+-- the strides with those of a sliced list added, where the pieces are v words apart; and of all dimensions
+abbrev pub withSlice : List ℕ → List ℕ → ℕ → List ℕ → List ℕ
+withSlice mesh [] v ys = ys
+withSlice mesh (a ∷ S) v ys = set (withSlice mesh S v ys) a (getD (withSlice mesh S v ys) a 0 + span mesh S * v)
+
+abbrev pub withSlices : List ℕ → List ℕ → List ℕ → List (List ℕ) → List ℕ → List ℕ
+withSlices mesh [] ws Ss ys = ys
+withSlices mesh (n ∷ ns) [] Ss ys = ys
+withSlices mesh (n ∷ ns) (w ∷ ws) [] ys = ys
+withSlices mesh (n ∷ ns) (w ∷ ws) (S ∷ Ss) ys = withSlice mesh S (w * product ns) (withSlices mesh ns ws Ss ys)
+
+-- the strides of the devices, and all digits
+abbrev pub deviceStrides : (mesh shape : List ℕ) → (Gs Ss : List (List ℕ)) → List ℕ
+deviceStrides mesh shape Gs Ss =
+    from (left Gs (strides mesh (product shape))) (withSlices mesh shape (shardSizes mesh shape Ss) Ss (replicate (length mesh) 0))
+
+abbrev pub stepDigits : (mesh shape : List ℕ) → (Gs Ss : List (List ℕ)) → List ℕ
+stepDigits mesh shape Gs Ss =
+    meshDigits mesh (deviceStrides mesh shape Gs Ss) (dimDigits mesh shape (shardSizes mesh shape Ss) Gs (strides mesh (product shape)))
+
+-- the most numbers of a step's digits: those of the mesh's axes, of the dimensions and of the gathered axes
+abbrev pub digitRoom : ℕ
+digitRoom = 3 * (mostAxes + mostDims + mostAxes)
+
+-- the most that slices add to a stride
+abbrev pub mostAdded : ℕ
+mostAdded = mostWords * mostAxes
+
+-- ---- what the code asks
+
+-- a step that the code can do
+pub record Moving (mesh shape : List ℕ) (Gs Ss : List (List ℕ)) : Type 0 where
+  pub axes-some : 0 < length mesh
+  pub axes-few : length mesh ≤ mostAxes
+  pub devices-pos : 0 < product mesh
+  pub devices-few : product mesh ≤ mostDevices
+  pub rank : length shape ≤ mostDims
+  pub old-pos : 0 < product shape
+  pub old-few : product shape ≤ mostWords
+  pub new-pos : 0 < product (movedShape mesh shape Gs Ss)
+  pub new-few : product (movedShape mesh shape Gs Ss) ≤ mostWords
+  pub gathers : length Gs ≡ length shape
+  pub slices : length Ss ≡ length shape
+  pub gathered : (a : ℕ) → In a (flat Gs) → a < length mesh
+  pub sliced : (a : ℕ) → In a (flat Ss) → a < length mesh
+  pub gathered-once : Distinct (flat Gs)
+  pub sliced-once : Distinct (flat Ss)
+
+-- a list of sliced axes, pieces that are v words apart, and strides with room for what is added
+pub record Slicing (ys mesh S : List ℕ) (v : ℕ) : Type 0 where
+  pub places : length ys ≡ length mesh
+  pub devices : 0 < product mesh
+  pub of-mesh : (a : ℕ) → In a S → a < length mesh
+  pub few : span mesh S * v ≤ mostWords
+  pub ys-few : (k : ℕ) → getD ys k 0 + mostWords * length S ≤ mostAdded
+
+-- strides to be added to others
+pub record Adding (zs ys : List ℕ) : Type 0 where
+  pub places : length ys ≡ length zs
+  pub few : (k : ℕ) → getD zs k 0 + getD ys k 0 ≤ mostRoom + mostAdded
+
+-- one dimension of size n, whose words are w apart, with gathered axes G and sliced axes S
+pub record Dimension (digits zs ys mesh G S : List ℕ) (n w end words : ℕ) : Type 0 where
+  pub front : Front digits end words (3 * length G + 3)
+  pub zs-places : length zs ≡ length mesh
+  pub ys-places : length ys ≡ length mesh
+  pub devices-pos : 0 < product mesh
+  pub gathered : (a : ℕ) → In a G → a < length mesh
+  pub sliced : (a : ℕ) → In a S → a < length mesh
+  pub new-pos : 0 < span mesh G * (n / span mesh S * words)
+  pub new-few : span mesh G * (n / span mesh S * words) ≤ mostWords
+  pub old-pos : 0 < w
+  pub old-few : n * w ≤ mostWords
+  pub ys-few : (k : ℕ) → getD ys k 0 + mostWords * length S ≤ mostAdded
+
+-- all dimensions: room for the digits, strides of the devices, and none added yet
+pub record Dimensions (digits zs ys mesh shape : List ℕ) (Gs Ss : List (List ℕ)) : Type 0 where
+  pub step : Moving mesh shape Gs Ss
+  pub room : 3 * (length mesh + (length shape + length (flat Gs))) ≤ length digits
+  pub zs-places : length zs ≡ length mesh
+  pub ys-places : length ys ≡ length mesh
+  pub none : (k : ℕ) → getD ys k 0 ≡ 0
+
+-- the loop over the dimensions with j of them left
+pub record DimensionsAt (mesh shape : List ℕ) (Gs Ss : List (List ℕ)) (zs₀ ys₀ digits zs ys : List ℕ) (first count w j : ℕ) : Type 0 where
+  pub made : drop first digits ≡ dimDigits mesh (drop j shape) (shardSizes mesh (drop j shape) (drop j Ss)) (drop j Gs) zs₀
+  pub zs-are : zs ≡ left (drop j Gs) zs₀
+  pub ys-are : ys ≡ withSlices mesh (drop j shape) (shardSizes mesh (drop j shape) (drop j Ss)) (drop j Ss) ys₀
+  pub count-is : count ≡ product (movedShape mesh (drop j shape) (drop j Gs) (drop j Ss))
+  pub w-is : w ≡ product (drop j shape)
+  pub room-is : first + 3 * (length (drop j shape) + length (flat (drop j Gs))) ≡ length digits
+  pub ys-few : (k : ℕ) → getD ys k 0 ≤ mostWords * length (flat (drop j Ss))
+
+-- a step, with places for its digits and strides
+pub record Setting (row zs ys mesh shape : List ℕ) (Gs Ss : List (List ℕ)) (words : ℕ) : Type 0 where
+  pub step : Moving mesh shape Gs Ss
+  pub room : length row ≡ digitRoom
+  pub zs-places : length zs ≡ length mesh
+  pub none : ys ≡ replicate (length mesh) 0
+  pub words-are : words ≡ product (movedShape mesh shape Gs Ss)

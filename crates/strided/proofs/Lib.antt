@@ -1,0 +1,2 @@
+-- The laws of the copy with strides.
+pub mod Laws

@@ -1,0 +1,2 @@
+-- What the contracts of the copy with strides cite.
+pub mod Strided

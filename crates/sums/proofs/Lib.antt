@@ -1,0 +1,4 @@
+-- The laws of the reduction by whole shards.
+pub mod Adding
+pub mod Listing
+pub mod Tables

@@ -1,0 +1,2 @@
+-- What the contracts of the reduction cite.
+pub mod Sums
