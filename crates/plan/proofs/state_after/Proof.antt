@@ -39,7 +39,8 @@ refused-requires c κs = search needs
 returns : tie.Need-returns
 returns c =
     let j = c .before .before .before .before .judge-file .ensures in
-    c .refused .ensures ∙ sym (state-stops _ _ (whole-stopped _ _ j (c .before .before .enum-told .given .1) (c .before .refusal .ensures)))
+    let stop = state-stops _ _ (whole-stopped _ _ j (c .before .before .enum-told .given .1) (c .before .refusal .ensures)) in
+    (c .refused .ensures .0 ∙ sym stop, c .refused .ensures .1)
 
 -- src/lib.rt:499:9
 refused-requires-2 : tie.Need-refused-requires-2
@@ -49,7 +50,7 @@ refused-requires-2 c κs = search needs
 returns-2 : tie.Need-returns-2
 returns-2 c =
     let h = plan-held _ _ (c .before .before .before .before .before .before .judge-file .ensures) (c .before .before .before .before .next .given .1) in
-    c .refused2 .ensures ∙ sym (no-such-state _ _ h (c .before .if1 .taken))
+    (c .refused2 .ensures .0 ∙ sym (no-such-state _ _ h (c .before .if1 .taken)), c .refused2 .ensures .1)
 
 -- src/lib.rt:503:9
 walk-steps-requires : tie.Need-walk-steps-requires
@@ -70,7 +71,7 @@ returns-3 c =
     let n = c .before .before .before .before .before .before .before .before .next .given .1 in
     let h = plan-held _ _ (c .before .before .before .before .before .before .before .before .before .before .judge-file .ensures) n in
     let walk = c .before .before .walk-steps .result in
-    state-is _ _ h (c .before .before .before .before .before .if1 .left) walk (c .shard-of .result) (c .before .before .walk-steps .ensures) (c .shard-of .ensures .1)
+    (state-is _ _ h (c .before .before .before .before .before .if1 .left) walk (c .shard-of .result) (c .before .before .walk-steps .ensures) (c .shard-of .ensures .1), record { rank-is = c .shard-of .ensures .0; axes-few = bounded _ h .fits .axes })
 
 pub state-after-spec : {M : Type 1} → statement M
 state-after-spec =
