@@ -2,15 +2,15 @@
 use Prim.Native.Nat.{ℕ, zero, suc, _*_, _≤_, _<_}
 use mathlib.Core.Bool.{Bool, true, false}
 use mathlib.Core.Path.{_≡_, refl, sym, ap, _∙_, subst}
-use mathlib.Core.List.{List, [], _∷_}
+use mathlib.Core.List.{List, []}
 use native.Mathlib.Omega.{arith}
 use native.Mathlib.Nat.{mul-le-mul, mul-comm, le-trans}
-use borrow.Author.Tests.{lt-ltb, le-ltb, leb-true}
+use borrow.Author.Tests.{lt-ltb, le-ltb}
 use lib.ListN.{length, getD, take}
 use lib.Dec.{leb, ltb}
 use Rattle.rules.specs.Lists.{product, Below}
 use Rattle.rules.specs.Mesh.{span, position, devices, deviceCoords}
-use Rattle.rules.specs.Sharding.{Sharding, firstIndexes}
+use Rattle.rules.specs.Sharding.{firstIndexes}
 use Rattle.rules.specs.Limits.{mostDims, mostWords}
 use Rattle.rules.specs.Refusals.{Judged, accept, refuse, _>>=_, _>>_, need, refusedBy}
 use Rattle.rules.specs.PlanFile.{Plan, judge, announced, announcedShape}

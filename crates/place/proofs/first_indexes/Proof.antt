@@ -1,23 +1,18 @@
 use borrow.Author.Needs.{needs}
 use native.Mathlib.Omega.{arith}
-use Prim.Native.Nat.{ℕ, _≤_, _<_, _+_, _*_, _-_}
+use Prim.Native.Nat.{ℕ, _*_, _-_}
 use mathlib.Core.Path.{_≡_}
 use mathlib.Core.List.{List, []}
-use mathlib.Core.Path.{refl, sym, ap, _∙_}
-use lib.ListN.{length, getD, take, length-map}
+use mathlib.Core.Path.{refl, sym}
+use lib.ListN.{take, length-map}
 use lib.Seq.{getD-take, length-take-le}
 use Rattle.rules.specs.Mesh.{position, deviceCoords}
-use Rattle.rules.specs.Types.{axesOf, dimsOf}
+use Rattle.rules.specs.Types.{dimsOf}
 use Rattle.dims.specs.Dims.{sizesOf}
 use Rattle.dims.proofs.Pairs.{Making, making, makes, all-made}
 use Rattle.dims.proofs.Dims.{dims-length, list-at}
 use Rattle.place.proofs.first_indexes.Statement.{statement}
 use Rattle.place.proofs.first_indexes.Tie as tie
-use Rattle.place.proofs.first_indexes.Reads as reads
-use Rattle.place.proofs.first_indexes.Lts as lts
-use Rattle.mesh.proofs.position_of.Reads as position-of-reads
-use Rattle.place.proofs.first_index.Reads as first-index-reads
-use Rattle.rules.proofs.Sharding.list.Reads as list-reads
 
 abbrev Inv-loop : tie.InvT-loop
 Inv-loop mesh sharding device shard rank first₀ d₀ first d =

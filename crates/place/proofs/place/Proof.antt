@@ -1,20 +1,14 @@
 use borrow.Author.Needs.{needs}
 use native.Mathlib.Omega.{arith}
-use Prim.Native.Nat.{ℕ, _≤_, _<_, _+_, _*_, _-_}
+use Prim.Native.Nat.{ℕ, _-_}
 use mathlib.Core.Path.{_≡_}
 use mathlib.Core.Path.{sym, ap, _∙_}
-use lib.ListN.{length, getD, take, length-map}
+use lib.ListN.{length, take, length-map}
 use lib.Seq.{length-take-le}
 use Rattle.rules.proofs.Judging.{never}
 use Rattle.place.proofs.Places.{placing, place-stops, no-device, place-found}
 use Rattle.place.proofs.place.Statement.{statement}
 use Rattle.place.proofs.place.Tie as tie
-use Rattle.place.proofs.place.Reads as reads
-use Rattle.place.proofs.place.Lts as lts
-use Rattle.place.proofs.first_indexes.Reads as first-indexes-reads
-use Rattle.place.proofs.refused.Reads as refused-reads
-use Rattle.plan.proofs.state_after.Reads as state-after-reads
-use Rattle.reader.proofs.Next.refusal.Reads as refusal-reads
 
 state-after-requires : tie.Need-state-after-requires
 state-after-requires c κs = search needs
@@ -59,7 +53,7 @@ slice-aggregate-first-indexes c =
     let s = c .before .before .before .before .before .before .before .before .before .state-after in
     let z = simp length-map at (s .ok .1 .1 .1 .1 .0 .1 .1 .1 .0 .1 .0 .1) in
     let e : length (take (s .result .mesh .n) (s .result .mesh .sizes)) ≡ s .result .mesh .n =
-        length-take-le _ (s .result .mesh .sizes) (omega (arith, z, s .ensures .1 .axes-few)) in
+    length-take-le _ (s .result .mesh .sizes) (omega (arith, z, s .ensures .1 .axes-few)) in
     search (needs, e)
 
 first-indexes-requires : tie.Need-first-indexes-requires
