@@ -9,7 +9,7 @@ use Rattle.rules.specs.Lists.{inTurn}
 use Rattle.rules.specs.Mesh.{devices}
 use Rattle.rules.specs.Sharding.{Sharding, shardSizes}
 use Rattle.rules.specs.Collectives.{after}
-use Rattle.rules.specs.Refusals.{Judged, accept, refuse, _>>=_, _>>_, need}
+use Rattle.rules.specs.Refusals.{Judged, accept, refuse}
 use Rattle.rules.specs.PlanFile.{Read, stepsAt, Plan, judge, announced, announcedShape}
 use Rattle.rules.specs.Types.{shardingOf, dimsOf}
 use Rattle.rules.specs.declared.Table.{Table}
@@ -59,11 +59,11 @@ module _ (file : List ℕ) (k : ℕ) {at : ℕ} {w : Whole} (h : (p : Plan) × (
       let sizes = sizesOf (w .table) in
       let start = shardingOf (w .table .rank) (w .start) in
       let begins : stepsAt mesh sizes 1 (w .steps) file at start ≡ accept (record { value = p .steps; next = length file }) =
-          (λ i. stepsAt (sym (g .mesh-is) i) (sym (g .sizes-are) i) 1 (w .steps) file at (sym (g .start-is) i)) ∙ g .begins in
+      (λ i. stepsAt (sym (g .mesh-is) i) (sym (g .sizes-are) i) 1 (w .steps) file at (sym (g .start-is) i)) ∙ g .begins in
       let part = walk-part mesh sizes file k (w .steps) at start (record { value = p .steps; next = length file }) l begins in
       let s : shardingOf (w .table .rank) (walk .sharding) ≡ announced p k =
-          ap (λ (x : Walked). x .sharding) (read-value (walk .next) (v ∙ part .1)) ∙ part .2
-              ∙ ap (λ (t : Sharding). inTurn after (take k (p .steps)) t) (sym (g .start-is)) in
+      ap (λ (x : Walked). x .sharding) (read-value (walk .next) (v ∙ part .1)) ∙ part .2
+      ∙ ap (λ (t : Sharding). inTurn after (take k (p .steps)) t) (sym (g .start-is)) in
       let answer : stateOf file k ≡ accept (record {
         devices = devices (p .mesh);
         mesh = p .mesh;

@@ -1,5 +1,5 @@
 -- One step taken: how the refusal of its bytes or of its judgement is the whole's, and what it is where both are accepted. Assumes nothing.
-use Prim.Native.Nat.{ℕ, _≤_}
+use Prim.Native.Nat.{ℕ}
 use mathlib.Core.Path.{_≡_, refl, sym, ap, _∙_}
 use mathlib.Core.List.{List}
 use lib.ListN.{length}

@@ -1,11 +1,11 @@
 -- Steps in turn: `Walking` holds at each turn of walk_steps' loop; `walking` makes it, `onward` keeps it, `halted` and `arrived` are the ways out.
 -- Assumes nothing.
-use Prim.Native.Nat.{ℕ, zero, suc, _+_, _-_, _≤_, _<_, max}
+use Prim.Native.Nat.{ℕ, suc, _+_, _-_, _≤_, _<_, max}
 use mathlib.Core.Path.{_≡_, refl, sym, ap, ap₂, _∙_, subst, fun-ext}
 use mathlib.Core.List.{List, [], _∷_, _++_, append-assoc, append-nil}
 use native.Mathlib.Omega.{arith}
 use native.Mathlib.Numerals.{add-one}
-use lib.ListN.{length, getD, take, length-append}
+use lib.ListN.{length, getD, length-append}
 use lib.Seq.{take-append-le, take-all}
 use Rattle.rules.specs.Lists.{tab, inTurn, product, largest}
 use Rattle.rules.specs.Sharding.{Sharding, shardSizes, IsSharding}
@@ -17,7 +17,7 @@ use Rattle.rules.proofs.Judging.{accept-inj, bind-inv}
 use Rattle.rules.proofs.Steps.{facts, after-sharding}
 use Rattle.rules.proofs.Room.{largest-snoc}
 use Rattle.plan.proofs.Opens.{bind-assoc}
-use Rattle.plan.specs.Parts.{Move, takeStep, wordsAfter, Walked, walkAt}
+use Rattle.plan.specs.Parts.{Move, takeStep, wordsAfter, walkAt}
 
 -- the steps that were taken, before what is read further
 abbrev before : List Step → Judged (Read (List Step)) → Judged (Read (List Step))

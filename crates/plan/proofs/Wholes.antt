@@ -1,21 +1,21 @@
 -- The whole file: how a refusal of a part is the file's, and the plan of a file that is accepted (`plan-of`). A part of its steps is what the plan
 -- announces there (`walk-part`). Assumes nothing.
-use Prim.Native.Nat.{ℕ, zero, suc, _+_, _-_, _*_, _≤_, _<_}
+use Prim.Native.Nat.{ℕ, zero, suc, _+_, _-_, _*_, _≤_}
 use mathlib.Core.Path.{_≡_, refl, sym, ap, _∙_, subst}
-use mathlib.Core.List.{List, [], _∷_, _++_}
+use mathlib.Core.List.{List, _∷_}
 use native.Mathlib.Omega.{arith}
 use borrow.Author.Tests.{eq-eqb, ne-eqb}
 use lib.ListN.{length, take}
 use lib.Seq.{take-length}
 use lib.Dec.{eqb}
-use Rattle.rules.specs.Lists.{tab, inTurn, product, largest}
+use Rattle.rules.specs.Lists.{tab, inTurn, largest}
 use Rattle.rules.specs.Mesh.{devices}
 use Rattle.rules.specs.Sharding.{Sharding, shardSizes}
 use Rattle.rules.specs.Collectives.{Step, after}
 use Rattle.rules.specs.Refusals.{Judged, accept, refuse, _>>=_, _>>_, need}
 use Rattle.rules.specs.PlanFile.{Read, stepCount, stepAt, judgeStep, stepsAt, Front, judgeFront, Plan, judge, announced, announcedShape, room}
-use Rattle.rules.proofs.Judging.{never, accept-inj, bind-inv}
-use Rattle.rules.proofs.Accepted.{AcceptedFront, front-accepted, steps-fine, AcceptedPlan, accepted}
+use Rattle.rules.proofs.Judging.{accept-inj, bind-inv}
+use Rattle.rules.proofs.Accepted.{front-accepted, steps-fine, AcceptedPlan, accepted}
 use Rattle.rules.proofs.Room.{room-few}
 use Rattle.rules.specs.Calls.{checkOf}
 use Rattle.rules.specs.Limits.{mostDevices, mostWords, mostSteps}

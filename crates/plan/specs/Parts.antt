@@ -9,7 +9,7 @@ use Rattle.rules.specs.Lists.{tab, inTurn, product, largest}
 use Rattle.rules.specs.Mesh.{devices}
 use Rattle.rules.specs.Sharding.{Sharding, shardSizes}
 use Rattle.rules.specs.Collectives.{Step, after}
-use Rattle.rules.specs.Limits.{mostDevices, mostWords, mostDims, mostSteps}
+use Rattle.rules.specs.Limits.{mostAxes, mostDevices, mostWords, mostDims, mostSteps}
 use Rattle.rules.specs.Refusals.{Judged, accept, _>>=_, _>>_, need, refusedBy}
 use Rattle.rules.specs.PlanFile.{Read, meshOffset, tensorOffset, stepCount, sizesAt, stepAt, judgeStep, stepsAt, Front, judgeFront, Plan, judge, announced, announcedShape, room}
 use Rattle.rules.specs.Types.{axesOf, dimsOf, shardingOf, stepOf}
@@ -215,3 +215,8 @@ stateBy (next.Refused x) r = refusedBy x
 
 abbrev pub stateMeaning : State → Judged StateAnswer
 stateMeaning r = stateBy (r .next) r
+
+-- the places of a state's mesh and shard, refused or not
+pub record Shaped (r : State) : Type 0 where
+  pub rank-is : r .shard .rank ≡ r .table .rank
+  pub axes-few : r .mesh .n ≤ mostAxes

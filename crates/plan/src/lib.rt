@@ -13,7 +13,7 @@ ghost use Rattle.reader.specs.Reading.{headerOf};
 ghost use Rattle.axes.specs.Mesh.{meshOf};
 ghost use Rattle.dims.specs.Dims.{sizesOf};
 ghost use Rattle.judge.specs.Step.{Ready};
-ghost use Rattle.plan.specs.Parts.{verdictRefusal, shapeAt, shapeRead, openRead, Counts, Opens, Counted, takeStep, takenRead, walkAt, walkRead, Judges, Bounded, answerOf, Blank, stateOf, stateMeaning};
+ghost use Rattle.plan.specs.Parts.{verdictRefusal, shapeAt, shapeRead, openRead, Counts, Opens, Counted, takeStep, takenRead, walkAt, walkRead, Judges, Bounded, answerOf, Blank, stateOf, stateMeaning, Shaped};
 use axes::Mesh;
 use dims::shard_of;
 use dims::words;
@@ -468,12 +468,12 @@ pub struct State {
 
 impl State {
     fn refused(refusal: Refusal) -> State
-        ensures { λ r. ⌜ stateMeaning r ≡ refusedBy refusal ⌝ }
+        ensures { λ r. ⌜ (stateMeaning r ≡ refusedBy refusal) × Shaped r ⌝ }
     {
-        let none = Opening::refused(refusal);
+        let none = Shape::refused(refusal, 0, 0);
         let mesh = none.mesh;
         let table = none.table;
-        let sharding = none.start;
+        let sharding = Sharding::replicated();
         State {
             next: Next::Refused(refusal),
             devices: 1,
@@ -487,7 +487,7 @@ impl State {
 
 // What the plan announces after so many steps; 34 where it has fewer.
 pub fn state_after(file: &[u8], state: usize) -> State
-    ensures { λ r. ⌜ stateMeaning r ≡ stateOf (now (file .entry)) state ⌝ }
+    ensures { λ r. ⌜ (stateMeaning r ≡ stateOf (now (file .entry)) state) × Shaped r ⌝ }
 {
     let whole = judge_file(file);
     let next = whole.next;

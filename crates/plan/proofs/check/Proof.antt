@@ -1,40 +1,26 @@
 use borrow.Author.Needs.{needs}
-use native.Mathlib.Omega.{arith}
-use Prim.Native.Nat.{ℕ, _≤_, _<_, _+_, _*_, _-_}
-use mathlib.Core.Path.{_≡_}
-use lib.ListN.{length, getD}
+use Prim.Native.Nat.{_-_}
 use mathlib.Core.Path.{sym, _∙_}
 use Rattle.rules.proofs.Judging.{never}
 use Rattle.plan.proofs.Wholes.{plan-held, whole-stopped, check-stops, bounded, check-passes}
 use Rattle.plan.proofs.check.Statement.{statement}
 use Rattle.plan.proofs.check.Tie as tie
-use Rattle.plan.proofs.check.Reads as reads
-use Rattle.plan.proofs.check.Lts as lts
-use Rattle.plan.proofs.judge_file.Reads as judge-file-reads
-use Rattle.plan.proofs.passed.Reads as passed-reads
-use Rattle.plan.proofs.refused.Reads as refused-reads
-use Rattle.reader.proofs.Next.refusal.Reads as refusal-reads
 
--- src/lib.rt:451:9
 judge-file-requires : tie.Need-judge-file-requires
 judge-file-requires c κs = search needs
 
 enum-told : tie.Need-enum-told
 enum-told c = search needs
 
--- src/lib.rt:454:24
 enum-told-2 : tie.Need-enum-told-2
 enum-told-2 c = search needs
 
--- src/lib.rt:454:24
 refusal-requires : tie.Need-refusal-requires
 refusal-requires c κs = search needs
 
--- src/lib.rt:454:9
 refused-requires : tie.Need-refused-requires
 refused-requires c κs = search needs
 
--- src/lib.rt:454:9
 returns : tie.Need-returns
 returns c =
     let t = c .before .before in
@@ -42,13 +28,11 @@ returns c =
     let stop = check-stops _ (whole-stopped _ _ j (t .enum-told2 .given .1) (c .before .refusal .ensures)) in
     (c .refused .ensures .0 ∙ sym stop, λ n k q. c .refused .ensures .1)
 
--- src/lib.rt:456:5
 passed-requires : tie.Need-passed-requires
 passed-requires c κs =
     let j = c .before .before .judge-file .ensures in
     bounded _ (plan-held _ _ j (c .enum-told .given .1))
 
--- src/lib.rt:447:1
 returns-2 : tie.Need-returns-2
 returns-2 c =
     let t = c .before in

@@ -1,19 +1,8 @@
 use borrow.Author.Needs.{needs}
 use Rattle.reader.proofs.Answers.{read-on, read-stopped}
-use Rattle.plan.proofs.Wholes.{
-  open-on,
-  open-stopped,
-  judges-refused,
-  ready,
-  front-stops,
-  walk-stops,
-  bytes-left,
-  judges-plan,
-}
+use Rattle.plan.proofs.Wholes.{open-on, open-stopped, judges-refused, ready, front-stops, walk-stops, bytes-left, judges-plan}
 use Rattle.plan.proofs.judge_file.Statement.{statement}
 use Rattle.plan.proofs.judge_file.Tie as tie
-use Rattle.plan.proofs.judge_file.Reads as reads
-use Rattle.plan.proofs.judge_file.Lts as lts
 
 open-requires : tie.Need-open-requires
 open-requires c κs = search needs

@@ -4,8 +4,6 @@ use Rattle.reader.proofs.Answers.{header-on, header-stopped, read-on, read-stop
 use Rattle.plan.proofs.Opens.{uncounted, header-stops, shape-stops}
 use Rattle.plan.proofs.open.Statement.{statement}
 use Rattle.plan.proofs.open.Tie as tie
-use Rattle.plan.proofs.open.Reads as reads
-use Rattle.plan.proofs.open.Lts as lts
 
 read-header-requires : tie.Need-read-header-requires
 read-header-requires c κs = search needs

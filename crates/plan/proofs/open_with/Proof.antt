@@ -1,13 +1,10 @@
 use borrow.Author.Needs.{needs}
-use mathlib.Core.Path.{refl, sym, ap, _∙_}
-use native.Mathlib.Omega.{arith}
+use mathlib.Core.Path.{sym, _∙_}
 use Rattle.reader.proofs.Answers.{read-on, read-stopped}
 use Rattle.plan.proofs.Opens.{headed, fits, ranked, counted, uncounted, sharding-stops, offset-stops, start-stops, front-is}
 use Rattle.plan.proofs.Takes.{passed, failed}
 use Rattle.plan.proofs.open_with.Statement.{statement}
 use Rattle.plan.proofs.open_with.Tie as tie
-use Rattle.plan.proofs.open_with.Reads as reads
-use Rattle.plan.proofs.open_with.Lts as lts
 
 u16-at-requires : tie.Need-u16-at-requires
 u16-at-requires c κs = search needs

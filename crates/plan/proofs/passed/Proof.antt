@@ -1,8 +1,6 @@
 use borrow.Author.Needs.{needs}
-use native.Mathlib.Omega.{arith}
-use Prim.Native.Nat.{ℕ, _≤_, _<_, _+_, _*_, _-_}
-use mathlib.Core.Path.{_≡_}
-use lib.ListN.{length, getD, take}
+use Prim.Native.Nat.{ℕ, _*_, _-_}
+use lib.ListN.{take}
 use mathlib.Core.Path.{sym, ap, _∙_}
 use mathlib.Core.List.{List}
 use Rattle.rules.specs.Refusals.{accept}
@@ -10,46 +8,37 @@ use Rattle.rules.specs.Types.{dimsOf, axesOf, shardingOf}
 use Rattle.plan.specs.declared.Whole.{Whole}
 use Rattle.plan.proofs.passed.Statement.{statement}
 use Rattle.plan.proofs.passed.Tie as tie
-use Rattle.plan.proofs.passed.Reads as reads
-use Rattle.plan.proofs.passed.Lts as lts
-use Rattle.dims.proofs.shard_of.Reads as shard-of-reads
 
--- src/lib.rt:430:9
 shard-of-requires : tie.Need-shard-of-requires
 shard-of-requires c κs = search needs
 
--- src/lib.rt:432:16
 mul-room : tie.Need-mul-room
 mul-room c = search needs
 
--- src/lib.rt:434:15
 cast-t9 : tie.Need-cast-t9
 cast-t9 c = search needs
 
--- src/lib.rt:435:18
 cast-t10 : tie.Need-cast-t10
 cast-t10 c = search needs
 
--- src/lib.rt:436:16
 cast-t11 : tie.Need-cast-t11
 cast-t11 c = search needs
 
--- src/lib.rt:423:1
 returns : tie.Need-returns
 unfolding dimsOf axesOf
 returns c =
     let s = c .before .before .before .before .shard-of .ensures in
     let w : Whole = c .before .before .before .before .before .before .before .before .args .whole in
     ap
-        (λ (l : List ℕ). accept (record {
-          room = w .devices * w .most;
-          devices = w .devices;
-          steps = w .steps;
-          rank = w .table .rank;
-          sharding = shardingOf (w .table .rank) (w .last);
-          shard = l;
-        }))
-        (ap (λ (n : ℕ). take n (c .before .before .before .before .shard-of .result .sizes)) (sym (s .0)) ∙ s .1)
+    (λ (l : List ℕ). accept (record {
+      room = w .devices * w .most;
+      devices = w .devices;
+      steps = w .steps;
+      rank = w .table .rank;
+      sharding = shardingOf (w .table .rank) (w .last);
+      shard = l;
+    }))
+    (ap (λ (n : ℕ). take n (c .before .before .before .before .shard-of .result .sizes)) (sym (s .0)) ∙ s .1)
 
 pub passed-spec : {M : Type 1} → statement M
 passed-spec = tie.close (tie.spec shard-of-requires mul-room cast-t9 cast-t10 cast-t11 returns)

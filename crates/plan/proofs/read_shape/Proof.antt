@@ -2,15 +2,12 @@ use borrow.Author.Needs.{needs}
 use mathlib.Core.Path.{refl, sym, _∙_}
 use native.Mathlib.Omega.{arith}
 use lib.Dec.{lit≤}
-use lib.ListN.{take}
 use Rattle.rules.proofs.Accepted.{section-facts}
-use Rattle.rules.specs.Limits.{mostDevices, mostWords}
+use Rattle.rules.specs.Limits.{mostDevices}
 use Rattle.reader.proofs.Answers.{read-on, read-stopped}
 use Rattle.plan.proofs.Opens.{headed, mesh-stops, tensor-stops, shape-is}
 use Rattle.plan.proofs.read_shape.Statement.{statement}
 use Rattle.plan.proofs.read_shape.Tie as tie
-use Rattle.plan.proofs.read_shape.Reads as reads
-use Rattle.plan.proofs.read_shape.Lts as lts
 
 u16-at-requires : tie.Need-u16-at-requires
 u16-at-requires c κs = search needs

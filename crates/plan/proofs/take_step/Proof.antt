@@ -9,8 +9,6 @@ use Rattle.reader.proofs.Answers.{read-on, read-stopped}
 use Rattle.plan.proofs.Takes.{fine, stopped, bytes-stop, judgement-stops, step-taken}
 use Rattle.plan.proofs.take_step.Statement.{statement}
 use Rattle.plan.proofs.take_step.Tie as tie
-use Rattle.plan.proofs.take_step.Reads as reads
-use Rattle.plan.proofs.take_step.Lts as lts
 
 read-step-requires : tie.Need-read-step-requires
 read-step-requires c κs = search needs

@@ -1,4 +1,4 @@
-use Prim.Native.Nat.{ℕ, _-_, max}
+use Prim.Native.Nat.{_-_, max}
 use borrow.Author.Needs.{needs}
 use mathlib.Core.Path.{sym, ap, _∙_}
 use native.Mathlib.Omega.{arith}
@@ -10,8 +10,6 @@ use Rattle.reader.proofs.Answers.{read-on, read-stopped}
 use Rattle.plan.proofs.Walks.{Walking, walking, halted, arrived, onward}
 use Rattle.plan.proofs.walk_steps.Statement.{statement}
 use Rattle.plan.proofs.walk_steps.Tie as tie
-use Rattle.plan.proofs.walk_steps.Reads as reads
-use Rattle.plan.proofs.walk_steps.Lts as lts
 
 abbrev Inv-loop : tie.InvT-loop
 Inv-loop file at count mesh table start sharding₀ most₀ place₀ k₀ sharding most place k =

@@ -1,0 +1,2 @@
+-- Laws of the placement.
+pub mod Places

@@ -1,0 +1,2 @@
+-- What the parts of the placement ask for and leave.
+pub mod Placing

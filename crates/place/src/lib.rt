@@ -1,0 +1,94 @@
+// The placement: a state's sharding and shard sizes, and a device's first indexes.
+// What it answers is defined in rules/specs/Calls.antt (placeOf); specs/Placing.antt has what the parts ask for.
+ghost use mathlib.Core.Path.{_≡_};
+ghost use Prim.Native.Nat.{ℕ, _*_, _≤_};
+ghost use lib.ListN.{take};
+ghost use Rattle.rules.specs.Mesh.{deviceCoords};
+ghost use Rattle.rules.specs.Sharding.{firstIndexes};
+ghost use Rattle.rules.specs.Limits.{mostWords};
+ghost use Rattle.rules.specs.Refusals.{refuse, refusedBy};
+ghost use Rattle.rules.specs.Types.{dimsOf};
+ghost use Rattle.rules.specs.Calls.{placeMeaning, placeOf};
+ghost use Rattle.dims.specs.Dims.{sizesOf};
+ghost use Rattle.place.specs.Placing.{Placing, Blank};
+use mesh::position_of;
+use plan::State;
+use plan::state_after;
+use reader::Next;
+use rules::Device;
+use rules::Dim;
+use rules::PlaceOutcome;
+use rules::Placed;
+use rules::Reason;
+use rules::Refusal;
+use rules::Sharding;
+use rules::Table;
+
+// "its first index there is block number times shard size"
+fn first_index(block: usize, size: u16) -> u16
+    requires { ⌜ block * size ≤ mostWords ⌝ }
+    ensures { λ r. ⌜ r ≡ block * size ⌝ }
+{
+    let words = size as usize;
+    (block * words) as u16
+}
+
+// The first indexes of a device.
+fn first_indexes(mesh: &[u16], sharding: Sharding, shard: Table, device: Device) -> Table
+    requires { ⌜ Placing (now mesh) sharding shard (device .0) ⌝ }
+    ensures { λ r. ⌜ (r .rank ≡ shard .rank) × (sizesOf r ≡ firstIndexes (now (mesh .entry)) (take (shard .rank) (dimsOf sharding))
+        (sizesOf shard) (deviceCoords (now (mesh .entry)) (device .0))) ⌝ }
+{
+    let rank = shard.rank;
+    let mut first = shard;
+    let mut d: usize = 0;
+    while d < rank {
+        let list = sharding.list(Dim(d as u8));
+        let size = shard.sizes[d];
+        first.sizes[d] = first_index(position_of(mesh, list, device), size);
+        d += 1;
+    }
+    first
+}
+
+// No lists, no sizes and no indexes, beside a refusal.
+fn refused(refusal: Refusal) -> Placed
+    ensures { λ r. ⌜ (placeMeaning r ≡ refusedBy refusal) × Blank r ⌝ }
+{
+    let sharding = Sharding::replicated();
+    Placed {
+        outcome: PlaceOutcome::Refused(refusal),
+        sharding,
+        shard: [0; Dim::MOST],
+        first: [0; Dim::MOST],
+    }
+}
+
+// The placement: the file's refusal, then 34, then 32; or the state's sharding, its shard sizes and the device's first indexes.
+pub fn place(file: &[u8], state: u16, device: Device) -> Placed
+    ensures { λ r. ⌜ placeMeaning r ≡ placeOf (now (file .entry)) state (device .0) ⌝ }
+    ensures { λ r. ⌜ ((n k : ℕ) → placeOf (now (file .entry)) state (device .0) ≡ refuse n k → Blank r) ⌝ }
+{
+    let found = state_after(file, state as usize);
+    let next = found.next;
+    let Next::At(_) = next else {
+        return refused(next.refusal());
+    };
+    if found.devices <= device.0 as usize {
+        let reason = Reason::NoSuchDevice;
+        return refused(Refusal { reason, step: 0 });
+    }
+    let n = found.mesh.n;
+    let mesh = found.mesh.sizes;
+    let sharding = found.sharding;
+    let shard = found.shard;
+    let first = first_indexes(&mesh[..n], sharding, shard, device);
+    let sizes = shard.sizes;
+    let indexes = first.sizes;
+    Placed {
+        outcome: PlaceOutcome::Found(shard.rank),
+        sharding,
+        shard: sizes,
+        first: indexes,
+    }
+}
