@@ -1,5 +1,6 @@
-// What the programs print of a plan file: `no NUMBER STEP`, or `ok STEPS` and a line for each state, its number and its shard sizes.
-// Which answer it is comes from `plan::check` and `plan::state_after`, whose contracts are document 01's; the lines are tested on worked cases.
+// What the programs print of a plan file: `no NUMBER STEP`, or `ok STEPS` and a line for each state, its number and
+// its shard sizes. Numbers and sizes are those of `plan::check` and `plan::state_after`, which answer document 01's
+// definitions; that the lines are 01's is tested (tests/plans.txt).
 ghost use mathlib.Core.Path.{_≡_};
 ghost use Rattle.rules.specs.Refusals.{numberOf};
 ghost use Rattle.rules.specs.Calls.{checkMeaning, checkOf};

@@ -1,5 +1,5 @@
-// Many plan files in one run, for tests: standard input has each as its length in two bytes, little-endian, and its bytes.
-// What `plancheck` prints of each is printed in turn.
+// Many plan files in one run, for tests: standard input has each as its length in two bytes, little-endian, and its
+// bytes. What `plancheck` prints of each is printed in turn. tools/pack writes the input and what is expected.
 ghost use Prim.Native.Nat.{_<_};
 use answer::print_answer;
 use libc::STDIN_FILENO;

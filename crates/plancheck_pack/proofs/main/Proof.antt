@@ -1,5 +1,5 @@
 -- `plancheck_pack::main` is safe and ends. The measure is the number of turns that are left.
--- Nothing has to hold from turn to turn, so the invariant is `Unit {0}`, the fact that says nothing, which `tt` shows.
+-- Nothing has to hold from turn to turn, so the invariant is `Unit {0}`, which `tt` shows.
 -- Assumes nothing.
 use native.Mathlib.Omega.{arith}
 use Rattle.plancheck_pack.proofs.main.Statement.{statement}
