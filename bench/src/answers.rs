@@ -1,0 +1,129 @@
+//! What the calls take and answer, and the limits of document 01.
+
+use crate::short::Short;
+use std::fmt;
+
+pub const MOST_AXES: usize = 6;
+pub const MOST_DEVICES: usize = 256;
+pub const MOST_RANK: usize = 4;
+pub const MOST_WORDS: usize = 4096;
+pub const MOST_STEPS: usize = 64;
+pub const LEAST_BYTES: usize = 18;
+pub const MOST_BYTES: usize = 4096;
+/// No plan needs more words than this.
+pub const MOST_ROOM: usize = MOST_DEVICES * MOST_WORDS;
+
+/// The number of a mesh axis.
+#[derive(Clone, Copy, Default, PartialEq, Eq, PartialOrd, Ord)]
+#[repr(transparent)]
+pub struct Axis(pub u8);
+
+/// The number of a tensor dimension.
+#[derive(Clone, Copy, Default, PartialEq, Eq, PartialOrd, Ord)]
+#[repr(transparent)]
+pub struct Dim(pub u8);
+
+/// The number of a device, row-major in its coordinates.
+#[derive(Clone, Copy, Default, PartialEq, Eq, PartialOrd, Ord)]
+#[repr(transparent)]
+pub struct Device(pub u16);
+
+/// Axes from outer to inner.
+pub type AxisList = Short<Axis, MOST_AXES>;
+/// One axis list for each dimension.
+pub type DimLists = Short<AxisList, MOST_RANK>;
+/// One number for each dimension.
+pub type Sizes = Short<u16, MOST_RANK>;
+
+#[derive(Clone, Copy, Debug, Default, PartialEq, Eq)]
+pub struct Sharding {
+    pub dims: DimLists,
+    pub unreduced: AxisList,
+}
+
+/// Why a call did nothing: document 01's number, and the step from 1, or 0.
+#[derive(Clone, Copy, PartialEq, Eq)]
+pub struct Refusal {
+    pub number: u8,
+    pub step: u8,
+}
+
+#[derive(Clone, Copy, Debug, PartialEq, Eq)]
+pub struct Checked {
+    pub room: u32,
+    pub devices: u16,
+    pub steps: u16,
+    /// The sharding after the last step.
+    pub sharding: Sharding,
+    /// The shard sizes after the last step.
+    pub shard: Sizes,
+}
+
+#[derive(Clone, Copy, Debug, PartialEq, Eq)]
+pub struct Placed {
+    pub sharding: Sharding,
+    pub shard: Sizes,
+    /// The device's first index along each dimension.
+    pub first: Sizes,
+}
+
+impl Axis {
+    pub fn index(self) -> usize {
+        self.0.into()
+    }
+}
+
+impl Dim {
+    pub fn index(self) -> usize {
+        self.0.into()
+    }
+}
+
+impl Device {
+    pub fn index(self) -> usize {
+        self.0.into()
+    }
+}
+
+impl Refusal {
+    /// A refusal that belongs to no step.
+    pub fn whole(number: u8) -> Self {
+        Refusal { number, step: 0 }
+    }
+}
+
+impl Checked {
+    pub fn rank(&self) -> usize {
+        self.shard.len()
+    }
+}
+
+impl fmt::Debug for Axis {
+    fn fmt(&self, f: &mut fmt::Formatter) -> fmt::Result {
+        write!(f, "{}", self.0)
+    }
+}
+
+impl fmt::Debug for Dim {
+    fn fmt(&self, f: &mut fmt::Formatter) -> fmt::Result {
+        write!(f, "{}", self.0)
+    }
+}
+
+impl fmt::Debug for Device {
+    fn fmt(&self, f: &mut fmt::Formatter) -> fmt::Result {
+        write!(f, "{}", self.0)
+    }
+}
+
+impl fmt::Display for Refusal {
+    fn fmt(&self, f: &mut fmt::Formatter) -> fmt::Result {
+        write!(f, "no {} {}", self.number, self.step)
+    }
+}
+
+impl fmt::Debug for Refusal {
+    fn fmt(&self, f: &mut fmt::Formatter) -> fmt::Result {
+        fmt::Display::fmt(self, f)
+    }
+}

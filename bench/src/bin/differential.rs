@@ -1,0 +1,486 @@
+//! Compares the library with the reference on random plans, and tries demand 3.
+//!
+//! Arguments: a seed, a number of files, a number of runs. Without the library only demand 3 is
+//! tried, on the reference.
+
+use bench::answers::{Axis, Device, Refusal};
+use bench::plans::{self, Draft, FILE_REFUSALS};
+use bench::random::Random;
+use bench::spreads::{product, Layout};
+use bench::{hex, implementations, library, Implementation, Reference};
+use std::fmt::Debug;
+use std::process::ExitCode;
+use std::{env, fmt};
+
+/// A place where two answers, or a buffer and demand 3, do not agree.
+struct Difference {
+    call: String,
+    file: Vec<u8>,
+    told: String,
+}
+
+type Outcome = Result<(), Difference>;
+
+#[derive(Default)]
+struct Tally {
+    accepted: usize,
+    broken: usize,
+    damaged: usize,
+    limits: usize,
+    runs: usize,
+    refused_runs: usize,
+    runs_at_limits: usize,
+    faithful: usize,
+    prefixes: usize,
+}
+
+fn main() -> ExitCode {
+    let arguments: Vec<u64> = env::args()
+        .skip(1)
+        .map_while(|text| text.parse().ok())
+        .collect();
+    let [seed, files, runs] = arguments[..] else {
+        eprintln!("usage: differential SEED FILES RUNS");
+        return ExitCode::from(2);
+    };
+    if library().is_none() {
+        println!("The library is not linked: the reference alone is tried, on demand 3.");
+    }
+    let mut tally = Tally::default();
+    let outcome = compare(&mut Random::new(seed), files, runs, &mut tally);
+    println!("seed {seed}: {tally}");
+    match outcome {
+        Ok(()) => {
+            println!("no difference");
+            ExitCode::SUCCESS
+        }
+        Err(difference) => {
+            println!("first difference: {difference}");
+            ExitCode::FAILURE
+        }
+    }
+}
+
+fn compare(random: &mut Random, files: u64, runs: u64, tally: &mut Tally) -> Outcome {
+    if let Some(library) = library() {
+        for _ in 0..files {
+            let file = random_file(random, tally);
+            compare_file(random, library, &file)?;
+            compare_groups(random, library)?;
+        }
+    }
+    for _ in 0..runs {
+        compare_run(random, tally)?;
+    }
+    Ok(())
+}
+
+fn random_file(random: &mut Random, tally: &mut Tally) -> Vec<u8> {
+    match random.below(30) {
+        0..10 => {
+            tally.accepted += 1;
+            random_draft(random).encode()
+        }
+        10..20 => {
+            tally.broken += 1;
+            let number = random.pick(&FILE_REFUSALS);
+            plans::broken(random, number).0
+        }
+        20..29 => {
+            tally.damaged += 1;
+            let file = random_draft(random).encode();
+            plans::damaged(random, &file)
+        }
+        _ => {
+            tally.limits += 1;
+            plans::at_limits(random).encode()
+        }
+    }
+}
+
+fn random_draft(random: &mut Random) -> Draft {
+    let scale = plans::random_scale(random);
+    plans::accepted(random, scale)
+}
+
+fn compare_file(random: &mut Random, library: &dyn Implementation, file: &[u8]) -> Outcome {
+    let answer = Reference.check(file);
+    same("check", file, &answer, &library.check(file))?;
+    same_at_boundary(file, "check", |raw| raw.check(file, answer))?;
+    let (steps, devices) = answer.map_or((3, 4), |checked| (checked.steps, checked.devices));
+    for _ in 0..4 {
+        // Sometimes one too many, sometimes far too many.
+        let state = number_up_to(random, steps + 1);
+        let device = Device(number_up_to(random, devices));
+        let call = format!("place of device {device:?} in state {state}");
+        let answer = Reference.place(file, state, device);
+        same(&call, file, &answer, &library.place(file, state, device))?;
+        same_at_boundary(file, &call, |raw| raw.place(file, state, device, answer))?;
+    }
+    Ok(())
+}
+
+fn number_up_to(random: &mut Random, last: u16) -> u16 {
+    match random.once_in(20) {
+        true => random.draw() as u16,
+        false => random.between(0, last.into()) as u16,
+    }
+}
+
+/// The answers as they cross the boundary, down to the places that are not used.
+struct Boundary;
+
+#[cfg(library)]
+mod boundary {
+    use super::{shown, Boundary};
+    use bench::answers::{Checked, Device, Placed, Refusal};
+    use bench::library::{raw, RawChecked, RawPlaced};
+
+    impl Boundary {
+        pub fn check(self, file: &[u8], answer: Result<Checked, Refusal>) -> Option<String> {
+            shown(&RawChecked::from(answer), &raw::check(file))
+        }
+
+        pub fn place(
+            self,
+            file: &[u8],
+            state: u16,
+            device: Device,
+            answer: Result<Placed, Refusal>,
+        ) -> Option<String> {
+            shown(&RawPlaced::from(answer), &raw::place(file, state, device))
+        }
+    }
+}
+
+#[cfg(not(library))]
+mod boundary {
+    use super::Boundary;
+    use bench::answers::{Checked, Device, Placed, Refusal};
+
+    impl Boundary {
+        pub fn check(self, _: &[u8], _: Result<Checked, Refusal>) -> Option<String> {
+            None
+        }
+
+        pub fn place(
+            self,
+            _: &[u8],
+            _: u16,
+            _: Device,
+            _: Result<Placed, Refusal>,
+        ) -> Option<String> {
+            None
+        }
+    }
+}
+
+fn same_at_boundary(
+    file: &[u8],
+    call: &str,
+    compare: impl FnOnce(Boundary) -> Option<String>,
+) -> Outcome {
+    match compare(Boundary) {
+        None => Ok(()),
+        Some(told) => Err(Difference {
+            call: format!("{call}, at the boundary"),
+            file: file.to_vec(),
+            told,
+        }),
+    }
+}
+
+/// Both answers as text, when they differ.
+fn shown<T: PartialEq + Debug>(reference: &T, library: &T) -> Option<String> {
+    let told = || format!("reference {reference:?}\nlibrary   {library:?}");
+    (reference != library).then(told)
+}
+
+fn same<T: PartialEq + Debug>(call: &str, file: &[u8], reference: &T, library: &T) -> Outcome {
+    match shown(reference, library) {
+        None => Ok(()),
+        Some(told) => Err(Difference {
+            call: call.into(),
+            file: file.to_vec(),
+            told,
+        }),
+    }
+}
+
+fn compare_groups(random: &mut Random, library: &dyn Implementation) -> Outcome {
+    let (mesh, axes) = random_listing(random);
+    let devices = product(&mesh).min(300);
+    let length = (devices + random.below(4)).saturating_sub(random.below(2));
+    let untouched = vec![Device(random.draw() as u16); length];
+    let (mut ours, mut theirs) = (untouched.clone(), untouched);
+    let answer = Reference.groups(&mesh, &axes, &mut ours);
+    let other = library.groups(&mesh, &axes, &mut theirs);
+    let call = format!("groups of mesh {mesh:?} along {axes:?} into {length} places");
+    same(&call, &[], &(answer, ours), &(other, theirs))
+}
+
+/// A mesh and an axis list, each sound most of the time.
+fn random_listing(random: &mut Random) -> (Vec<u16>, Vec<Axis>) {
+    let mut mesh = random_draft(random).mesh;
+    let mut axes: Vec<Axis> = (0..mesh.len() as u8).map(Axis).collect();
+    random.shuffle(&mut axes);
+    axes.truncate(random.below(axes.len() + 1));
+    if random.once_in(6) {
+        let at = random.below(mesh.len());
+        mesh[at] = random.pick(&[0, 256, 257, u16::MAX]);
+    }
+    if random.once_in(12) {
+        mesh.resize(random.pick(&[0, 7, 8]), 1);
+    }
+    while random.once_in(4) {
+        let at = random.below(axes.len() + 1);
+        axes.insert(at, Axis(random.byte() % 8));
+    }
+    (mesh, axes)
+}
+
+/// One plan, run on one pair of buffers.
+fn compare_run(random: &mut Random, tally: &mut Tally) -> Outcome {
+    let at_limits = random.once_in(50);
+    let draft = match at_limits {
+        true => plans::at_limits(random),
+        false => random_draft(random),
+    };
+    tally.runs += 1;
+    tally.runs_at_limits += usize::from(at_limits);
+    let faithful = random.once_in(2);
+    match library() {
+        Some(library) if !faithful => compare_any_words(random, library, &draft, tally),
+        _ => {
+            tally.faithful += 1;
+            try_demand_3(random, &draft, tally)
+        }
+    }
+}
+
+/// A run on words that spread no table, of any length, and now and then of a file that is no plan.
+fn compare_any_words(
+    random: &mut Random,
+    library: &dyn Implementation,
+    draft: &Draft,
+    tally: &mut Tally,
+) -> Outcome {
+    let file = match random.once_in(4) {
+        true => spoilt_file(random),
+        false => draft.encode(),
+    };
+    let room = room_of(&file);
+    let work = random_length(random, room);
+    let work = random.words(work);
+    let spare = random_length(random, room);
+    let spare = random.words(spare);
+    let short = work.len() < room || spare.len() < room;
+    tally.refused_runs += usize::from(short || Reference.check(&file).is_err());
+    same_run(library, &file, &work, &spare)
+}
+
+fn spoilt_file(random: &mut Random) -> Vec<u8> {
+    if random.once_in(2) {
+        let number = random.pick(&FILE_REFUSALS);
+        return plans::broken(random, number).0;
+    }
+    let file = random_draft(random).encode();
+    plans::damaged(random, &file)
+}
+
+/// The room of a plan; for a file that is refused any length will do.
+fn room_of(file: &[u8]) -> usize {
+    let checked = Reference.check(file);
+    checked.map_or(64, |checked| checked.room as usize)
+}
+
+/// A length around the room: just enough, more, or too little.
+fn random_length(random: &mut Random, room: usize) -> usize {
+    match random.below(8) {
+        0 => room - random.between(1, room),
+        1 => room - 1,
+        2..5 => room,
+        _ => room + random.between(1, 1 + room / 2),
+    }
+}
+
+fn same_run(library: &dyn Implementation, file: &[u8], work: &[u32], spare: &[u32]) -> Outcome {
+    let after = |one: &dyn Implementation| {
+        let (mut work, mut spare) = (work.to_vec(), spare.to_vec());
+        let answer = one.run(file, &mut work, &mut spare);
+        (answer, work, spare)
+    };
+    let (answer, our_work, our_spare) = after(&Reference);
+    let (other, their_work, their_spare) = after(library);
+    let lengths = format!("work of {} and spare of {} words", work.len(), spare.len());
+    same(&format!("run with {lengths}"), file, &answer, &other)?;
+    same_words(
+        &format!("work after a run with {lengths}"),
+        file,
+        &our_work,
+        &their_work,
+    )?;
+    same_words(
+        &format!("spare after a run with {lengths}"),
+        file,
+        &our_spare,
+        &their_spare,
+    )
+}
+
+/// Compares buffers; only the first word that differs is told.
+fn same_words(call: &str, file: &[u8], reference: &[u32], library: &[u32]) -> Outcome {
+    let at = reference
+        .iter()
+        .zip(library)
+        .position(|(one, other)| one != other);
+    match at {
+        None => Ok(()),
+        Some(at) => same(
+            &format!("{call}, word {at}"),
+            file,
+            &reference[at],
+            &library[at],
+        ),
+    }
+}
+
+/// Demand 3 on a random table: after the steps up to any step, the buffer is a faithful spread
+/// of the table under the sharding announced for that state.
+fn try_demand_3(random: &mut Random, draft: &Draft, tally: &mut Tally) -> Outcome {
+    let file = draft.encode();
+    let table = random.words(product(&draft.table));
+    let mut work = start_layout(draft, &file, |layout| layout.spread(&table, random))?;
+    let room = room_of(&file);
+    // The words behind the start are none of the run's business.
+    let rest = room - work.len() + random.below(3);
+    work.extend(random.words(rest));
+    let spare = room + random.below(3);
+    let spare = random.words(spare);
+    if let Some(library) = library() {
+        same_run(library, &file, &work, &spare)?;
+    }
+    for steps in random_prefixes(random, draft.steps.len(), room) {
+        tally.prefixes += 1;
+        for one in implementations() {
+            let trial = Trial {
+                one,
+                draft,
+                table: &table,
+                steps,
+            };
+            trial.run(random, work.clone(), spare.clone())?;
+        }
+    }
+    Ok(())
+}
+
+fn start_layout<T>(
+    draft: &Draft,
+    file: &[u8],
+    then: impl FnOnce(Layout) -> T,
+) -> Result<T, Difference> {
+    let placed = Reference.place(file, 0, Device(0));
+    let placed = placed.map_err(|refusal| refused("an accepted plan", file, refusal))?;
+    Ok(then(Layout {
+        mesh: &draft.mesh,
+        table: &draft.table,
+        sharding: &placed.sharding,
+    }))
+}
+
+fn refused(call: &str, file: &[u8], refusal: Refusal) -> Difference {
+    Difference {
+        call: call.into(),
+        file: file.to_vec(),
+        told: format!("refused: {refusal}"),
+    }
+}
+
+/// All numbers of steps, or some of them where all would take too long.
+fn random_prefixes(random: &mut Random, steps: usize, room: usize) -> Vec<usize> {
+    let mut all: Vec<usize> = (0..=steps).collect();
+    if steps * steps * room > 1 << 24 {
+        random.shuffle(&mut all[..steps]);
+        all.drain(..steps.saturating_sub(4));
+    }
+    all
+}
+
+/// One implementation, run up to one step of a plan.
+struct Trial<'a> {
+    one: &'a dyn Implementation,
+    draft: &'a Draft,
+    table: &'a [u32],
+    steps: usize,
+}
+
+impl Trial<'_> {
+    fn run(&self, random: &mut Random, mut work: Vec<u32>, mut spare: Vec<u32>) -> Outcome {
+        let whole = self.draft.encode();
+        let part = self.draft.prefix(self.steps).encode();
+        let call = format!("demand 3, {}, {} steps", self.one.name(), self.steps);
+        let device = Device(random.below(product(&self.draft.mesh)) as u16);
+        let placed = self.one.place(&whole, self.steps as u16, device);
+        let placed = placed.map_err(|refusal| refused(&call, &whole, refusal))?;
+        let ran = self.one.run(&part, &mut work, &mut spare);
+        ran.map_err(|refusal| refused(&call, &part, refusal))?;
+        let layout = Layout {
+            mesh: &self.draft.mesh,
+            table: &self.draft.table,
+            sharding: &placed.sharding,
+        };
+        let first = |dim| layout.first_index(device.index(), dim) as u16;
+        let firsts: Vec<u16> = (0..self.draft.table.len()).map(first).collect();
+        let told = match layout.try_spread(self.table, &work) {
+            Err(told) => told,
+            Ok(()) if *placed.first != firsts => format!("device {device:?} begins elsewhere"),
+            Ok(()) if product(&placed.shard) != layout.words() => "another shard size".into(),
+            Ok(()) if !is_cleared(&layout, &work, &spare) => "something is not cleared".into(),
+            Ok(()) => return Ok(()),
+        };
+        Err(Difference {
+            call,
+            file: part,
+            told,
+        })
+    }
+}
+
+fn is_cleared(layout: &Layout, work: &[u32], spare: &[u32]) -> bool {
+    let rest = &work[layout.devices() * layout.words()..];
+    rest.iter().chain(spare).all(|&word| word == 0)
+}
+
+impl fmt::Display for Tally {
+    fn fmt(&self, f: &mut fmt::Formatter) -> fmt::Result {
+        let files = self.accepted + self.broken + self.damaged + self.limits;
+        write!(
+            f,
+            "{files} files ({} accepted, {} broken, {} damaged, {} at the limits), ",
+            self.accepted, self.broken, self.damaged, self.limits
+        )?;
+        write!(
+            f,
+            "{} runs ({} at the limits, {} refused), ",
+            self.runs, self.runs_at_limits, self.refused_runs
+        )?;
+        write!(
+            f,
+            "{} of them for demand 3, after {} lists of steps",
+            self.faithful, self.prefixes
+        )
+    }
+}
+
+impl fmt::Display for Difference {
+    fn fmt(&self, f: &mut fmt::Formatter) -> fmt::Result {
+        writeln!(f, "{}\n{}", self.call, self.told)?;
+        write!(
+            f,
+            "file of {} bytes:\n{}",
+            self.file.len(),
+            hex::dump(&self.file)
+        )
+    }
+}

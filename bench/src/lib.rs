@@ -1,0 +1,105 @@
+//! Document 01 a second time, and what is needed to hold the verified library to it.
+//!
+//! `reference` is written from document 01 alone. `plans` and `spreads` make what both are tried
+//! on. `library` calls the archive, when it is there.
+
+pub mod answers;
+pub mod hex;
+#[cfg(library)]
+pub mod library;
+pub mod plans;
+pub mod random;
+pub mod reference;
+pub mod short;
+pub mod spreads;
+
+use answers::{Axis, Checked, Device, Placed, Refusal, Sizes};
+
+/// The four calls of document 01.
+pub trait Implementation {
+    fn name(&self) -> &'static str;
+
+    fn check(&self, file: &[u8]) -> Result<Checked, Refusal>;
+
+    fn place(&self, file: &[u8], state: u16, device: Device) -> Result<Placed, Refusal>;
+
+    fn groups(&self, mesh: &[u16], axes: &[Axis], out: &mut [Device]) -> Result<(), Refusal>;
+
+    fn run(&self, file: &[u8], work: &mut [u32], spare: &mut [u32]) -> Result<(), Refusal>;
+
+    /// The shard sizes of every state, the start first.
+    fn shards(&self, file: &[u8]) -> Result<Vec<Sizes>, Refusal> {
+        let steps = self.check(file)?.steps;
+        (0..=steps)
+            .map(|state| Ok(self.place(file, state, Device(0))?.shard))
+            .collect()
+    }
+}
+
+pub struct Reference;
+
+impl Implementation for Reference {
+    fn name(&self) -> &'static str {
+        "reference"
+    }
+
+    fn check(&self, file: &[u8]) -> Result<Checked, Refusal> {
+        Ok(reference::check(file)?.checked)
+    }
+
+    fn place(&self, file: &[u8], state: u16, device: Device) -> Result<Placed, Refusal> {
+        reference::place(file, state, device)
+    }
+
+    fn groups(&self, mesh: &[u16], axes: &[Axis], out: &mut [Device]) -> Result<(), Refusal> {
+        reference::groups(mesh, axes, out)
+    }
+
+    fn run(&self, file: &[u8], work: &mut [u32], spare: &mut [u32]) -> Result<(), Refusal> {
+        reference::run(file, work, spare)
+    }
+
+    fn shards(&self, file: &[u8]) -> Result<Vec<Sizes>, Refusal> {
+        Ok(reference::check(file)?.shards)
+    }
+}
+
+#[cfg(library)]
+pub struct Library;
+
+#[cfg(library)]
+impl Implementation for Library {
+    fn name(&self) -> &'static str {
+        "library"
+    }
+
+    fn check(&self, file: &[u8]) -> Result<Checked, Refusal> {
+        library::check(file)
+    }
+
+    fn place(&self, file: &[u8], state: u16, device: Device) -> Result<Placed, Refusal> {
+        library::place(file, state, device)
+    }
+
+    fn groups(&self, mesh: &[u16], axes: &[Axis], out: &mut [Device]) -> Result<(), Refusal> {
+        library::groups(mesh, axes, out)
+    }
+
+    fn run(&self, file: &[u8], work: &mut [u32], spare: &mut [u32]) -> Result<(), Refusal> {
+        library::run(file, work, spare)
+    }
+}
+
+/// The verified library, when the archive is linked.
+pub fn library() -> Option<&'static dyn Implementation> {
+    #[cfg(library)]
+    return Some(&Library);
+    #[cfg(not(library))]
+    None
+}
+
+/// The reference, and the library when it is linked.
+pub fn implementations() -> Vec<&'static dyn Implementation> {
+    let reference: &'static dyn Implementation = &Reference;
+    std::iter::once(reference).chain(library()).collect()
+}

@@ -1,0 +1,790 @@
+//! Random plan files: accepted ones, ones broken in a chosen way, damaged ones.
+//!
+//! A `Draft` is a plan before it is bytes. The generator keeps its own account of the sharding,
+//! so that it knows what each next step may name.
+
+use crate::answers::{
+    Axis, Dim, Refusal, MOST_AXES, MOST_BYTES, MOST_DEVICES, MOST_RANK, MOST_STEPS, MOST_WORDS,
+};
+use crate::random::Random;
+use crate::spreads::product;
+
+/// One axis list for each dimension.
+pub type Lists = Vec<Vec<Axis>>;
+
+/// A plan with the parts of a file, sound or not.
+#[derive(Clone, Debug, Default)]
+pub struct Draft {
+    pub mesh: Vec<u16>,
+    pub table: Vec<u16>,
+    pub start: Lists,
+    pub unreduced: Vec<Axis>,
+    pub steps: Vec<Step>,
+}
+
+#[derive(Clone, Debug)]
+pub enum Step {
+    Slice(Lists),
+    Gather(Lists),
+    Reduce(Vec<Axis>),
+    AllToAll(Dim, Dim, Vec<Axis>),
+    /// Bytes that are no step.
+    Bytes(Vec<u8>),
+}
+
+/// How large an accepted plan may be.
+#[derive(Clone, Copy)]
+pub struct Scale {
+    pub devices: usize,
+    pub words: usize,
+    pub steps: usize,
+}
+
+/// The refusals that a file alone can meet.
+pub const FILE_REFUSALS: [u8; 26] = [
+    1, 2, 3, 4, 5, 6, 7, 8, 9, 10, 11, 12, 13, 14, 15, 16, 17, 20, 21, 22, 23, 24, 25, 26, 27, 28,
+];
+
+/// Axes by their numbers.
+pub fn axes(numbers: &[u8]) -> Vec<Axis> {
+    numbers.iter().map(|&number| Axis(number)).collect()
+}
+
+/// Lists of axes by their numbers.
+pub fn lists(numbers: &[&[u8]]) -> Lists {
+    numbers.iter().map(|list| axes(list)).collect()
+}
+
+impl Draft {
+    /// The file, with every offset where it belongs.
+    pub fn encode(&self) -> Vec<u8> {
+        let mesh = sizes_section(&self.mesh);
+        let table = sizes_section(&self.table);
+        let mut start = lists_section(&self.start);
+        start.extend(list_section(&self.unreduced));
+        let steps: Vec<u8> = self.steps.iter().flat_map(Step::encode).collect();
+        let mut numbers = vec![1, self.mesh.len(), self.table.len(), self.steps.len()];
+        let mut at = 18;
+        numbers.push(at);
+        for section in [&mesh, &table, &start, &steps] {
+            at += section.len();
+            numbers.push(at);
+        }
+        let header = numbers.iter().flat_map(|&n| (n as u16).to_le_bytes());
+        header.chain([mesh, table, start, steps].concat()).collect()
+    }
+
+    /// The same plan up to some step.
+    pub fn prefix(&self, steps: usize) -> Draft {
+        let mut draft = self.clone();
+        draft.steps.truncate(steps);
+        draft
+    }
+
+    fn tracked(&self, steps: usize) -> Tracked<'_> {
+        let mut tracked = Tracked::start(self);
+        self.steps[..steps]
+            .iter()
+            .for_each(|step| tracked.advance(step));
+        tracked
+    }
+}
+
+fn sizes_section(sizes: &[u16]) -> Vec<u8> {
+    sizes.iter().flat_map(|size| size.to_le_bytes()).collect()
+}
+
+fn list_section(list: &[Axis]) -> Vec<u8> {
+    let count = list.len() as u8;
+    let axes = list.iter().map(|axis| axis.0);
+    std::iter::once(count).chain(axes).collect()
+}
+
+fn lists_section(lists: &[Vec<Axis>]) -> Vec<u8> {
+    lists.iter().flat_map(|list| list_section(list)).collect()
+}
+
+impl Step {
+    fn encode(&self) -> Vec<u8> {
+        match self {
+            Step::Slice(lists) => [vec![1], lists_section(lists)].concat(),
+            Step::Gather(lists) => [vec![2], lists_section(lists)].concat(),
+            Step::Reduce(list) => [vec![3], list_section(list)].concat(),
+            Step::AllToAll(source, target, list) => {
+                [vec![4, source.0, target.0], list_section(list)].concat()
+            }
+            Step::Bytes(bytes) => bytes.clone(),
+        }
+    }
+}
+
+/// The generator's account of a state.
+struct Tracked<'a> {
+    mesh: &'a [u16],
+    dims: Lists,
+    unreduced: Vec<Axis>,
+    shard: Vec<usize>,
+}
+
+impl<'a> Tracked<'a> {
+    fn start(draft: &'a Draft) -> Self {
+        let mut tracked = Tracked {
+            mesh: &draft.mesh,
+            dims: draft.start.clone(),
+            unreduced: draft.unreduced.clone(),
+            shard: draft.table.iter().map(|&size| size.into()).collect(),
+        };
+        for (dim, list) in draft.start.iter().enumerate() {
+            tracked.shard[dim] /= tracked.pieces(list);
+        }
+        tracked
+    }
+
+    fn rank(&self) -> usize {
+        self.dims.len()
+    }
+
+    fn size(&self, axis: Axis) -> usize {
+        self.mesh[axis.index()].into()
+    }
+
+    fn pieces(&self, list: &[Axis]) -> usize {
+        list.iter().map(|&axis| self.size(axis)).product()
+    }
+
+    fn axes(&self) -> Vec<Axis> {
+        (0..self.mesh.len() as u8).map(Axis).collect()
+    }
+
+    fn is_replicated(&self, axis: Axis) -> bool {
+        let sharded = self.dims.iter().any(|list| list.contains(&axis));
+        !sharded && !self.unreduced.contains(&axis)
+    }
+
+    fn replicated(&self) -> Vec<Axis> {
+        let mut axes = self.axes();
+        axes.retain(|&axis| self.is_replicated(axis));
+        axes
+    }
+
+    fn no_lists(&self) -> Lists {
+        vec![Vec::new(); self.rank()]
+    }
+
+    fn advance(&mut self, step: &Step) {
+        match step {
+            Step::Slice(lists) => self.slice(lists),
+            Step::Gather(lists) => self.gather(lists),
+            Step::Reduce(list) => self.unreduced.retain(|axis| !list.contains(axis)),
+            Step::AllToAll(source, target, list) => {
+                let mut off = self.no_lists();
+                off[source.index()] = list.clone();
+                self.gather(&off);
+                let mut onto = self.no_lists();
+                onto[target.index()] = list.clone();
+                self.slice(&onto);
+            }
+            Step::Bytes(_) => {}
+        }
+    }
+
+    fn slice(&mut self, lists: &Lists) {
+        for (dim, list) in lists.iter().enumerate() {
+            self.dims[dim].extend(list);
+            self.shard[dim] /= self.pieces(list);
+        }
+    }
+
+    fn gather(&mut self, lists: &Lists) {
+        for (dim, list) in lists.iter().enumerate() {
+            let kept = self.dims[dim].len() - list.len();
+            self.dims[dim].truncate(kept);
+            self.shard[dim] *= self.pieces(list);
+        }
+    }
+
+    /// A step that is accepted here, if there is one of some kind.
+    fn random_step(&self, random: &mut Random) -> Option<Step> {
+        let mut kinds = [1, 1, 2, 2, 3, 4, 4];
+        random.shuffle(&mut kinds);
+        kinds.iter().find_map(|kind| match kind {
+            1 => self.random_slice(random),
+            2 => self.random_gather(random),
+            3 => self.random_reduce(random),
+            _ => self.random_all_to_all(random),
+        })
+    }
+
+    fn random_slice(&self, random: &mut Random) -> Option<Step> {
+        let mut left = self.shard.clone();
+        let mut lists = self.no_lists();
+        let mut axes = self.replicated();
+        random.shuffle(&mut axes);
+        let wanted = random.between(1, MOST_AXES);
+        for axis in axes {
+            let dim = random.below(self.rank());
+            let named: usize = lists.iter().map(Vec::len).sum();
+            if named < wanted && left[dim].is_multiple_of(self.size(axis)) {
+                left[dim] /= self.size(axis);
+                lists[dim].push(axis);
+            }
+        }
+        let names_some = lists.iter().any(|list| !list.is_empty());
+        names_some.then_some(Step::Slice(lists))
+    }
+
+    fn random_gather(&self, random: &mut Random) -> Option<Step> {
+        let lists: Lists = self.dims.iter().map(|list| tail(random, list, 0)).collect();
+        let names_some = lists.iter().any(|list| !list.is_empty());
+        names_some.then_some(Step::Gather(lists))
+    }
+
+    fn random_reduce(&self, random: &mut Random) -> Option<Step> {
+        let mut list = self.unreduced.clone();
+        list.retain(|_| random.once_in(2));
+        (!list.is_empty()).then_some(Step::Reduce(list))
+    }
+
+    fn random_all_to_all(&self, random: &mut Random) -> Option<Step> {
+        let (source, target) = self.random_dims(random)?;
+        let from = &self.dims[source.index()];
+        if from.is_empty() {
+            return None;
+        }
+        let list = tail(random, from, 1);
+        let divides = self.shard[target.index()].is_multiple_of(self.pieces(&list));
+        divides.then_some(Step::AllToAll(source, target, list))
+    }
+
+    /// A source and a target that are not the same.
+    fn random_dims(&self, random: &mut Random) -> Option<(Dim, Dim)> {
+        if self.rank() < 2 {
+            return None;
+        }
+        let mut dims: Vec<u8> = (0..self.rank() as u8).collect();
+        random.shuffle(&mut dims);
+        Some((Dim(dims[0]), Dim(dims[1])))
+    }
+}
+
+/// Some of the last axes of a list, at least so many.
+fn tail(random: &mut Random, list: &[Axis], least: usize) -> Vec<Axis> {
+    list[list.len() - random.between(least, list.len())..].to_vec()
+}
+
+/// A plan that document 01 accepts.
+pub fn accepted(random: &mut Random, scale: Scale) -> Draft {
+    let mesh = random_mesh(random, scale.devices);
+    let rank = random.between(1, MOST_RANK);
+    let mut draft = with_random_start(random, mesh, rank);
+    draft.table = random_table(random, &draft, scale.words);
+    add_steps(random, &mut draft, scale.steps);
+    draft
+}
+
+/// A scale that is small most of the time, so that many plans can be run.
+pub fn random_scale(random: &mut Random) -> Scale {
+    let most = random.pick(&[0, 1, 2, 4, 8, 16, MOST_STEPS]);
+    Scale {
+        devices: random.pick(&[1, 4, 8, 16, 16, 32, 64, MOST_DEVICES]),
+        words: random.pick(&[8, 64, 64, 256, 256, 1024, MOST_WORDS]),
+        steps: random.between(most / 2, most),
+    }
+}
+
+/// A plan at every limit: 256 devices, 4,096 words, 64 steps, and a state of 1,048,576 words.
+pub fn at_limits(random: &mut Random) -> Draft {
+    loop {
+        let draft = with_largest_state(random);
+        // Where no axis divides a dimension there may be no step to take.
+        if draft.steps.len() == MOST_STEPS {
+            return draft;
+        }
+    }
+}
+
+fn with_largest_state(random: &mut Random) -> Draft {
+    let (axes, rank) = (random.between(1, MOST_AXES), random.between(1, MOST_RANK));
+    let mesh = powers_of_two(random, axes, MOST_DEVICES);
+    let mut draft = Draft {
+        table: powers_of_two(random, rank, MOST_WORDS),
+        start: vec![Vec::new(); rank],
+        ..Draft::default()
+    };
+    // With no axis on a dimension every shard is the whole table.
+    for axis in (0..mesh.len() as u8).map(Axis) {
+        if random.once_in(2) {
+            draft.unreduced.push(axis);
+        }
+    }
+    draft.mesh = mesh;
+    add_steps(random, &mut draft, MOST_STEPS);
+    draft
+}
+
+fn powers_of_two(random: &mut Random, count: usize, product: usize) -> Vec<u16> {
+    let mut sizes = vec![1; count];
+    for _ in 0..product.ilog2() {
+        sizes[random.below(count)] *= 2;
+    }
+    sizes
+}
+
+fn random_mesh(random: &mut Random, most: usize) -> Vec<u16> {
+    let count = random.between(1, MOST_AXES);
+    let mut left = most;
+    let mut size = || {
+        let size = match random.below(8) {
+            0 => 1,
+            1 => random.between(1, left),
+            _ => random.between(2, 4).min(left),
+        };
+        left /= size;
+        size as u16
+    };
+    let mut mesh: Vec<u16> = (0..count).map(|_| size()).collect();
+    random.shuffle(&mut mesh);
+    mesh
+}
+
+/// Gives each axis a place in the start: on a dimension, unreduced or replicated.
+fn with_random_start(random: &mut Random, mesh: Vec<u16>, rank: usize) -> Draft {
+    let mut start = vec![Vec::new(); rank];
+    let mut unreduced = Vec::new();
+    let mut axes: Vec<Axis> = (0..mesh.len() as u8).map(Axis).collect();
+    random.shuffle(&mut axes);
+    for axis in axes {
+        match random.below(5) {
+            0 | 1 => start[random.below(rank)].push(axis),
+            2 => unreduced.push(axis),
+            _ => {}
+        }
+    }
+    unreduced.sort();
+    Draft {
+        mesh,
+        start,
+        unreduced,
+        ..Draft::default()
+    }
+}
+
+/// Sizes that the start divides. Most further factors are sizes of axes, for slices to come.
+fn random_table(random: &mut Random, draft: &Draft, most: usize) -> Vec<u16> {
+    let pieces = |list: &Vec<Axis>| list.iter().map(|axis| draft.mesh[axis.index()]).product();
+    let mut table: Vec<u16> = draft.start.iter().map(pieces).collect();
+    for _ in 0..random.below(16) {
+        let factor = match random.below(4) {
+            0 => random.between(2, 5) as u16,
+            _ => random.pick(&draft.mesh),
+        };
+        if product(&table) * usize::from(factor) <= most {
+            let dim = random.below(table.len());
+            table[dim] *= factor;
+        }
+    }
+    table
+}
+
+/// Adds up to so many steps; fewer when no step of any kind can be found.
+fn add_steps(random: &mut Random, draft: &mut Draft, count: usize) {
+    let mut steps = Vec::new();
+    let mut tracked = Tracked::start(draft);
+    for _ in 0..count {
+        let found = (0..20).find_map(|_| tracked.random_step(random));
+        let Some(step) = found else { break };
+        tracked.advance(&step);
+        steps.push(step);
+    }
+    draft.steps = steps;
+}
+
+/// A file that is refused with this number, and the whole refusal.
+pub fn broken(random: &mut Random, number: u8) -> (Vec<u8>, Refusal) {
+    loop {
+        let scale = random_scale(random);
+        let draft = accepted(random, scale);
+        let tried = match number {
+            1..=9 => broken_bytes(random, &draft, number),
+            10..=17 => broken_start(random, draft, number),
+            _ => broken_step(random, draft, number),
+        };
+        // Not every plan can be broken in every way.
+        if let Some(broken) = tried {
+            return broken;
+        }
+    }
+}
+
+/// Breaks the header, the length of a section or a count.
+fn broken_bytes(random: &mut Random, draft: &Draft, number: u8) -> Option<(Vec<u8>, Refusal)> {
+    let mut file = draft.encode();
+    let whole = file.len();
+    match number {
+        1 => file.truncate(random.below(18)),
+        2 => file.resize(random.between(MOST_BYTES + 1, MOST_BYTES + 200), 0),
+        3 => change_number(random, &mut file, 0),
+        4 => change_number(random, &mut file, 8),
+        5 => return Some((broken_limit(random, draft), Refusal::whole(5))),
+        6 => {
+            let section = random.between(4, 7);
+            change_number(random, &mut file, section);
+        }
+        7 => {
+            file.truncate(random.between(18, whole - 1));
+            mend_length(&mut file);
+        }
+        8 => {
+            let count = random.pick(&count_places(draft));
+            file[count] = random.between(draft.mesh.len() + 1, 255) as u8;
+        }
+        9 => {
+            file.extend((0..random.between(1, 40)).map(|_| random.byte()));
+            mend_length(&mut file);
+        }
+        _ => return None,
+    }
+    Some((file, Refusal::whole(number)))
+}
+
+/// Writes another number at an entry of the header.
+fn change_number(random: &mut Random, file: &mut [u8], entry: usize) {
+    let place: &mut [u8] = &mut file[2 * entry..][..2];
+    let old = u16::from_le_bytes([place[0], place[1]]);
+    let near = [1, 2, u16::MAX, 256];
+    let added = match random.once_in(2) {
+        true => random.pick(&near),
+        false => random.between(1, 65535) as u16,
+    };
+    place.copy_from_slice(&old.wrapping_add(added).to_le_bytes());
+}
+
+/// Makes the header's last entry the number of bytes.
+pub fn mend_length(file: &mut [u8]) {
+    if file.len() >= 18 {
+        let length = file.len() as u16;
+        file[16..18].copy_from_slice(&length.to_le_bytes());
+    }
+}
+
+/// A plan with too many or too few axes, dimensions or steps.
+fn broken_limit(random: &mut Random, draft: &Draft) -> Vec<u8> {
+    let mut draft = draft.clone();
+    match random.below(4) {
+        0 => draft.mesh = vec![1; random.pick(&[0, MOST_AXES + 1, MOST_AXES + 2])],
+        1 => {
+            let rank = random.pick(&[0, MOST_RANK + 1, MOST_RANK + 2]);
+            draft.table = vec![1; rank];
+            draft.start = vec![Vec::new(); rank];
+        }
+        2 => {
+            let steps = random.between(MOST_STEPS + 1, MOST_STEPS + 9);
+            draft.steps = vec![Step::Reduce(axes(&[0])); steps];
+        }
+        _ => {
+            let mut file = draft.encode();
+            let entry = 2 * random.between(1, 3);
+            file[entry + 1] = random.between(1, 255) as u8;
+            return file;
+        }
+    }
+    draft.encode()
+}
+
+/// Where the counts of all lists stand in the file.
+fn count_places(draft: &Draft) -> Vec<usize> {
+    let mut at = 18 + 2 * (draft.mesh.len() + draft.table.len());
+    let mut places = Vec::new();
+    let mut pass = |lists: &[Vec<Axis>], before: usize| {
+        at += before;
+        for list in lists {
+            places.push(at);
+            at += 1 + list.len();
+        }
+    };
+    pass(&draft.start, 0);
+    pass(std::slice::from_ref(&draft.unreduced), 0);
+    for step in &draft.steps {
+        match step {
+            Step::Slice(lists) | Step::Gather(lists) => pass(lists, 1),
+            Step::Reduce(list) => pass(std::slice::from_ref(list), 1),
+            Step::AllToAll(_, _, list) => pass(std::slice::from_ref(list), 3),
+            Step::Bytes(_) => {}
+        }
+    }
+    places
+}
+
+/// Breaks the mesh, the table or the starting sharding.
+fn broken_start(random: &mut Random, mut draft: Draft, number: u8) -> Option<(Vec<u8>, Refusal)> {
+    let axis = random.below(draft.mesh.len());
+    let dim = random.below(draft.table.len());
+    match number {
+        10 => draft.mesh[axis] = 0,
+        11 => draft.mesh[axis] = past(random, MOST_DEVICES),
+        12 => draft.table[dim] = 0,
+        13 => draft.table[dim] = past(random, MOST_WORDS),
+        14 => name_no_axis(random, &mut draft),
+        15 => name_again(random, &mut draft)?,
+        16 => unsort(random, &mut draft)?,
+        17 => {
+            let list = &draft.start[dim];
+            let pieces: u16 = list.iter().map(|axis| draft.mesh[axis.index()]).product();
+            if pieces < 2 {
+                return None;
+            }
+            draft.table[dim] -= random.between(1, usize::from(pieces) - 1) as u16;
+        }
+        _ => return None,
+    }
+    Some((draft.encode(), Refusal::whole(number)))
+}
+
+/// A size that passes a limit, often by one.
+fn past(random: &mut Random, most: usize) -> u16 {
+    match random.once_in(3) {
+        true => most as u16 + 1,
+        false => random.between(most + 1, 65535) as u16,
+    }
+}
+
+fn no_axis(random: &mut Random, mesh: &[u16]) -> Axis {
+    let first = mesh.len();
+    let last = random.pick(&[first, 255]);
+    Axis(random.between(first, last) as u8)
+}
+
+/// Puts a number that is no axis in one of the start's lists.
+fn name_no_axis(random: &mut Random, draft: &mut Draft) {
+    let axis = no_axis(random, &draft.mesh);
+    let most = draft.mesh.len();
+    let list = start_list(random, draft);
+    if list.len() == most {
+        list.pop();
+    }
+    list.insert(random.below(list.len() + 1), axis);
+}
+
+fn start_list<'a>(random: &mut Random, draft: &'a mut Draft) -> &'a mut Vec<Axis> {
+    let index = random.below(draft.start.len() + 1);
+    match draft.start.get_mut(index) {
+        Some(list) => list,
+        None => &mut draft.unreduced,
+    }
+}
+
+/// Names one of the start's axes twice.
+fn name_again(random: &mut Random, draft: &mut Draft) -> Option<()> {
+    let named: Vec<Axis> = draft
+        .start
+        .iter()
+        .chain([&draft.unreduced])
+        .flatten()
+        .copied()
+        .collect();
+    if named.is_empty() {
+        return None;
+    }
+    let axis = random.pick(&named);
+    let most = draft.mesh.len();
+    // At the end of a list it cannot come before an unreduced axis and be judged for the order.
+    let list = start_list(random, draft);
+    if list.len() == most {
+        return None;
+    }
+    list.push(axis);
+    Some(())
+}
+
+/// Changes the order of the start's unreduced axes.
+fn unsort(random: &mut Random, draft: &mut Draft) -> Option<()> {
+    if draft.unreduced.len() < 2 {
+        return None;
+    }
+    let first = random.below(draft.unreduced.len() - 1);
+    draft.unreduced.swap(first, first + 1);
+    Some(())
+}
+
+/// Puts a step that is refused somewhere among the steps.
+fn broken_step(random: &mut Random, mut draft: Draft, number: u8) -> Option<(Vec<u8>, Refusal)> {
+    let at = random.between(0, draft.steps.len().min(MOST_STEPS - 1));
+    let step = faulty(random, &draft.tracked(at), number)?;
+    draft.steps.insert(at, step);
+    draft.steps.truncate(MOST_STEPS);
+    let refusal = Refusal {
+        number,
+        step: at as u8 + 1,
+    };
+    Some((draft.encode(), refusal))
+}
+
+fn faulty(random: &mut Random, state: &Tracked, number: u8) -> Option<Step> {
+    match number {
+        20 => Some(no_kind(random)),
+        21 => Some(names_nothing(random, state)),
+        22 => Some(names_no_axis(random, state)),
+        23 => slices_again(random, state),
+        24 => gathers_no_tail(random, state),
+        25 => leaves_a_remainder(random, state),
+        26 => reduces_unsorted(random, state),
+        27 => reduces_other(random, state),
+        28 => bad_dims(random, state),
+        _ => None,
+    }
+}
+
+fn no_kind(random: &mut Random) -> Step {
+    let kind = match random.once_in(3) {
+        true => 0,
+        false => random.between(5, 255) as u8,
+    };
+    let rest = (0..random.below(6)).map(|_| random.byte());
+    Step::Bytes(std::iter::once(kind).chain(rest).collect())
+}
+
+fn names_nothing(random: &mut Random, state: &Tracked) -> Step {
+    match random.below(4) {
+        0 => Step::Slice(state.no_lists()),
+        1 => Step::Gather(state.no_lists()),
+        2 => Step::Reduce(Vec::new()),
+        _ => Step::AllToAll(Dim(random.byte() % 6), Dim(random.byte() % 6), Vec::new()),
+    }
+}
+
+fn names_no_axis(random: &mut Random, state: &Tracked) -> Step {
+    let mut list = some_axes(random, state, 0, state.mesh.len() - 1);
+    list.insert(random.below(list.len() + 1), no_axis(random, state.mesh));
+    let mut lists = state.no_lists();
+    for list in &mut lists {
+        *list = some_axes(random, state, 0, state.mesh.len());
+    }
+    lists[random.below(state.rank())] = list.clone();
+    match random.below(4) {
+        0 => Step::Slice(lists),
+        1 => Step::Gather(lists),
+        2 => Step::Reduce(list),
+        _ => Step::AllToAll(Dim(random.byte() % 6), Dim(random.byte() % 6), list),
+    }
+}
+
+/// Any axes of the mesh in any order, perhaps some more than once.
+fn some_axes(random: &mut Random, state: &Tracked, least: usize, most: usize) -> Vec<Axis> {
+    let count = random.between(least, most);
+    let all = state.axes();
+    (0..count).map(|_| random.pick(&all)).collect()
+}
+
+/// Slices an axis that is not replicated, or the same axis twice.
+fn slices_again(random: &mut Random, state: &Tracked) -> Option<Step> {
+    let mut lists = state.no_lists();
+    for axis in state.replicated() {
+        if random.once_in(2) {
+            lists[random.below(state.rank())].push(axis);
+        }
+    }
+    let named: Vec<Axis> = lists.iter().flatten().copied().collect();
+    let mut bad = state.axes();
+    bad.retain(|&axis| !state.is_replicated(axis) || named.contains(&axis));
+    let list = &mut lists[random.below(state.rank())];
+    if bad.is_empty() || list.len() == state.mesh.len() {
+        return None;
+    }
+    list.insert(random.below(list.len() + 1), random.pick(&bad));
+    Some(Step::Slice(lists))
+}
+
+/// Gathers something that is not the tail of its dimension's list.
+fn gathers_no_tail(random: &mut Random, state: &Tracked) -> Option<Step> {
+    let dim = random.below(state.rank());
+    let mut list = some_axes(random, state, 1, state.mesh.len());
+    // The right axes in a wrong order, or without the last of them, are the likelier errors.
+    if !state.dims[dim].is_empty() && !random.once_in(4) {
+        list = tail(random, &state.dims[dim], 1);
+        match random.once_in(2) {
+            true => random.shuffle(&mut list),
+            false => list.truncate(random.between(1, list.len())),
+        }
+    }
+    if state.dims[dim].ends_with(&list) {
+        return None;
+    }
+    if random.once_in(2) {
+        let (_, target) = state.random_dims(random)?;
+        let source = Dim(dim as u8);
+        return (source != target).then_some(Step::AllToAll(source, target, list));
+    }
+    let mut lists: Lists = state.dims.iter().map(|all| tail(random, all, 0)).collect();
+    lists[dim] = list;
+    Some(Step::Gather(lists))
+}
+
+/// Slices a dimension whose shard size cannot be divided.
+fn leaves_a_remainder(random: &mut Random, state: &Tracked) -> Option<Step> {
+    if random.once_in(2) {
+        let (source, target) = state.random_dims(random)?;
+        let from = &state.dims[source.index()];
+        let list = tail(random, from, from.len().min(1));
+        let divides = state.shard[target.index()].is_multiple_of(state.pieces(&list));
+        return (!divides).then_some(Step::AllToAll(source, target, list));
+    }
+    let dim = random.below(state.rank());
+    let mut list = state.replicated();
+    random.shuffle(&mut list);
+    list.truncate(random.between(0, list.len()));
+    if state.shard[dim].is_multiple_of(state.pieces(&list)) {
+        return None;
+    }
+    let mut lists = state.no_lists();
+    lists[dim] = list;
+    Some(Step::Slice(lists))
+}
+
+fn reduces_unsorted(random: &mut Random, state: &Tracked) -> Option<Step> {
+    let list = some_axes(random, state, 0, state.mesh.len());
+    let sorted = list.is_sorted_by(|one, next| one < next);
+    (!sorted).then_some(Step::Reduce(list))
+}
+
+fn reduces_other(random: &mut Random, state: &Tracked) -> Option<Step> {
+    let mut list = state.axes();
+    list.retain(|_| random.once_in(2));
+    let all_unreduced = list.iter().all(|axis| state.unreduced.contains(axis));
+    (!all_unreduced).then_some(Step::Reduce(list))
+}
+
+fn bad_dims(random: &mut Random, state: &Tracked) -> Option<Step> {
+    let list = some_axes(random, state, 1, state.mesh.len());
+    let rank = state.rank();
+    let mut dim = || Dim(random.pick(&[0, 1, 2, 3, 4, 5, 255]));
+    let (source, target) = (dim(), dim());
+    let sound = source != target && source.index() < rank && target.index() < rank;
+    (!sound).then_some(Step::AllToAll(source, target, list))
+}
+
+/// A file with some bytes changed, lost or added; often of a length that the header admits to.
+pub fn damaged(random: &mut Random, file: &[u8]) -> Vec<u8> {
+    let mut file = file.to_vec();
+    for _ in 0..random.between(1, 3) {
+        damage(random, &mut file);
+    }
+    if random.once_in(2) {
+        mend_length(&mut file);
+    }
+    file
+}
+
+fn damage(random: &mut Random, file: &mut Vec<u8>) {
+    if file.is_empty() {
+        return file.push(random.byte());
+    }
+    let at = random.below(file.len());
+    match random.below(6) {
+        0 => file[at] ^= 1 << random.below(8),
+        1 => file[at] = random.byte() % 8,
+        2 => file[at] = random.byte(),
+        3 => file.truncate(at),
+        4 => file.insert(at, random.byte() % 8),
+        _ => drop(file.remove(at)),
+    }
+}

@@ -1,0 +1,662 @@
+//! Document 01 in plain Rust, written from that document alone.
+//!
+//! A file is judged into a `Plan`, which holds the state after every step. The calls read their
+//! answers off the plan. A run moves the words between the two lent buffers, step by step.
+
+use crate::answers::{
+    Axis, AxisList, Checked, Device, Dim, DimLists, Placed, Refusal, Sharding, Sizes, LEAST_BYTES,
+    MOST_AXES, MOST_BYTES, MOST_DEVICES, MOST_RANK, MOST_STEPS, MOST_WORDS,
+};
+use crate::short::Short;
+use std::mem;
+
+/// The answer of the check, and the shard sizes of every state, the start first.
+#[derive(Clone, Debug, PartialEq, Eq)]
+pub struct Judged {
+    pub checked: Checked,
+    pub shards: Vec<Sizes>,
+}
+
+/// Judges a plan file.
+pub fn check(file: &[u8]) -> Result<Judged, Refusal> {
+    let plan = Plan::judge(file)?;
+    let last = plan.last();
+    let checked = Checked {
+        room: plan.room() as u32,
+        devices: plan.mesh.devices as u16,
+        steps: plan.steps.len() as u16,
+        sharding: last.sharding,
+        shard: last.shard,
+    };
+    let shards = plan.states.iter().map(|state| state.shard).collect();
+    Ok(Judged { checked, shards })
+}
+
+/// Tells how a state is sharded, and where in the table a device's shard begins.
+pub fn place(file: &[u8], state: u16, device: Device) -> Result<Placed, Refusal> {
+    let plan = Plan::judge(file)?;
+    let state = plan
+        .states
+        .get(usize::from(state))
+        .ok_or(Refusal::whole(34))?;
+    if device.index() >= plan.mesh.devices {
+        return Err(Refusal::whole(32));
+    }
+    let lists = state.sharding.dims.iter();
+    let first = lists
+        .zip(&state.shard)
+        .map(|(list, &size)| plan.mesh.position(device.index(), list) as u16 * size)
+        .collect();
+    Ok(Placed {
+        sharding: state.sharding,
+        shard: state.shard,
+        first,
+    })
+}
+
+/// Lists the devices of a mesh group by group.
+pub fn groups(mesh: &[u16], axes: &[Axis], out: &mut [Device]) -> Result<(), Refusal> {
+    if !(1..=MOST_AXES).contains(&mesh.len()) {
+        return Err(Refusal::whole(5));
+    }
+    let mesh = Mesh::judge(mesh.iter().copied().collect())?;
+    let mut named = Named::default();
+    axes.iter().try_for_each(|&axis| named.name(&mesh, axis))?;
+    if out.len() < mesh.devices {
+        return Err(Refusal::whole(33));
+    }
+    for (entry, device) in out.iter_mut().zip(mesh.listing(axes)) {
+        *entry = Device(device as u16);
+    }
+    Ok(())
+}
+
+/// Runs a plan on the words in `work`; `spare` is lent to hold every other state.
+pub fn run(file: &[u8], work: &mut [u32], spare: &mut [u32]) -> Result<(), Refusal> {
+    let plan = Plan::judge(file)?;
+    let room = plan.room();
+    if work.len() < room {
+        return Err(Refusal::whole(30));
+    }
+    if spare.len() < room {
+        return Err(Refusal::whole(31));
+    }
+    plan.apply(&mut work[..room], &mut spare[..room]);
+    let words = plan.mesh.devices * plan.last().words();
+    if plan.steps.len() % 2 == 1 {
+        work[..words].copy_from_slice(&spare[..words]);
+    }
+    work[words..].fill(0);
+    spare.fill(0);
+    Ok(())
+}
+
+/// An accepted plan; `states` has one entry more than `steps`.
+struct Plan {
+    mesh: Mesh,
+    steps: Vec<Step>,
+    states: Vec<State>,
+}
+
+impl Plan {
+    fn judge(file: &[u8]) -> Result<Plan, Refusal> {
+        let header = Header::judge(file)?;
+        let mut reader = Reader { file, at: 18 };
+        reader.expect_at(header.mesh_at)?;
+        let mesh = Mesh::judge(reader.sizes(header.axes)?)?;
+        reader.expect_at(header.table_at)?;
+        let table: Sizes = reader.sizes(header.rank)?;
+        product_within(&table, 12, MOST_WORDS, 13)?;
+        reader.expect_at(header.start_at)?;
+        let start = reader.sharding(header.axes, header.rank)?;
+        reader.expect_at(header.steps_at)?;
+        let start = State::start(&mesh, &table, start)?;
+        let (steps, states) = judge_steps(&mut reader, &mesh, start, header.steps)?;
+        if reader.at < file.len() {
+            return Err(Refusal::whole(9));
+        }
+        Ok(Plan {
+            mesh,
+            steps,
+            states,
+        })
+    }
+
+    fn last(&self) -> &State {
+        &self.states[self.steps.len()]
+    }
+
+    fn room(&self) -> usize {
+        let most = self.states.iter().map(State::words).max();
+        self.mesh.devices * most.unwrap_or(0)
+    }
+
+    /// Runs all steps. After an even number of them the state is in `work`, else in `spare`.
+    fn apply(&self, work: &mut [u32], spare: &mut [u32]) {
+        let (mut old, mut new) = (work, spare);
+        for (step, states) in self.steps.iter().zip(self.states.windows(2)) {
+            step.apply(&self.mesh, &states[0], &states[1], old, new);
+            mem::swap(&mut old, &mut new);
+        }
+    }
+}
+
+fn judge_steps(
+    reader: &mut Reader,
+    mesh: &Mesh,
+    start: State,
+    count: usize,
+) -> Result<(Vec<Step>, Vec<State>), Refusal> {
+    let mut steps = Vec::with_capacity(count);
+    let mut states = Vec::with_capacity(count + 1);
+    let mut state = start;
+    states.push(state);
+    for number in 1..=count as u8 {
+        let step = reader.step(mesh.axes(), state.shard.len(), number)?;
+        let judged = step.judge(mesh, &state);
+        state = judged.map_err(|reason| Refusal {
+            number: reason,
+            step: number,
+        })?;
+        steps.push(step);
+        states.push(state);
+    }
+    Ok((steps, states))
+}
+
+/// The numbers at the front of a file, within their limits.
+struct Header {
+    axes: usize,
+    rank: usize,
+    steps: usize,
+    mesh_at: usize,
+    table_at: usize,
+    start_at: usize,
+    steps_at: usize,
+}
+
+impl Header {
+    fn judge(file: &[u8]) -> Result<Header, Refusal> {
+        if file.len() < LEAST_BYTES {
+            return Err(Refusal::whole(1));
+        }
+        if file.len() > MOST_BYTES {
+            return Err(Refusal::whole(2));
+        }
+        let entry = |index: usize| usize::from(number_at(file, 2 * index));
+        if entry(0) != 1 {
+            return Err(Refusal::whole(3));
+        }
+        if entry(8) != file.len() {
+            return Err(Refusal::whole(4));
+        }
+        let (axes, rank, steps) = (entry(1), entry(2), entry(3));
+        let within = (1..=MOST_AXES).contains(&axes)
+            && (1..=MOST_RANK).contains(&rank)
+            && steps <= MOST_STEPS;
+        if !within {
+            return Err(Refusal::whole(5));
+        }
+        Ok(Header {
+            axes,
+            rank,
+            steps,
+            mesh_at: entry(4),
+            table_at: entry(5),
+            start_at: entry(6),
+            steps_at: entry(7),
+        })
+    }
+}
+
+fn number_at(file: &[u8], at: usize) -> u16 {
+    u16::from_le_bytes([file[at], file[at + 1]])
+}
+
+/// Goes through the file from front to back.
+struct Reader<'a> {
+    file: &'a [u8],
+    at: usize,
+}
+
+impl Reader<'_> {
+    fn expect_at(&self, offset: usize) -> Result<(), Refusal> {
+        if offset == self.at {
+            Ok(())
+        } else {
+            Err(Refusal::whole(6))
+        }
+    }
+
+    fn bytes(&mut self, count: usize) -> Result<&[u8], Refusal> {
+        let bytes = self.file[self.at..].get(..count);
+        self.at += count;
+        bytes.ok_or(Refusal::whole(7))
+    }
+
+    fn byte(&mut self) -> Result<u8, Refusal> {
+        Ok(self.bytes(1)?[0])
+    }
+
+    fn sizes<const N: usize>(&mut self, count: usize) -> Result<Short<u16, N>, Refusal> {
+        let bytes = self.bytes(2 * count)?;
+        Ok((0..count).map(|i| number_at(bytes, 2 * i)).collect())
+    }
+
+    fn list(&mut self, axes: usize) -> Result<AxisList, Refusal> {
+        let count = usize::from(self.byte()?);
+        if count > axes {
+            return Err(Refusal::whole(8));
+        }
+        Ok(self.bytes(count)?.iter().map(|&byte| Axis(byte)).collect())
+    }
+
+    fn lists(&mut self, axes: usize, rank: usize) -> Result<DimLists, Refusal> {
+        let mut lists = DimLists::new();
+        for _ in 0..rank {
+            lists.push(self.list(axes)?);
+        }
+        Ok(lists)
+    }
+
+    fn sharding(&mut self, axes: usize, rank: usize) -> Result<Sharding, Refusal> {
+        let dims = self.lists(axes, rank)?;
+        let unreduced = self.list(axes)?;
+        Ok(Sharding { dims, unreduced })
+    }
+
+    fn step(&mut self, axes: usize, rank: usize, number: u8) -> Result<Step, Refusal> {
+        match self.byte()? {
+            1 => Ok(Step::Slice(self.lists(axes, rank)?)),
+            2 => Ok(Step::Gather(self.lists(axes, rank)?)),
+            3 => Ok(Step::Reduce(self.list(axes)?)),
+            4 => Ok(Step::AllToAll {
+                source: Dim(self.byte()?),
+                target: Dim(self.byte()?),
+                axes: self.list(axes)?,
+            }),
+            _ => Err(Refusal {
+                number: 20,
+                step: number,
+            }),
+        }
+    }
+}
+
+/// The product of sizes, refused at the first size that is 0 or takes it past `most`.
+fn product_within(sizes: &[u16], zero: u8, most: usize, past: u8) -> Result<usize, Refusal> {
+    let mut product = 1;
+    for &size in sizes {
+        product *= usize::from(size);
+        if size == 0 {
+            return Err(Refusal::whole(zero));
+        }
+        if product > most {
+            return Err(Refusal::whole(past));
+        }
+    }
+    Ok(product)
+}
+
+struct Mesh {
+    sizes: Short<u16, MOST_AXES>,
+    /// How far apart neighbours along each axis are in device numbers.
+    strides: Short<usize, MOST_AXES>,
+    devices: usize,
+}
+
+impl Mesh {
+    fn judge(sizes: Short<u16, MOST_AXES>) -> Result<Mesh, Refusal> {
+        let devices = product_within(&sizes, 10, MOST_DEVICES, 11)?;
+        let mut left = devices;
+        let stride = |&size: &u16| {
+            left /= usize::from(size);
+            left
+        };
+        let strides = sizes.iter().map(stride).collect();
+        Ok(Mesh {
+            sizes,
+            strides,
+            devices,
+        })
+    }
+
+    fn axes(&self) -> usize {
+        self.sizes.len()
+    }
+
+    fn size(&self, axis: Axis) -> usize {
+        self.sizes[axis.index()].into()
+    }
+
+    /// How many devices a group along these axes has.
+    fn group_size(&self, axes: &[Axis]) -> usize {
+        axes.iter().map(|&axis| self.size(axis)).product()
+    }
+
+    fn coordinate(&self, device: usize, axis: Axis) -> usize {
+        device / self.strides[axis.index()] % self.size(axis)
+    }
+
+    /// The device's position in its group along these axes.
+    fn position(&self, device: usize, axes: &[Axis]) -> usize {
+        axes.iter().fold(0, |position, &axis| {
+            position * self.size(axis) + self.coordinate(device, axis)
+        })
+    }
+
+    /// How far the device at a position of a group is from the one at position 0.
+    fn offset(&self, axes: &[Axis], position: usize) -> usize {
+        let mut left = position;
+        let mut offset = 0;
+        for &axis in axes.iter().rev() {
+            offset += left % self.size(axis) * self.strides[axis.index()];
+            left /= self.size(axis);
+        }
+        offset
+    }
+
+    /// All devices, group after group, by position in each.
+    fn listing(&self, axes: &[Axis]) -> Vec<usize> {
+        let all = (0..self.axes() as u8).map(Axis);
+        let rest: AxisList = all.filter(|axis| !axes.contains(axis)).collect();
+        let offsets_of = |axes: &[Axis]| -> Vec<usize> {
+            let positions = 0..self.group_size(axes);
+            positions.map(|at| self.offset(axes, at)).collect()
+        };
+        let members = offsets_of(axes);
+        let firsts = offsets_of(&rest);
+        let group = |first: usize| members.iter().map(move |member| first + member);
+        firsts.into_iter().flat_map(group).collect()
+    }
+}
+
+/// The axes named so far.
+#[derive(Default)]
+struct Named(AxisList);
+
+impl Named {
+    fn name(&mut self, mesh: &Mesh, axis: Axis) -> Result<(), Refusal> {
+        if axis.index() >= mesh.axes() {
+            return Err(Refusal::whole(14));
+        }
+        if self.0.contains(&axis) {
+            return Err(Refusal::whole(15));
+        }
+        self.0.push(axis);
+        Ok(())
+    }
+}
+
+impl Sharding {
+    fn judge_start(&self, mesh: &Mesh) -> Result<(), Refusal> {
+        let mut named = Named::default();
+        for &axis in self.dims.iter().flatten() {
+            named.name(mesh, axis)?;
+        }
+        let mut before = None;
+        for &axis in &self.unreduced {
+            named.name(mesh, axis)?;
+            if before >= Some(axis) {
+                return Err(Refusal::whole(16));
+            }
+            before = Some(axis);
+        }
+        Ok(())
+    }
+
+    fn is_replicated(&self, axis: Axis) -> bool {
+        let mut lists = self.dims.iter().chain([&self.unreduced]);
+        !lists.any(|list| list.contains(&axis))
+    }
+}
+
+/// A sharding of the plan's table, with its shard sizes.
+#[derive(Clone, Copy)]
+struct State {
+    sharding: Sharding,
+    shard: Sizes,
+}
+
+impl State {
+    fn start(mesh: &Mesh, table: &Sizes, sharding: Sharding) -> Result<State, Refusal> {
+        sharding.judge_start(mesh)?;
+        let shard = divided(mesh, table, &sharding.dims).ok_or(Refusal::whole(17))?;
+        Ok(State { sharding, shard })
+    }
+
+    /// The words of one shard.
+    fn words(&self) -> usize {
+        self.shard.iter().map(|&size| usize::from(size)).product()
+    }
+
+    fn sliced(&self, mesh: &Mesh, lists: &DimLists) -> Result<State, u8> {
+        let mut next = *self;
+        let mut named = AxisList::new();
+        for (dim, list) in next.sharding.dims.iter_mut().zip(lists) {
+            for &axis in list {
+                if !self.sharding.is_replicated(axis) || named.contains(&axis) {
+                    return Err(23);
+                }
+                named.push(axis);
+            }
+            dim.extend(list);
+        }
+        next.shard = divided(mesh, &self.shard, lists).ok_or(25)?;
+        Ok(next)
+    }
+
+    fn gathered(&self, mesh: &Mesh, lists: &DimLists) -> Result<State, u8> {
+        let mut next = *self;
+        for (dim, list) in next.sharding.dims.iter_mut().zip(lists) {
+            if !dim.ends_with(list) {
+                return Err(24);
+            }
+            dim.truncate(dim.len() - list.len());
+        }
+        for (size, list) in next.shard.iter_mut().zip(lists) {
+            *size *= mesh.group_size(list) as u16;
+        }
+        Ok(next)
+    }
+
+    fn reduced(&self, axes: &AxisList) -> Result<State, u8> {
+        if !axes.is_sorted_by(|one, next| one < next) {
+            return Err(26);
+        }
+        let unreduced = self.sharding.unreduced;
+        if !axes.iter().all(|axis| unreduced.contains(axis)) {
+            return Err(27);
+        }
+        let mut next = *self;
+        let kept = unreduced.iter().filter(|axis| !axes.contains(axis));
+        next.sharding.unreduced = kept.copied().collect();
+        Ok(next)
+    }
+}
+
+/// The sizes divided by the lists' group sizes, or nothing where that leaves a remainder.
+fn divided(mesh: &Mesh, sizes: &Sizes, lists: &DimLists) -> Option<Sizes> {
+    let mut quotients = *sizes;
+    for (size, list) in quotients.iter_mut().zip(lists) {
+        let pieces = mesh.group_size(list) as u16;
+        if *size % pieces != 0 {
+            return None;
+        }
+        *size /= pieces;
+    }
+    Some(quotients)
+}
+
+enum Step {
+    Slice(DimLists),
+    Gather(DimLists),
+    Reduce(AxisList),
+    AllToAll {
+        source: Dim,
+        target: Dim,
+        axes: AxisList,
+    },
+}
+
+impl Step {
+    /// All axes of the step, in file order.
+    fn axes(&self) -> &[AxisList] {
+        match self {
+            Step::Slice(lists) | Step::Gather(lists) => lists,
+            Step::Reduce(axes) | Step::AllToAll { axes, .. } => std::slice::from_ref(axes),
+        }
+    }
+
+    /// The state after this step, or the reason against it.
+    fn judge(&self, mesh: &Mesh, state: &State) -> Result<State, u8> {
+        if self.axes().iter().all(|list| list.is_empty()) {
+            return Err(21);
+        }
+        let mut axes = self.axes().iter().flatten();
+        if axes.any(|axis| axis.index() >= mesh.axes()) {
+            return Err(22);
+        }
+        match self {
+            Step::Slice(lists) => state.sliced(mesh, lists),
+            Step::Gather(lists) => state.gathered(mesh, lists),
+            Step::Reduce(axes) => state.reduced(axes),
+            Step::AllToAll { source, target, .. } => {
+                let rank = state.shard.len();
+                if source.index() >= rank || target.index() >= rank || source == target {
+                    return Err(28);
+                }
+                let (gathered, sliced) = self.movement(rank);
+                state.gathered(mesh, &gathered)?.sliced(mesh, &sliced)
+            }
+        }
+    }
+
+    /// The lists gathered off the dimensions and the lists then sliced onto them.
+    fn movement(&self, rank: usize) -> (DimLists, DimLists) {
+        let none: DimLists = (0..rank).map(|_| AxisList::new()).collect();
+        let (mut gathered, mut sliced) = (none, none);
+        match self {
+            Step::Slice(lists) => sliced = *lists,
+            Step::Gather(lists) => gathered = *lists,
+            Step::Reduce(_) => {}
+            Step::AllToAll {
+                source,
+                target,
+                axes,
+            } => {
+                gathered[source.index()] = *axes;
+                sliced[target.index()] = *axes;
+            }
+        }
+        (gathered, sliced)
+    }
+
+    /// Makes the state after the step in `new` from the state before it in `old`.
+    fn apply(&self, mesh: &Mesh, before: &State, after: &State, old: &[u32], new: &mut [u32]) {
+        match self {
+            Step::Reduce(axes) => reduce(mesh, axes, before.words(), old, new),
+            _ => {
+                let (gathered, sliced) = self.movement(before.shard.len());
+                let moved = Move {
+                    mesh,
+                    before,
+                    after,
+                    gathered,
+                    sliced,
+                };
+                moved.apply(old, new);
+            }
+        }
+    }
+}
+
+/// Gives each device the word-by-word sum of its group's shards.
+fn reduce(mesh: &Mesh, axes: &[Axis], words: usize, old: &[u32], new: &mut [u32]) {
+    let mut sum = vec![0; words];
+    for group in mesh.listing(axes).chunks(mesh.group_size(axes)) {
+        sum.fill(0);
+        for device in group {
+            let shard = &old[device * words..][..words];
+            for (total, word) in sum.iter_mut().zip(shard) {
+                *total = word.wrapping_add(*total);
+            }
+        }
+        for device in group {
+            new[device * words..][..words].copy_from_slice(&sum);
+        }
+    }
+}
+
+/// A step that only moves words. Along each dimension it gathers, slices or does neither; the
+/// state between gathering and slicing is never made.
+struct Move<'a> {
+    mesh: &'a Mesh,
+    before: &'a State,
+    after: &'a State,
+    gathered: DimLists,
+    sliced: DimLists,
+}
+
+impl Move<'_> {
+    fn apply(&self, old: &[u32], new: &mut [u32]) {
+        let strides = row_major(&self.before.shard);
+        let sources = self.sources(&strides);
+        let shards = new.chunks_exact_mut(self.after.words());
+        for (device, shard) in shards.take(self.mesh.devices).enumerate() {
+            let old = &old[self.origin(device, &strides)..];
+            for (word, &source) in shard.iter_mut().zip(&sources) {
+                *word = old[source];
+            }
+        }
+    }
+
+    /// Where the first word of a device's new shard lies in the old state.
+    fn origin(&self, device: usize, strides: &[usize]) -> usize {
+        let mut first = device;
+        for list in &self.gathered {
+            first -= self.mesh.offset(list, self.mesh.position(device, list));
+        }
+        let mut origin = first * self.before.words();
+        for ((list, &size), stride) in self.sliced.iter().zip(&self.after.shard).zip(strides) {
+            origin += self.mesh.position(device, list) * usize::from(size) * stride;
+        }
+        origin
+    }
+
+    /// How far each word of a new shard lies from its first word, in the old state. This is the
+    /// same for all devices.
+    fn sources(&self, strides: &[usize]) -> Vec<usize> {
+        let mut sources = vec![0];
+        for (dim, stride) in strides.iter().enumerate() {
+            let along = self.sources_along(dim, *stride);
+            let outer = sources.iter();
+            sources = outer
+                .flat_map(|outer| along.iter().map(move |inner| outer + inner))
+                .collect();
+        }
+        sources
+    }
+
+    /// The same along one dimension alone.
+    fn sources_along(&self, dim: usize, stride: usize) -> Vec<usize> {
+        let piece = usize::from(self.before.shard[dim]);
+        let source = |index: usize| {
+            let member = self.mesh.offset(&self.gathered[dim], index / piece);
+            member * self.before.words() + index % piece * stride
+        };
+        (0..usize::from(self.after.shard[dim]))
+            .map(source)
+            .collect()
+    }
+}
+
+/// How far apart neighbours along each dimension are in row-major order.
+fn row_major(sizes: &[u16]) -> Short<usize, MOST_RANK> {
+    let mut left: usize = sizes.iter().map(|&size| usize::from(size)).product();
+    let stride = |&size: &u16| {
+        left /= usize::from(size);
+        left
+    };
+    sizes.iter().map(stride).collect()
+}

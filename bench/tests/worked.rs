@@ -1,0 +1,299 @@
+//! The worked plans of document 01, and the cases at the limits in its ledger's last line.
+
+use bench::answers::{Device, Dim, Refusal};
+use bench::plans::{axes, lists, Draft, Step};
+use bench::{hex, implementations, Implementation};
+
+const W1: &str = "01 00 02 00 02 00 01 00 12 00 16 00 1a 00 1f 00 23 00 | 02 00 02 00 \
+                  | 04 00 04 00 | 01 00 01 01 00 | 02 00 01 01";
+
+fn refusal<T>(number: u8, step: u8) -> Result<T, Refusal> {
+    Err(Refusal { number, step })
+}
+
+fn w1() -> Vec<u8> {
+    hex::parse(W1).expect("hex")
+}
+
+/// W4 with these steps.
+fn w4(steps: Vec<Step>) -> Vec<u8> {
+    let draft = Draft {
+        mesh: vec![2, 2],
+        table: vec![4],
+        start: lists(&[&[1, 0]]),
+        unreduced: vec![],
+        steps,
+    };
+    draft.encode()
+}
+
+/// W7 with these unreduced axes.
+fn w7(unreduced: &[u8]) -> Vec<u8> {
+    let draft = Draft {
+        mesh: vec![2],
+        table: vec![2],
+        start: lists(&[&[]]),
+        unreduced: axes(unreduced),
+        steps: vec![Step::Reduce(axes(&[0]))],
+    };
+    draft.encode()
+}
+
+/// A plan without steps.
+fn resting(mesh: u16, table: u16, start: &[u8]) -> Draft {
+    Draft {
+        mesh: vec![mesh],
+        table: vec![table],
+        start: lists(&[start]),
+        ..Draft::default()
+    }
+}
+
+/// The whole of work after a run in buffers that are longer than the room.
+fn run(one: &dyn Implementation, file: &[u8], words: &[u32]) -> Vec<u32> {
+    let room = one.check(file).expect("accepted").room as usize;
+    let mut work = vec![7; room + 3];
+    work[..words.len()].copy_from_slice(words);
+    let mut spare = vec![9; room + 1];
+    one.run(file, &mut work, &mut spare).expect("a run");
+    assert!(spare.iter().all(|&word| word == 0));
+    work
+}
+
+/// Runs and compares the state; all words behind it have to be 0.
+fn assert_run(one: &dyn Implementation, file: &[u8], words: &[u32], state: &[u32]) {
+    let work = run(one, file, words);
+    assert_eq!(work[..state.len()], *state, "{}", one.name());
+    assert!(work[state.len()..].iter().all(|&word| word == 0));
+}
+
+#[test]
+fn w1_is_accepted_with_its_shard_sizes() {
+    for one in implementations() {
+        assert_eq!(w1().len(), 35);
+        let checked = one.check(&w1()).expect("accepted");
+        assert_eq!((checked.room, checked.devices, checked.steps), (32, 4, 1));
+        assert_eq!(*checked.shard, [2, 4]);
+        assert_eq!(*checked.sharding.dims[0], axes(&[0]));
+        assert!(checked.sharding.dims[1].is_empty());
+        let shards = one.shards(&w1()).expect("accepted");
+        assert_eq!(shards.len(), 2);
+        assert_eq!((&*shards[0], &*shards[1]), (&[2, 2][..], &[2, 4][..]));
+    }
+}
+
+#[test]
+fn w1_is_the_file_of_its_plan() {
+    let draft = Draft {
+        mesh: vec![2, 2],
+        table: vec![4, 4],
+        start: lists(&[&[0], &[1]]),
+        unreduced: vec![],
+        steps: vec![Step::Gather(lists(&[&[], &[1]]))],
+    };
+    assert_eq!(draft.encode(), w1());
+}
+
+#[test]
+fn w2_joins_the_shards_of_a_row() {
+    let upper = [1, 2, 5, 6, 3, 4, 7, 8];
+    let lower = upper.map(|word| word + 8);
+    let words: Vec<u32> = (1..=16).collect();
+    for one in implementations() {
+        assert_run(one, &w1(), &words, &[upper, upper, lower, lower].concat());
+    }
+}
+
+#[test]
+fn w3_lists_groups_by_the_order_of_the_list() {
+    for one in implementations() {
+        let mut out = [Device(999); 121];
+        one.groups(&[2, 3, 4, 5], &axes(&[3, 1]), &mut out)
+            .expect("a listing");
+        assert_eq!(out[..6], [0, 20, 40, 1, 21, 41].map(Device));
+        assert_eq!(out[120], Device(999));
+        // Eight groups of fifteen: each holds one value of device / 60 and of device / 5 % 4.
+        for (number, group) in out[..120].chunks(15).enumerate() {
+            let key = |device: &Device| (device.0 / 60, device.0 / 5 % 4);
+            assert!(group.iter().all(|device| key(device) == key(&group[0])));
+            assert_eq!(key(&group[0]), (number as u16 / 4, number as u16 % 4));
+        }
+        let mut sorted = out[..120].to_vec();
+        sorted.sort();
+        assert_eq!(sorted, (0..120).map(Device).collect::<Vec<_>>());
+    }
+}
+
+#[test]
+fn w4_places_by_the_order_of_the_list() {
+    for one in implementations() {
+        let first = |device| {
+            let placed = one.place(&w4(vec![]), 0, Device(device)).expect("placed");
+            placed.first[0]
+        };
+        assert_eq!([0, 1, 2, 3].map(first), [0, 2, 1, 3]);
+        assert_eq!(one.place(&w4(vec![]), 1, Device(4)), refusal(34, 0));
+        assert_eq!(one.place(&w4(vec![]), 0, Device(4)), refusal(32, 0));
+    }
+}
+
+#[test]
+fn w5_gathers_by_the_order_of_the_list() {
+    let file = w4(vec![Step::Gather(lists(&[&[1, 0]]))]);
+    for one in implementations() {
+        let state = [10, 20, 30, 40].repeat(4);
+        assert_run(one, &file, &[10, 30, 20, 40], &state);
+    }
+}
+
+#[test]
+fn w6_gathers_only_the_tail() {
+    let inner = w4(vec![Step::Gather(lists(&[&[0]]))]);
+    let outer = w4(vec![Step::Gather(lists(&[&[1]]))]);
+    for one in implementations() {
+        let state = [10, 20, 30, 40, 10, 20, 30, 40];
+        assert_run(one, &inner, &[10, 30, 20, 40], &state);
+        assert_eq!(one.check(&outer), refusal(24, 1));
+        let (mut work, mut spare) = ([5; 16], [6; 16]);
+        assert_eq!(one.run(&outer, &mut work, &mut spare), refusal(24, 1));
+        assert_eq!((work, spare), ([5; 16], [6; 16]));
+    }
+}
+
+#[test]
+fn two_gathers_after_each_other_are_one() {
+    let steps = [[0], [1]].map(|axis| Step::Gather(lists(&[&axis])));
+    let file = w4(steps.to_vec());
+    for one in implementations() {
+        assert_run(one, &file, &[10, 30, 20, 40], &[10, 20, 30, 40].repeat(4));
+    }
+}
+
+#[test]
+fn w7_adds_the_shards_of_a_group() {
+    for one in implementations() {
+        assert_run(one, &w7(&[0]), &[1, 2, 5, 6], &[6, 8, 6, 8]);
+        assert_run(one, &w7(&[0]), &[u32::MAX, 0, 2, 0], &[1, 0, 1, 0]);
+    }
+}
+
+#[test]
+fn w8_moves_an_axis_between_dimensions() {
+    let draft = Draft {
+        mesh: vec![2],
+        table: vec![2, 2],
+        start: lists(&[&[0], &[]]),
+        unreduced: vec![],
+        steps: vec![Step::AllToAll(Dim(0), Dim(1), axes(&[0]))],
+    };
+    for one in implementations() {
+        assert_run(one, &draft.encode(), &[1, 2, 3, 4], &[1, 3, 2, 4]);
+    }
+}
+
+#[test]
+fn w9_divides_the_dimension() {
+    for one in implementations() {
+        assert_eq!(one.check(&resting(4, 6, &[0]).encode()), refusal(17, 0));
+        assert!(one.check(&resting(4, 8, &[0]).encode()).is_ok());
+    }
+}
+
+#[test]
+fn w10_reduces_no_replicated_axis() {
+    for one in implementations() {
+        assert_eq!(one.check(&w7(&[])), refusal(27, 1));
+    }
+}
+
+#[test]
+fn the_largest_mesh_and_table_pass() {
+    for one in implementations() {
+        let checked = one
+            .check(&resting(256, 4096, &[]).encode())
+            .expect("accepted");
+        assert_eq!(checked.room, 1_048_576);
+        assert_eq!(one.check(&resting(257, 4096, &[]).encode()), refusal(11, 0));
+        assert_eq!(one.check(&resting(256, 4097, &[]).encode()), refusal(13, 0));
+    }
+}
+
+#[test]
+fn sixty_four_steps_pass() {
+    let slice = Step::Slice(lists(&[&[0]]));
+    let gather = Step::Gather(lists(&[&[0]]));
+    let mut draft = resting(2, 2, &[]);
+    draft.steps = vec![[slice.clone(), gather]; 32].concat();
+    for one in implementations() {
+        assert_eq!(one.check(&draft.encode()).expect("accepted").steps, 64);
+        let mut longer = draft.clone();
+        longer.steps.push(slice.clone());
+        assert_eq!(one.check(&longer.encode()), refusal(5, 0));
+    }
+}
+
+#[test]
+fn an_unreduced_axis_is_not_sliced() {
+    let mut draft = resting(2, 2, &[]);
+    draft.unreduced = axes(&[0]);
+    draft.steps = vec![Step::Slice(lists(&[&[0]]))];
+    for one in implementations() {
+        assert_eq!(one.check(&draft.encode()), refusal(23, 1));
+    }
+}
+
+#[test]
+fn the_present_shard_size_has_to_divide() {
+    // The dimension, 4, could be divided by 4, but its shards of 2 cannot.
+    let draft = Draft {
+        mesh: vec![2, 4],
+        table: vec![4],
+        start: lists(&[&[0]]),
+        unreduced: vec![],
+        steps: vec![Step::Slice(lists(&[&[1]]))],
+    };
+    for one in implementations() {
+        assert_eq!(one.check(&draft.encode()), refusal(25, 1));
+    }
+}
+
+#[test]
+fn a_run_without_steps_only_clears() {
+    let file = resting(2, 2, &[0]).encode();
+    for one in implementations() {
+        assert_run(one, &file, &[3, 4], &[3, 4]);
+    }
+}
+
+#[test]
+fn short_buffers_are_refused_and_stay() {
+    for one in implementations() {
+        let (mut work, mut spare) = (vec![1; 31], vec![2; 31]);
+        assert_eq!(one.run(&w1(), &mut work, &mut spare), refusal(30, 0));
+        assert_eq!((&work, &spare), (&vec![1; 31], &vec![2; 31]));
+        work.push(1);
+        assert_eq!(one.run(&w1(), &mut work, &mut spare), refusal(31, 0));
+        assert_eq!((&work, &spare), (&vec![1; 32], &vec![2; 31]));
+    }
+}
+
+#[test]
+fn a_listing_judges_sizes_and_axes_in_turn() {
+    let cases: [(&[u16], &[u8], usize, u8); 7] = [
+        (&[], &[9], 0, 5),
+        (&[1; 7], &[], 0, 5),
+        (&[257, 0], &[9], 0, 11),
+        (&[0, 257], &[9], 0, 10),
+        (&[2, 3], &[0, 2, 0], 0, 14),
+        (&[2, 3], &[0, 0, 2], 0, 15),
+        (&[2, 3], &[1], 5, 33),
+    ];
+    for one in implementations() {
+        for (mesh, list, length, number) in cases {
+            let mut out = vec![Device(77); length];
+            let answer = one.groups(mesh, &axes(list), &mut out);
+            assert_eq!(answer, refusal(number, 0));
+            assert!(out.iter().all(|&entry| entry == Device(77)));
+        }
+    }
+}
