@@ -1,0 +1,149 @@
+-- What the kernels ask for follows from an accepted step, and what they leave is what the rules make. Assumes nothing.
+use Prim.Native.Nat.{ℕ, zero, suc, _*_, _≤_}
+use mathlib.Core.Path.{_≡_, refl, sym, ap, _∙_, subst}
+use mathlib.Core.List.{List, [], _∷_, _++_}
+use native.Mathlib.Omega.{arith}
+use native.Mathlib.Nat.{le-trans}
+use lib.ListN.{length, take, drop, set, replicate}
+use Rattle.rules.specs.Lists.{product}
+use Rattle.rules.specs.Mesh.{devices}
+use Rattle.rules.specs.Sharding.{Sharding}
+use Rattle.rules.specs.Spread.{tabulate, held, addWords}
+use Rattle.rules.specs.Collectives.{Step, allReduce, only, shapeAfter, sources, reducePlaces, made}
+use Rattle.rules.specs.Limits.{mostDims}
+use Rattle.rules.specs.Types.{axesOf, dimsOf, ofKind, stepOf}
+use Rattle.rules.specs.declared.Kind.{Kind}
+use Rattle.rules.specs.declared.Kind.the-variants.{AllToAll}
+use Rattle.rules.specs.declared.Sharding as code
+use Rattle.rules.specs.declared.Step as code-step
+use Rattle.rules.proofs.Shapes.{cut-lengths}
+use Rattle.rules.proofs.Steps.{AcceptedStep, facts, sharding-cut, shape-length}
+use Rattle.judge.proofs.Steps.{only-at}
+use Rattle.rules.proofs.Moves as bridge
+use Rattle.moves.specs.Moves.{Moving, movedShape, movedBuffer, lists}
+use Rattle.sums.specs.Sums.{Reducing, reducedBuffer}
+use Rattle.step.specs.Stepping.{Stepping, steppedBuffer}
+
+one-word : (a : ℕ) → addWords (a ∷ []) ≡ a
+unfolding addWords
+one-word a = refl
+
+module _ {mesh shape : List ℕ} {t : Step} {words old new : ℕ} (h : Stepping mesh shape t words old new) where
+  step-fine : AcceptedStep mesh (h .sizes) t (h .before)
+  step-fine = facts mesh (h .sizes) (h .number) t (h .before) (h .next) (h .judged) .0
+
+  dims-many : length shape ≡ length (h .before .dims)
+  dims-many = ap length (sym (h .shape-is)) ∙ shape-length mesh (h .sizes) (h .sizes-pos) (h .before) (h .sharding)
+
+  module _ (m : bridge.Moving t) (off on : code.Sharding)
+      (p : lists shape off ≡ bridge.gathers t (length shape)) (q : lists shape on ≡ bridge.slices t (length shape)) where
+    asked : bridge.Moves mesh (h .sizes) (bridge.gathers t (length shape)) (bridge.slices t (length shape)) shape (shapeAfter mesh t shape)
+    asked = subst
+        (λ (l : List ℕ). bridge.Moves mesh (h .sizes) (bridge.gathers t (length l)) (bridge.slices t (length l)) l (shapeAfter mesh t l))
+        (h .shape-is)
+        (bridge.step-moves mesh (h .sizes) (h .sizes-pos) t (h .before) m (h .sharding) step-fine (h .words-pos))
+
+    pub move-asks : Moving mesh shape (lists shape off) (lists shape on)
+    move-asks = rw (p, q) (
+        let a = asked in
+        record {
+          axes-some = h .axes-some;
+          axes-few = h .axes-few;
+          devices-pos = h .devices-pos;
+          devices-few = h .devices-few;
+          rank = omega (arith, a .rank, h .rank-few);
+          old-pos = a .words-pos;
+          old-few = le-trans (a .words-few) (h .words-few);
+          new-pos = rw (a .shape-is) (a .new-words-pos);
+          new-few = rw (a .shape-is) (le-trans (a .new-words-few) (h .words-few));
+          gathers = a .gathers-each;
+          slices = a .slices-each;
+          gathered = a .gathers-axes;
+          sliced = a .slices-axes;
+          gathered-once = a .gathers-once;
+          sliced-once = a .slices-once;
+        })
+
+    pub move-words : words ≡ product (movedShape mesh shape (lists shape off) (lists shape on))
+    move-words = rw (p, q) (h .words-are ∙ ap product (sym (asked .shape-is)))
+
+    pub move-leaves : (olds news : List ℕ) → movedBuffer mesh shape (lists shape off) (lists shape on) words olds news ≡ steppedBuffer mesh shape t words olds news
+    move-leaves olds news =
+        let r : List ℕ → Type 0 = λ l. bridge.moved 0 mesh (bridge.gathers t (length l)) (bridge.slices t (length l)) l olds
+        ≡ tabulate mesh (shapeAfter mesh t l) (made addWords (sources mesh t l) (held 0 mesh l olds)) in
+        let e = subst r (h .shape-is) (bridge.step-moved mesh (h .sizes) (h .sizes-pos) addWords one-word 0 t (h .before) olds m (h .sharding) step-fine) in
+        rw (p, q) (ap (λ (l : List ℕ). l ++ drop (devices mesh * words) news) e)
+
+-- ---- by the kinds of the code
+
+no-lists : (m r : ℕ) → r ≤ m → take r (replicate m []) ≡ replicate {A = List ℕ} r []
+no-lists m zero h = refl
+no-lists zero (suc r) h = absurd (omega arith)
+no-lists (suc m) (suc r) h = ap (λ (l : List (List ℕ)). [] ∷ l) (no-lists m r (omega arith))
+
+module _ {mesh shape : List ℕ} (step : code-step.Step) {words old new : ℕ} (h : Stepping mesh shape (stepOf (length shape) step) words old new) where
+  pub ranked : length shape ≤ mostDims
+  ranked =
+      let c = sharding-cut mesh (h .sizes) (h .sizes-pos) (h .before) (h .sharding) in
+      omega (arith, dims-many h, cut-lengths mesh c .0, h .rank-few)
+
+  pub nowhere : (none : code.Sharding) → dimsOf none ≡ replicate mostDims [] → lists shape none ≡ replicate (length shape) []
+  nowhere none z = ap (λ (l : List (List ℕ)). take (length shape) l) z ∙ no-lists mostDims (length shape) ranked
+
+  module _ {k : Kind} (e : step .kind ≡ k) where
+    of : Stepping mesh shape (ofKind k (length shape) step) words old new
+    of = subst (λ (x : Kind). Stepping mesh shape (ofKind x (length shape) step) words old new) e h
+
+    module _ (m : bridge.Moving (ofKind k (length shape) step)) (off on : code.Sharding)
+        (p : lists shape off ≡ bridge.gathers (ofKind k (length shape) step) (length shape))
+        (q : lists shape on ≡ bridge.slices (ofKind k (length shape) step) (length shape)) where
+      pub move-requires : Moving mesh shape (lists shape off) (lists shape on)
+          × ((words ≡ product (movedShape mesh shape (lists shape off) (lists shape on)))
+          × ((devices mesh * product shape ≤ old) × (devices mesh * words ≤ new)))
+      move-requires = (move-asks of m off on p q, (move-words of m off on p q, (h .old-room, h .new-room)))
+
+      pub moved-so : (olds news : List ℕ) → movedBuffer mesh shape (lists shape off) (lists shape on) words olds news
+          ≡ steppedBuffer mesh shape (stepOf (length shape) step) words olds news
+      moved-so olds news =
+          move-leaves of m off on p q olds news ∙ ap (λ (x : Kind). steppedBuffer mesh shape (ofKind x (length shape) step) words olds news) (sym e)
+
+    module _ (L : List ℕ) (r : ofKind k (length shape) step ≡ allReduce L) where
+      reducing : Stepping mesh shape (allReduce L) words old new
+      reducing = subst (λ (t : Step). Stepping mesh shape t words old new) r of
+
+      pub reduce-requires : Reducing mesh shape L old new
+      reduce-requires =
+          let f = step-fine reducing in
+          record {
+            axes = h .axes-few;
+            devices-pos = h .devices-pos;
+            devices-few = h .devices-few;
+            words-pos = h .shard-pos;
+            words-few = h .shard-few;
+            of-mesh = f .axes;
+            once = f .by-kind .once;
+            old-room = h .old-room;
+            new-room = subst (λ (n : ℕ). devices mesh * n ≤ new) (reducing .words-are) (h .new-room);
+          }
+
+      pub reduced-so : (olds news : List ℕ) → reducedBuffer mesh shape L olds news ≡ steppedBuffer mesh shape (stepOf (length shape) step) words olds news
+      unfolding sources
+      reduced-so olds news =
+          ap (λ (n : ℕ). tabulate mesh shape (made addWords (reducePlaces mesh L) (held 0 mesh shape olds)) ++ drop (devices mesh * n) news)
+          (sym (reducing .words-are))
+          ∙ ap (λ (t : Step). steppedBuffer mesh shape t words olds news) (sym r)
+          ∙ ap (λ (x : Kind). steppedBuffer mesh shape (ofKind x (length shape) step) words olds news) (sym e)
+
+  -- one list at a dimension
+  module _ (e : step .kind ≡ AllToAll) (none : code.Sharding) (z : dimsOf none ≡ replicate mostDims []) (ds : code.Sharding) where
+    pub at-source : dimsOf ds ≡ set (dimsOf none) (step .source .0) (axesOf (step .lists .unreduced))
+        → lists shape ds ≡ only (length shape) (step .source .0) (axesOf (step .lists .unreduced))
+    at-source q =
+        let f = step-fine (of e) .by-kind .source-lt in
+        only-at (length shape) (step .source .0) _ (dimsOf none) (dimsOf ds) ranked (omega (arith, dims-many (of e), f)) z q
+
+    pub at-target : dimsOf ds ≡ set (dimsOf none) (step .target .0) (axesOf (step .lists .unreduced))
+        → lists shape ds ≡ only (length shape) (step .target .0) (axesOf (step .lists .unreduced))
+    at-target q =
+        let f = step-fine (of e) .by-kind .target-lt in
+        only-at (length shape) (step .target .0) _ (dimsOf none) (dimsOf ds) ranked (omega (arith, dims-many (of e), f)) z q

@@ -1,0 +1,2 @@
+-- What one step asks for and leaves.
+pub mod Stepping

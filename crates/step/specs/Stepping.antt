@@ -1,0 +1,41 @@
+-- One step of an accepted plan, given in shards of the announced shape, and the buffer that it leaves. Assumes nothing.
+use Prim.Native.Nat.{ℕ, _*_, _≤_, _<_}
+use mathlib.Core.Path.{_≡_}
+use mathlib.Core.List.{List, _++_}
+use lib.ListN.{length, getD, drop}
+use Rattle.rules.specs.Lists.{product}
+use Rattle.rules.specs.Mesh.{devices}
+use Rattle.rules.specs.Sharding.{Sharding, shardSizes, IsSharding}
+use Rattle.rules.specs.Spread.{tabulate, held, addWords}
+use Rattle.rules.specs.Collectives.{Step, shapeAfter, sources, made}
+use Rattle.rules.specs.Limits.{mostAxes, mostDevices, mostDims, mostWords}
+use Rattle.rules.specs.Refusals.{accept}
+use Rattle.rules.specs.PlanFile.{judgeStep}
+
+-- a step that was accepted of a sharding of a table within the limits, and buffers with room for the old state and for the new one
+pub record Stepping (mesh shape : List ℕ) (t : Step) (words old new : ℕ) : Type 0 where
+  pub sizes : List ℕ
+  pub before : Sharding
+  pub number : ℕ
+  pub next : Sharding
+  pub judged : judgeStep mesh sizes number t before ≡ accept next
+  pub sharding : IsSharding mesh sizes before
+  pub shape-is : shardSizes mesh sizes (before .dims) ≡ shape
+  pub axes-some : 1 ≤ length mesh
+  pub axes-few : length mesh ≤ mostAxes
+  pub sizes-pos : (a : ℕ) → 0 < getD mesh a 1
+  pub devices-pos : 0 < product mesh
+  pub devices-few : product mesh ≤ mostDevices
+  pub rank-few : length sizes ≤ mostDims
+  pub words-pos : 0 < product sizes
+  pub words-few : product sizes ≤ mostWords
+  pub shard-pos : 0 < product shape
+  pub shard-few : product shape ≤ mostWords
+  pub words-are : words ≡ product (shapeAfter mesh t shape)
+  pub old-room : devices mesh * product shape ≤ old
+  pub new-room : devices mesh * words ≤ new
+
+-- the new state, as the rules make it, and what was behind it
+abbrev pub steppedBuffer : (mesh shape : List ℕ) → Step → ℕ → (old new : List ℕ) → List ℕ
+steppedBuffer mesh shape t words old new =
+    tabulate mesh (shapeAfter mesh t shape) (made addWords (sources mesh t shape) (held 0 mesh shape old)) ++ drop (devices mesh * words) new
