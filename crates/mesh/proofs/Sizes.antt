@@ -10,9 +10,9 @@ use lib.ListN.{length, getD, take, drop, drop-of-length-le}
 use lib.Arith.{digits-div, digits-mod, mod-mul}
 use Rattle.rules.specs.Lists.{product}
 use Rattle.rules.specs.Mesh.{coords, devices}
-use Rattle.rules.specs.Limits.{mostDevices}
+use Rattle.rules.specs.Limits.{mostDevices, mostWords}
 use Rattle.rules.proofs.Positions.{pos-of-lt, div-lt}
-use Rattle.mesh.specs.Fitting.{Fits}
+use Rattle.mesh.specs.Fitting.{Sizes, Fits}
 
 -- an entry that is there does not depend on what stands for one that is not
 pub any-default : (l : List ℕ) (a x y : ℕ) → a < length l → getD l a x ≡ getD l a y
@@ -29,7 +29,7 @@ le-left a b h = le-mul-of-pos-right a (pos-of-lt a b h)
 le-right : (a b : ℕ) → 0 < a * b → b ≤ a * b
 le-right a b h = rw (mul-comm a b) (le-left b a (rw (mul-comm b a) h))
 
-product-split : (i : ℕ) (l : List ℕ) → product (take i l) * product (drop i l) ≡ product l
+pub product-split : (i : ℕ) (l : List ℕ) → product (take i l) * product (drop i l) ≡ product l
 product-split zero l = one-mul (product l)
 product-split (suc i) [] = refl
 product-split (suc i) (n ∷ l) = mul-assoc n (product (take i l)) (product (drop i l)) ∙ ap (λ (p : ℕ). n * p) (product-split i l)
@@ -50,11 +50,15 @@ pub record AxisBounds (mesh : List ℕ) (a : ℕ) : Type 0 where
   pub stride-pos : 0 < product (drop (a + 1) mesh)
   pub stride-few : product (drop (a + 1) mesh) ≤ mostDevices
 
-from-pos : (mesh : List ℕ) (a : ℕ) → 0 < devices mesh → 0 < product (drop a mesh)
+pub from-pos : (mesh : List ℕ) (a : ℕ) → 0 < product mesh → 0 < product (drop a mesh)
 from-pos mesh a h = pos-of-lt {q = 0} (product (take a mesh)) (product (drop a mesh)) (rw (product-split a mesh) h)
 
-from-le : (mesh : List ℕ) (a : ℕ) → 0 < devices mesh → product (drop a mesh) ≤ devices mesh
+from-le : (mesh : List ℕ) (a : ℕ) → 0 < product mesh → product (drop a mesh) ≤ product mesh
 from-le mesh a h = rw (product-split a mesh) at (le-right (product (take a mesh)) (product (drop a mesh)) (rw (product-split a mesh) h))
+
+-- a mesh that fits has a product to be asked for
+pub fit-sizes : {mesh : List ℕ} → Fits mesh → Sizes mesh
+fit-sizes f = record { some = f .some; few = omega (arith, f .few) }
 
 pub axis-bounds : (mesh : List ℕ) → Fits mesh → (a : ℕ) → AxisBounds mesh a
 axis-bounds mesh f a =
@@ -78,10 +82,10 @@ multiplying mesh first = record { same = sym (one-mul (product (drop first mesh)
 
 pub record Multiplied (mesh : List ℕ) (first whole i : ℕ) : Type 0 where
   pub next : Multiplying mesh first whole i
-  pub fits : whole ≤ mostDevices
+  pub fits : whole ≤ mostWords
 
 module _ {mesh : List ℕ} {first whole i : ℕ} (g : Multiplying mesh first whole i) where
-  pub multiplied : Fits mesh → i < length mesh → (n : ℕ) → n ≡ getD mesh i 0 → Multiplied mesh first (whole * n) (i + 1)
+  pub multiplied : Sizes mesh → i < length mesh → (n : ℕ) → n ≡ getD mesh i 0 → Multiplied mesh first (whole * n) (i + 1)
   multiplied f h n e =
       let s : ℕ = product (drop (i + 1) mesh) in
       let m : product (drop first mesh) ≡ whole * n * s =

@@ -9,7 +9,8 @@ use lib.ListN.{length, getD, set, take, drop, replicate, length-replicate}
 use Rattle.rules.specs.Lists.{flat, product}
 use Rattle.rules.specs.Spread.{from, tabulate}
 use Rattle.strided.specs.Strided.{counted, Copy, copied}
-use Rattle.digits.specs.Digits.{mostRoom, strides, cleared, meshDigits, Sizes, Shards, Devices}
+use Rattle.mesh.specs.Fitting.{Sizes}
+use Rattle.digits.specs.Digits.{mostRoom, strides, cleared, meshDigits, Shards, Devices}
 use Rattle.digits.proofs.Strides.{pos-left, pos-right, strides-length}
 use Rattle.moves.specs.Moves.{movedShape, moved, left, deviceStrides, stepDigits, Adding, Dimensions, DimensionsAt, Setting}
 use Rattle.moves.proofs.Leads.{Step, shard-length, counted-dims, left-length, device-length, copy-ok, copied-is}
@@ -58,16 +59,15 @@ module _ {row zs ys mesh shape : List ℕ} {Gs Ss : List (List ℕ)} {words : �
   Z = strides mesh (product shape)
 
   pub shape-asked : Sizes shape
-  shape-asked = record { filled = t .step .old-pos; few = omega (arith, t .step .old-few) }
+  shape-asked = record { some = t .step .old-pos; few = t .step .old-few }
 
   pub mesh-sizes : Sizes mesh
-  mesh-sizes = record { filled = t .step .devices-pos; few = omega (arith, t .step .devices-few) }
+  mesh-sizes = record { some = t .step .devices-pos; few = omega (arith, t .step .devices-few) }
 
   pub strides-asked : Shards zs mesh (product shape)
   strides-asked = record {
     places = t .zs-places;
-    devices = t .step .devices-pos;
-    words = t .step .old-pos;
+    sizes = mesh-sizes;
     few = mul-le-mul (t .step .devices-few) (t .step .old-few);
   }
 

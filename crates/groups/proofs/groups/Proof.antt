@@ -2,6 +2,7 @@ use mathlib.Core.Path.{_∙_}
 use borrow.Author.Needs.{needs}
 use denote.Ref.{now}
 use Rattle.rules.specs.Types.{axesOf}
+use Rattle.mesh.proofs.Sizes.{fit-sizes}
 use Rattle.groups.proofs.Listing.{
   count-few,
   sizes-fit,
@@ -66,7 +67,7 @@ returns-2 c =
 product-from-requires : tie.Need-product-from-requires
 product-from-requires c κs =
     let a = c .before .before .before .before .before .before .before .before .before .args in
-    sizes-fit (now (a .mesh)) (passed (c .before .before .judge-sizes .ensures) (c .enum-told3 .given .1))
+    fit-sizes (sizes-fit (now (a .mesh)) (passed (c .before .before .judge-sizes .ensures) (c .enum-told3 .given .1)))
 
 read-axes-requires : tie.Need-read-axes-requires
 read-axes-requires c κs =
