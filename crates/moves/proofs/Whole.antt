@@ -5,7 +5,7 @@ use mathlib.Core.Path.{_≡_, refl, sym, ap, _∙_}
 use mathlib.Core.List.{List, [], _∷_}
 use native.Mathlib.Nat.{mul-comm, mul-le-mul, mul-le-mul-right, le-mul-of-pos-right}
 use native.Mathlib.Omega.{arith}
-use lib.ListN.{length, getD, set, take, drop, replicate, length-replicate}
+use lib.ListN.{length, getD, set, drop, replicate, length-replicate}
 use Rattle.rules.specs.Lists.{flat, product}
 use Rattle.rules.specs.Spread.{from, tabulate}
 use Rattle.strided.specs.Strided.{counted, Copy, copied}
@@ -46,11 +46,6 @@ zeros-at : (n k : ℕ) → getD {A = ℕ} (replicate n 0) k 0 ≡ 0
 zeros-at zero k = refl
 zeros-at (suc n) zero = refl
 zeros-at (suc n) (suc k) = zeros-at n k
-
-pub zeros-taken : (n k : ℕ) → n ≤ k → take {A = ℕ} n (replicate k 0) ≡ replicate n 0
-zeros-taken zero k h = refl
-zeros-taken (suc n) zero h = absurd (omega arith)
-zeros-taken (suc n) (suc k) h = ap (λ (l : List ℕ). 0 ∷ l) (zeros-taken n k (omega arith))
 
 -- ---- the set-up
 

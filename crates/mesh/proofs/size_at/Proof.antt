@@ -4,7 +4,7 @@ use Prim.Native.Nat.{_-_}
 use mathlib.Core.Path.{sym}
 use denote.Ref.{now}
 use lib.ListN.{List·getD-eq-default}
-use Rattle.mesh.proofs.Sizes.{any-default}
+use Rattle.rules.proofs.Lists.{any-default}
 use Rattle.mesh.proofs.size_at.Statement.{statement}
 use Rattle.mesh.proofs.size_at.Tie as tie
 
