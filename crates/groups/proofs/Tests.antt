@@ -8,7 +8,7 @@ use lib.ListN.{length, getD, drop, drop-of-length-le}
 use Rattle.rules.specs.Limits.{mostDevices}
 use Rattle.rules.specs.Refusals.{accept, refuse}
 use Rattle.rules.specs.PlanFile.{judgeSizes}
-use Rattle.groups.proofs.Lists.{drop-at}
+use Rattle.axes.proofs.Going.{drop-at}
 
 pub record Sizing (mesh : List ℕ) (product i : ℕ) : Type 0 where
   pub small : product ≤ mostDevices
@@ -16,7 +16,7 @@ pub record Sizing (mesh : List ℕ) (product i : ℕ) : Type 0 where
 
 module _ {mesh : List ℕ} {product i : ℕ} (g : Sizing mesh product i) (h : i < length mesh) (n : ℕ) (e : n ≡ getD mesh i 0) where
   next-size : judgeSizes mostDevices 10 11 1 mesh ≡ judgeSizes mostDevices 10 11 product (n ∷ drop (i + 1) mesh)
-  next-size = g .same ∙ ap (judgeSizes mostDevices 10 11 product) (drop-at mesh i n h e)
+  next-size = g .same ∙ ap (judgeSizes mostDevices 10 11 product) (drop-at mesh i n 0 h e)
 
   pub size-zero : n ≡ 0 → judgeSizes mostDevices 10 11 1 mesh ≡ refuse 10 0
   unfolding judgeSizes
