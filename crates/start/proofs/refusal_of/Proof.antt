@@ -1,6 +1,6 @@
 use borrow.Author.Needs.{needs}
-use Rattle.plan.proofs.refusal_of.Statement.{statement}
-use Rattle.plan.proofs.refusal_of.Tie as tie
+use Rattle.start.proofs.refusal_of.Statement.{statement}
+use Rattle.start.proofs.refusal_of.Tie as tie
 
 enum-told : tie.Need-enum-told
 enum-told c = search needs
