@@ -42,7 +42,8 @@
  *                    3 all-reduce                one list
  *                    4 all-to-all                source dimension, target dimension (bytes), one list
  *
- * A list is a count byte and that many axis bytes. docs/PROMISES.md goes through the rules.
+ * A list is a count byte and that many axis bytes. docs/PROMISES.md goes through the rules, and
+ * crates/rules/specs/PlanFile.antt has them, test by test.
  *
  *
  * REFUSALS
@@ -86,7 +87,8 @@
  * is aligned for its type, and that many elements may be read (and written, where it is not const)
  * and have been written before. Memory lent for writing overlaps no other memory of the call;
  * memory that is only read may overlap. Nothing is read or written through a pointer whose length
- * is 0, so it may be null. The calls keep no state: any number of threads may call them.
+ * is 0, so it may be null. The calls keep no state of their own: threads may call at once where none
+ * lends memory for writing that another uses.
  */
 #ifndef ISHKRELA_H
 #define ISHKRELA_H
