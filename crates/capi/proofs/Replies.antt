@@ -1,5 +1,4 @@
--- Laws of the boundary: the five lists one by one, the rank of an accepted plan, and that what stands for the code's answer stands for the library's.
--- Assumes nothing.
+-- Laws of the boundary: what stands past the rank, the five lists one by one, and the rank of an accepted plan. Assumes nothing.
 use Prim.Native.Nat.{ℕ, zero, suc, _<_, _≤_}
 use mathlib.Core.Path.{_≡_, refl, ap}
 use mathlib.Core.List.{List, []}

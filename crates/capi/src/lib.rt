@@ -27,6 +27,7 @@ const LISTS: usize = Dim::MOST + 1;
 // The places of their axes.
 const PLACES: usize = LISTS * Axis::MOST;
 
+// C's ishkrela_checked: the numbers that stand for the check's answer.
 #[repr(C)]
 pub struct CheckReply {
     pub refusal: u32,
@@ -39,6 +40,7 @@ pub struct CheckReply {
     pub axes: [u8; PLACES],
 }
 
+// C's ishkrela_placed: the numbers that stand for the placement's answer.
 #[repr(C)]
 pub struct PlaceReply {
     pub refusal: u32,
