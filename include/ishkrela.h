@@ -6,7 +6,7 @@
  * table's sizes, the sharding at the start, and up to 64 steps that change it: all-slice,
  * all-gather, all-reduce (by sum) and all-to-all. State 0 is the start, state k is after step k.
  *
- * These calls judge a plan, say where its shards lie, and list device groups. Their code is
+ * These calls judge a plan, say where its shards lie, run it, and list device groups. Their code is
  * proved to answer what the rules define on every input: any bytes may be handed over, nothing
  * asks for a valid plan, and no call stops the program. Build and link:
  *
@@ -142,6 +142,13 @@ ishkrela_placed ishkrela_place(const uint8_t *file, size_t file_len, uint16_t st
  * Refusals 5, 10, 11, 14, 15, 33, in that order. */
 uint32_t ishkrela_groups(const uint16_t *mesh, size_t mesh_len, const uint8_t *axes, size_t axes_len,
                          uint16_t *out, size_t out_len);
+
+/* Runs a plan. Work begins with the shards of the start, by device number, each in row-major order,
+ * without gaps. Afterwards it begins with those of the last state, and the rest of work and all of
+ * spare are 0. Any words may be handed over, a spread of a table or not. Both buffers need the
+ * `room` of the check, in words. Refusals of the check; then 30, then 31. */
+uint32_t ishkrela_run(const uint8_t *file, size_t file_len, uint32_t *work, size_t work_len,
+                      uint32_t *spare, size_t spare_len);
 
 #ifdef __cplusplus
 }

@@ -20,6 +20,14 @@ sizes of mesh and table, the sharding at the start, and steps that change it.
     device (1, 0) -> |  9 10 | 11 12 | <- device (1, 1)
                      | 13 14 | 15 16 |
                      +-------+-------+
+    >>> print(picture(file, 1, moved(file, spread(file, range(1, 17)))))
+                     +-------------+-------------+
+    device (0, 0) -> |  1  2  3  4 |  1  2  3  4 | <- device (0, 1)
+                     |  5  6  7  8 |  5  6  7  8 |
+                     +-------------+-------------+
+    device (1, 0) -> |  9 10 11 12 |  9 10 11 12 | <- device (1, 1)
+                     | 13 14 15 16 | 13 14 15 16 |
+                     +-------------+-------------+
 
 check, place, groups and run are the calls of the verified library, which answers what the rules
 define on every input and raises Refused where they refuse. plan_file, spread, moved and picture
@@ -315,9 +323,8 @@ def _typed(library):
         "ishkrela_run": (ctypes.c_uint32, file + 2 * slice_of),
     }
     for name, (answer, takes) in calls.items():
-        if hasattr(library, name):
-            call = getattr(library, name)
-            call.restype, call.argtypes = answer, takes
+        call = getattr(library, name)
+        call.restype, call.argtypes = answer, takes
     return library
 
 

@@ -16,9 +16,6 @@ from ishkrela import check, groups, moved, picture, place, plan_file, run, sprea
 W1 = bytes.fromhex("0100020002000100120016001a001f002300" "02000200" "04000400" "0100010100" "02000101")
 TESTS = os.path.join(os.path.dirname(os.path.abspath(__file__)), "..", "tests")
 
-runs = unittest.skipUnless(hasattr(ishkrela._library(), "ishkrela_run"), "this library has no run")
-
-
 def w4(*steps):
     return plan_file([2, 2], [4], Sharding([[1, 0]]), steps)
 
@@ -55,7 +52,6 @@ class Worked(Case):
         self.assertEqual(check(W1), ishkrela.Checked(32, 4, 1, Sharding([[0], []]), (2, 4)))
         self.assertEqual([place(W1, state, 0).shard for state in (0, 1)], [(2, 2), (2, 4)])
 
-    @runs
     def test_w2_joins_the_shards_of_a_row(self):
         upper, lower = [1, 2, 5, 6, 3, 4, 7, 8], [9, 10, 13, 14, 11, 12, 15, 16]
         self.assertEqual(moved(W1, range(1, 17)), 2 * upper + 2 * lower)
@@ -69,23 +65,19 @@ class Worked(Case):
     def test_w4_first_indexes_in_the_order_of_the_list(self):
         self.assertEqual([place(w4(), 0, device).first for device in range(4)], [(0,), (2,), (1,), (3,)])
 
-    @runs
     def test_w5_gathers_both(self):
         self.assertEqual(moved(w4(AllGather([[1, 0]])), [10, 30, 20, 40]), 4 * [10, 20, 30, 40])
 
-    @runs
     def test_w6_gathers_the_tail(self):
         self.assertEqual(moved(w4(AllGather([[0]])), [10, 30, 20, 40]), 2 * [10, 20, 30, 40])
 
     def test_w6_refuses_the_front(self):
         self.assertRefused(24, 1, check, w4(AllGather([[1]])))
 
-    @runs
     def test_w7_adds(self):
         self.assertEqual(moved(w7(), [1, 2, 5, 6]), 2 * [6, 8])
         self.assertEqual(moved(w7(size=1), [4294967295, 2]), [1, 1])
 
-    @runs
     def test_w8_rows_to_columns(self):
         file = plan_file([2], [2, 2], Sharding([[0], []]), [AllToAll(0, 1, [0])])
         self.assertEqual(moved(file, [1, 2, 3, 4]), [1, 3, 2, 4])
@@ -189,7 +181,6 @@ class Boundary(Case):
         with self.assertRaises(OverflowError):
             groups([65538], [0])
 
-    @runs
     def test_short_buffers_are_refused_and_stay(self):
         room = check(W1).room
         for number, long in ((30, (room - 1, room)), (31, (room, room - 1)), (30, (0, 0))):
@@ -197,20 +188,17 @@ class Boundary(Case):
             self.assertRefused(number, 0, run, W1, work, spare)
             self.assertEqual((list(work), list(spare)), (long[0] * [7], long[1] * [7]))
 
-    @runs
     def test_a_refused_file_leaves_the_buffers(self):
         work, spare = array.array("I", 99 * [7]), array.array("I", 99 * [8])
         self.assertRefused(24, 1, run, w4(AllGather([[1]])), work, spare)
         self.assertEqual((list(work), list(spare)), (99 * [7], 99 * [8]))
 
-    @runs
     def test_the_rest_of_the_buffers_is_0(self):
         work, spare = array.array("I", [*range(1, 5), *(60 * [7])]), array.array("I", 70 * [8])
         run(w4(AllGather([[0]])), work, spare)
         self.assertEqual(list(work), 2 * [1, 3, 2, 4] + 56 * [0])
         self.assertEqual(list(spare), 70 * [0])
 
-    @runs
     def test_no_steps_keep_the_words(self):
         self.assertEqual(moved(w4(), [4, 3, 2, 1]), [4, 3, 2, 1])
 
@@ -234,7 +222,6 @@ class Pictures(Case):
             "+----+----+",
         ])
 
-    @runs
     def test_a_spread_stays_one(self):
         steps = [AllGather([[0]]), AllGather([[1]]), AllSlice([[0, 1]])]
         table = [10, 20, 30, 40]

@@ -50,11 +50,25 @@ static void groups(void)
     assert(out[0] == 0 && out[1] == 20 && out[2] == 40 && out[3] == 1 && out[119] == 119 && out[120] == 0x5555);
 }
 
+static void runs(void)
+{
+    uint32_t work[10] = {10, 30, 20, 40, 7, 7, 7, 7, 7, 7}, spare[9] = {8, 8, 8, 8, 8, 8, 8, 8, 8};
+    const uint32_t given[10] = {10, 30, 20, 40, 7, 7, 7, 7, 7, 7}, left[10] = {10, 20, 30, 40, 10, 20, 30, 40, 0, 0};
+    const uint32_t eights[9] = {8, 8, 8, 8, 8, 8, 8, 8, 8}, zeros[9] = {0};
+    assert(ishkrela_run(tail, sizeof tail, work, 7, spare, 9) == 30);
+    assert(ishkrela_run(tail, sizeof tail, work, 10, spare, 7) == 31);
+    assert(ishkrela_run(front, sizeof front, work, 10, spare, 9) == 24 + 256);
+    assert(memcmp(work, given, sizeof work) == 0 && memcmp(spare, eights, sizeof spare) == 0);
+    assert(ishkrela_run(tail, sizeof tail, work, 10, spare, 9) == 0);
+    assert(memcmp(work, left, sizeof work) == 0 && memcmp(spare, zeros, sizeof spare) == 0);
+}
+
 static void empty(void)
 {
     const uint16_t mesh[] = {2};
     uint16_t out[2] = {9, 9};
     assert(ishkrela_check(NULL, 0).refusal == 1 && ishkrela_place(NULL, 0, 0, 0).refusal == 1);
+    assert(ishkrela_run(NULL, 0, NULL, 0, NULL, 0) == 1 && ishkrela_run(tail, sizeof tail, NULL, 0, NULL, 0) == 30);
     assert(ishkrela_groups(NULL, 0, NULL, 0, NULL, 0) == 5 && ishkrela_groups(mesh, 1, NULL, 0, NULL, 0) == 33);
     assert(ishkrela_groups(mesh, 1, NULL, 0, out, 2) == 0 && out[0] == 0 && out[1] == 1);
 }
@@ -64,6 +78,7 @@ int main(void)
     answers();
     refusals();
     groups();
+    runs();
     empty();
     return 0;
 }

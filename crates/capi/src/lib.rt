@@ -6,7 +6,7 @@ ghost use lib.ListN.{length, take, getD};
 ghost use Rattle.rules.specs.Limits.{mostDims};
 ghost use Rattle.rules.specs.Refusals.{numberOf, refusedBy};
 ghost use Rattle.rules.specs.Types.{axesOf, shardingOf};
-ghost use Rattle.rules.specs.Calls.{checkOf, placeOf, groupsOf, groupsLeave, checkedBy, placedBy};
+ghost use Rattle.rules.specs.Calls.{checkOf, placeOf, groupsOf, groupsLeave, runOf, checkedBy, placedBy};
 ghost use Rattle.capi.specs.Boundary.{refusalCode, places, fourPlaces, listOf, fiveCounts, axisIn, thirtyAxes, checkReply, placeReply};
 use ishkrela::Axis;
 use ishkrela::AxisList;
@@ -18,6 +18,7 @@ use ishkrela::GroupsOutcome;
 use ishkrela::PlaceOutcome;
 use ishkrela::Placed;
 use ishkrela::Refusal;
+use ishkrela::RunOutcome;
 use ishkrela::Sharding;
 use ishkrela::Totals;
 
@@ -242,5 +243,19 @@ pub extern "C" fn ishkrela_groups(mesh: &[u16], axes: &[u8], out: &mut [u16]) ->
     match outcome {
         GroupsOutcome::Listed(_) => 0,
         GroupsOutcome::Refused(refusal) => code_of(refusal),
+    }
+}
+
+// The run of a plan.
+#[no_mangle]
+pub extern "C" fn ishkrela_run(file: &[u8], work: &mut [u32], spare: &mut [u32]) -> u32
+    ensures answers { λ r. ⌜ r ≡ refusalCode (runOf (now (file .entry)) (now (work .entry)) (now (spare .entry)) .outcome) ⌝ }
+    ensures leaves { λ r. ⌜ now (work .exit) ≡ runOf (now (file .entry)) (now (work .entry)) (now (spare .entry)) .work ⌝ }
+    ensures clears { λ r. ⌜ now (spare .exit) ≡ runOf (now (file .entry)) (now (work .entry)) (now (spare .entry)) .spare ⌝ }
+{
+    let outcome = ishkrela::run(file, work, spare);
+    match outcome {
+        RunOutcome::Finished => 0,
+        RunOutcome::Refused(refusal) => code_of(refusal),
     }
 }

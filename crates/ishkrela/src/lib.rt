@@ -14,5 +14,7 @@ pub use rules::PlaceOutcome;
 pub use rules::Placed;
 pub use rules::Reason;
 pub use rules::Refusal;
+pub use rules::RunOutcome;
 pub use rules::Sharding;
 pub use rules::Totals;
+pub use run::run;
