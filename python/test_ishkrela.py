@@ -144,6 +144,21 @@ class Cases(Case):
         self.assertEqual(list(out), numbers + before[len(numbers):])
         return " ".join(map(str, ["ok", *numbers]))
 
+    def test_runs(self):
+        for text, *before, answer, work_after, spare_after in cases("runs.txt"):
+            work, spare = (array.array("I", map(int, words.split())) for words in before)
+            with self.subTest(text, work=len(work), spare=len(spare)):
+                self.assertEqual(self.ran(from_hex(text), work, spare), answer)
+                after = [" ".join(map(str, words)) for words in (work, spare)]
+                self.assertEqual(after, [work_after, spare_after])
+
+    def ran(self, file, work, spare):
+        try:
+            run(file, work, spare)
+        except Refused as refused:
+            return f"no {refused.number} {refused.step}"
+        return "ok"
+
 
 class Boundary(Case):
     """What include/ishkrela.h says of the answers and of the memory lent."""

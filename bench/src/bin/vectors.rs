@@ -1,8 +1,8 @@
 //! Compares files of vectors with the reference, and with the library when it is linked.
 //!
 //! Each argument is a file of vectors, or a folder that holds some. The name of a file tells
-//! what its cases are: `check.txt` or `plans.txt`, `run.txt`, `place.txt` or `placements.txt`,
-//! `groups.txt`. Empty lines and lines that begin with `#` are no cases.
+//! what its cases are: `check.txt` or `plans.txt`, `run.txt` or `runs.txt`, `place.txt` or
+//! `placements.txt`, `groups.txt`. Empty lines and lines that begin with `#` are no cases.
 
 use bench::answers::{Axis, Device, Refusal};
 use bench::{hex, implementations, Implementation};
@@ -10,10 +10,11 @@ use std::path::{Path, PathBuf};
 use std::process::ExitCode;
 use std::{env, fs};
 
-const NAMES: [&str; 6] = [
+const NAMES: [&str; 7] = [
     "check.txt",
     "plans.txt",
     "run.txt",
+    "runs.txt",
     "place.txt",
     "placements.txt",
     "groups.txt",
@@ -63,7 +64,7 @@ fn compare_file(path: &Path) -> Result<usize, String> {
     let name = path.file_name().unwrap_or_default().to_string_lossy();
     let compare: Compare = match name.as_ref() {
         "check.txt" | "plans.txt" => compare_check,
-        "run.txt" => compare_run,
+        "run.txt" | "runs.txt" => compare_run,
         "place.txt" | "placements.txt" => compare_place,
         "groups.txt" => compare_groups,
         _ => return Err(format!("{name}: no kind of vectors has this name")),
