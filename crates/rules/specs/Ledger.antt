@@ -1,5 +1,5 @@
 -- Document 01, "Ledger of worked plans": W1 (the check's answer) to W10 as one table under one statement, of the definitions that the calls'
--- promises cite. Beside it, W4 with gather [0] and then [1]. Assumes nothing.
+-- promises cite. Beside it, W3's second group, and W4 with gather [0] and then [1]. Assumes nothing.
 use Prim.Native.Nat.{ℕ, _+_, _-_, _*_, _/_, _%_}
 use mathlib.Core.Path.{_≡_, refl}
 use mathlib.Core.List.{List, [], _∷_, _++_}
@@ -142,6 +142,11 @@ worked =
 w1-bytes : fileOf (2 ∷ 2 ∷ []) (4 ∷ 4 ∷ []) ((0 ∷ []) ∷ (1 ∷ []) ∷ [] ∷ []) ((2 ∷ 0 ∷ 1 ∷ 1 ∷ []) ∷ []) ≡ w1
 unfolding fileOf
 w1-bytes = refl
+
+-- W3, its second group: the next one along the remaining axes in row-major order
+second-group : take 3 (drop 15 (groupsLeave (2 ∷ 3 ∷ 4 ∷ 5 ∷ []) (3 ∷ 1 ∷ []) (nines 120))) ≡ 5 ∷ 25 ∷ 45 ∷ []
+unfolding groupsLeave
+second-group = refl
 
 -- W4, gather [0] and then [1]: a run that does the first collective and relabels the later ones leaves other words
 two-gathers : Holds (ran (w4 ((2 ∷ 1 ∷ 0 ∷ []) ∷ (2 ∷ 1 ∷ 1 ∷ []) ∷ [])) (10 ∷ 30 ∷ 20 ∷ 40 ∷ [])

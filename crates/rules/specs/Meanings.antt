@@ -46,9 +46,9 @@ pub meanings :
     }) ≡ checkOf w1)
     × (checkMeaning (record { outcome = check.Refused (refusal NotTail 1); sharding = lists [] []; shard = nines 4 })
     ≡ checkOf (w4 ((2 ∷ 1 ∷ 1 ∷ []) ∷ [])))
-    -- the placement: W4, devices 1 and 4
-    × (placeMeaning (record { outcome = place.Found 1; sharding = lists ((1 ∷ 0 ∷ []) ∷ []) []; shard = 1 ∷ nines 3; first = 2 ∷ nines 3 })
-    ≡ placeOf (w4 []) 0 1)
+    -- the placement: W1 after its step, device 3, and W4, device 4
+    × (placeMeaning (record { outcome = place.Found 2; sharding = lists ((0 ∷ []) ∷ [] ∷ []) []; shard = 2 ∷ 4 ∷ nines 2; first = 2 ∷ 0 ∷ nines 2 })
+    ≡ placeOf w1 1 3)
     × (placeMeaning (record { outcome = place.Refused (refusal NoSuchDevice 0); sharding = lists [] []; shard = nines 4; first = nines 4 })
     ≡ placeOf (w4 []) 0 4)
     -- the group listing: W3, and with one place too few
