@@ -1,7 +1,8 @@
 //! Compares files of vectors with the reference, and with the library when it is linked.
 //!
 //! Each argument is a file of vectors, or a folder that holds some. The name of a file tells
-//! what its cases are: `check.txt`, `run.txt`, `place.txt` or `groups.txt`.
+//! what its cases are: `check.txt` or `plans.txt`, `run.txt`, `place.txt` or `placements.txt`,
+//! `groups.txt`. Empty lines and lines that begin with `#` are no cases.
 
 use bench::answers::{Axis, Device, Refusal};
 use bench::{hex, implementations, Implementation};
@@ -9,7 +10,14 @@ use std::path::{Path, PathBuf};
 use std::process::ExitCode;
 use std::{env, fs};
 
-const NAMES: [&str; 4] = ["check.txt", "run.txt", "place.txt", "groups.txt"];
+const NAMES: [&str; 6] = [
+    "check.txt",
+    "plans.txt",
+    "run.txt",
+    "place.txt",
+    "placements.txt",
+    "groups.txt",
+];
 
 /// Whether an implementation gives a case's answer; an error tells that the case is malformed.
 type Compare = fn(&dyn Implementation, &[&str]) -> Result<bool, String>;
@@ -54,9 +62,9 @@ fn files_at(path: &Path) -> Vec<PathBuf> {
 fn compare_file(path: &Path) -> Result<usize, String> {
     let name = path.file_name().unwrap_or_default().to_string_lossy();
     let compare: Compare = match name.as_ref() {
-        "check.txt" => compare_check,
+        "check.txt" | "plans.txt" => compare_check,
         "run.txt" => compare_run,
-        "place.txt" => compare_place,
+        "place.txt" | "placements.txt" => compare_place,
         "groups.txt" => compare_groups,
         _ => return Err(format!("{name}: no kind of vectors has this name")),
     };
@@ -66,6 +74,9 @@ fn compare_file(path: &Path) -> Result<usize, String> {
         let mut cases = 0;
         let mut differences = 0;
         for (number, line) in text.lines().enumerate() {
+            if line.is_empty() || line.starts_with('#') {
+                continue;
+            }
             cases += 1;
             let fields: Vec<&str> = line.split('|').collect();
             let same = compare(implementation, &fields)

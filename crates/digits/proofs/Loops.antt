@@ -12,6 +12,7 @@ use Rattle.rules.specs.Lists.{product, In}
 use Rattle.rules.specs.Mesh.{span}
 use Rattle.rules.proofs.Sizes.{span-pos}
 use Rattle.strided.specs.Strided.{counted}
+use Rattle.mesh.proofs.Sizes.{product-split}
 use Rattle.digits.specs.Digits.{strides, cleared, axisDigits, meshDigits}
 use Rattle.digits.proofs.Strides.{pos-left, pos-right, counted-axes, counted-mesh}
 
@@ -26,12 +27,6 @@ pub at-in : (l : List ℕ) (i : ℕ) → i < length l → In (getD l i 0) l
 at-in [] i h = absurd (omega arith)
 at-in (a ∷ l) zero h = inl refl
 at-in (a ∷ l) (suc i) h = inr (at-in l i (omega arith))
-
--- the size that the code reads
-pub size-in : (mesh : List ℕ) (a : ℕ) → a < length mesh → getD mesh a 0 ≡ getD mesh a 1
-size-in [] a h = absurd (omega arith)
-size-in (x ∷ l) zero h = refl
-size-in (x ∷ l) (suc a) h = size-in l a (omega arith)
 
 -- ---- one digit
 
@@ -57,12 +52,6 @@ span-split mesh (suc k) [] = refl
 span-split mesh (suc k) (a ∷ L) =
     mul-assoc (getD mesh a 1) (span mesh (take k L)) (span mesh (drop k L)) ∙ ap (λ (n : ℕ). getD mesh a 1 * n) (span-split mesh k L)
 
-pub product-split : (k : ℕ) (ss : List ℕ) → product (take k ss) * product (drop k ss) ≡ product ss
-product-split zero ss = one-mul (product ss)
-product-split (suc k) [] = refl
-product-split (suc k) (s ∷ ss) =
-    mul-assoc s (product (take k ss)) (product (drop k ss)) ∙ ap (λ (n : ℕ). s * n) (product-split k ss)
-
 -- a factor left out
 factor-less : (a b n c : ℕ) → a * b ≡ n → 0 < n → b * c ≤ n * c
 factor-less a b n c e h =
@@ -74,9 +63,6 @@ span-less mesh L k c h = factor-less (span mesh (take k L)) (span mesh (drop k L
 
 pub product-less : (ss : List ℕ) (k c : ℕ) → 0 < product ss → product (drop k ss) * c ≤ product ss * c
 product-less ss k c h = factor-less (product (take k ss)) (product (drop k ss)) (product ss) c (product-split k ss) h
-
-pub product-part : (ss : List ℕ) (k : ℕ) → 0 < product ss → 0 < product (drop k ss)
-product-part ss k p = pos-right (product (take k ss)) (product (drop k ss)) (rw (product-split k ss) p)
 
 -- a mesh with a device has sizes of at least 1, and groups with a device
 pub size-pos : (mesh : List ℕ) (a : ℕ) → 0 < product mesh → 0 < getD mesh a 1

@@ -21,11 +21,11 @@ use native.Mathlib.Nat.{
 }
 use native.Mathlib.Omega.{arith}
 use lib.ListN.{length, getD, set, length-set}
-use lib.Arith.{digits-div, digits-mod, mod-mul}
 use Rattle.rules.specs.Lists.{product, Distinct}
 use Rattle.rules.specs.Mesh.{number, coords, span, member}
 use Rattle.rules.proofs.Positions.{member-set}
 use Rattle.strided.specs.Strided.{counted, offset, Spans}
+use Rattle.mesh.proofs.Sizes.{mod-div, mod-mod-right}
 use Rattle.digits.specs.Digits.{strides, dot, cleared, axisDigits, meshDigits}
 
 -- ---- factors
@@ -38,15 +38,9 @@ pub pos-right : (a b : ℕ) → 0 < a * b → 0 < b
 pos-right a zero h = omega (arith, mul-zero a)
 pos-right a (suc b) h = omega arith
 
--- the quotient and the remainder by a product
+-- the quotient by a product
 pub div-mul : (t e r : ℕ) → t / (e * r) ≡ t / r / e
 div-mul t e r = rw (div-div-eq-div-mul t r e, mul-comm r e)
-
-pub mod-mul-div : (t e r : ℕ) → 0 < e → 0 < r → t % (e * r) / r ≡ t / r % e
-mod-mul-div t e r he hr = rw (mod-mul t he hr, digits-div (t / r % e) (mod-lt t hr))
-
-pub mod-mul-mod : (t e r : ℕ) → 0 < e → 0 < r → t % (e * r) % r ≡ t % r
-mod-mul-mod t e r he hr = rw (mod-mul t he hr, digits-mod (t / r % e) (mod-lt t hr))
 
 -- ---- coordinates times strides
 
@@ -117,8 +111,8 @@ offset-axes mesh (a ∷ L) zs r t he hr ht =
       counted-axes mesh L zs r,
       offset-axes mesh L zs r (t % (e * n)) pe hr (mod-lt t (mul-pos pe hr)),
       div-mul t e n,
-      mod-mul-div t e n pe hr,
-      mod-mul-mod t e n pe hr,
+      mod-div t pe hr,
+      mod-mod-right t pe hr,
     )
     (sym (add-assoc (t / n / e * getD (cleared L zs) a 0) (memberPart mesh L zs (t / n % e)) (offset r (t % n))))
 
@@ -144,8 +138,8 @@ offset-mesh (s ∷ ss) (z ∷ zs) r t h p hr ht =
       counted-mesh ss zs r (omega arith),
       offset-mesh ss zs r (t % (e * n)) (omega arith) pe hr (mod-lt t (mul-pos pe hr)),
       div-mul t e n,
-      mod-mul-div t e n pe hr,
-      mod-mul-mod t e n pe hr,
+      mod-div t pe hr,
+      mod-mod-right t pe hr,
     ) (sym (add-assoc (t / n / e * z) (dot zs (coords ss (t / n % e))) (offset r (t % n))))
 
 pub spans-mesh : (ss zs r : List ℕ) → Spans r → Spans (meshDigits ss zs r)

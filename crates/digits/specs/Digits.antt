@@ -9,6 +9,7 @@ use Rattle.rules.specs.Lists.{product, In}
 use Rattle.rules.specs.Mesh.{span}
 use Rattle.rules.specs.Limits.{mostDevices, mostWords}
 use Rattle.strided.specs.Strided.{counted}
+use Rattle.mesh.specs.Fitting.{Sizes}
 
 -- the most words of a state
 abbrev pub mostRoom : ℕ
@@ -45,22 +46,15 @@ meshDigits (s ∷ ss) (z ∷ zs) r = push s z (meshDigits ss zs r)
 
 -- ---- what the code asks
 
--- sizes whose product is that of a mesh, or of a shape
-pub record Sizes (sizes : List ℕ) : Type 0 where
-  pub filled : 0 < product sizes
-  pub few : product sizes ≤ mostRoom
-
 -- a group on a mesh
 pub record Members (mesh L : List ℕ) : Type 0 where
   pub devices : 0 < product mesh
-  pub of-mesh : (a : ℕ) → In a L → a < length mesh
   pub few : span mesh L ≤ mostRoom
 
 -- a mesh, and shards of m words, with a place for each stride
 pub record Shards (zs mesh : List ℕ) (m : ℕ) : Type 0 where
   pub places : length zs ≡ length mesh
-  pub devices : 0 < product mesh
-  pub words : 0 < m
+  pub sizes : Sizes mesh
   pub few : product mesh * m ≤ mostRoom
 
 -- the digits that stand from place `end` on count `words` words, and leave room for n numbers before them

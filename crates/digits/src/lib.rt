@@ -1,44 +1,15 @@
 // The set-up of a step's digits: the strides of the devices, and the digits of a group's axes and of all devices.
 // Digits are written from the end of a slice to its front. specs/Digits.antt says what they are.
+use mesh::product_from;
+use mesh::size_at;
 use rules;
 ghost use mathlib.Core.Path.{_≡_};
 ghost use mathlib.Core.List.{_∷_};
-ghost use Prim.Native.Nat.{_+_, _-_, _*_, _≤_, _<_};
-ghost use lib.ListN.{length, getD, drop};
-ghost use Rattle.rules.specs.Lists.{product};
+ghost use Prim.Native.Nat.{_+_, _-_, _*_, _≤_};
+ghost use lib.ListN.{length, drop};
 ghost use Rattle.rules.specs.Mesh.{span};
 ghost use Rattle.rules.specs.Types.{axesOf};
-ghost use Rattle.digits.specs.Digits.{strides, cleared, axisDigits, meshDigits, Sizes, Members, Shards, Axes, Devices};
-
-// The axis at a place of a list.
-pub fn axis_at(axes: rules::AxisList, i: usize) -> usize
-    ensures { λ r. ⌜ r ≡ getD (axesOf axes) i 0 ⌝ }
-{
-    let a = axes.at(i);
-    a.0 as usize
-}
-
-// The size of an axis of the mesh.
-pub fn size_at(mesh: &[u16], a: usize) -> usize
-    requires { ⌜ a < length (now mesh) ⌝ }
-    ensures { λ r. ⌜ r ≡ getD (now (mesh .entry)) a 1 ⌝ }
-{
-    mesh[a] as usize
-}
-
-// The product of the sizes.
-pub fn product_of(sizes: &[u16]) -> usize
-    requires { ⌜ Sizes (now sizes) ⌝ }
-    ensures { λ r. ⌜ r ≡ product (now (sizes .entry)) ⌝ }
-{
-    let mut i = sizes.len();
-    let mut words: usize = 1;
-    while 0 < i {
-        i -= 1;
-        words = size_at(sizes, i) * words;
-    }
-    words
-}
+ghost use Rattle.digits.specs.Digits.{strides, cleared, axisDigits, meshDigits, Members, Shards, Axes, Devices};
 
 // The number of devices of a group.
 pub fn span_of(mesh: &[u16], axes: rules::AxisList) -> usize
@@ -49,8 +20,8 @@ pub fn span_of(mesh: &[u16], axes: rules::AxisList) -> usize
     let mut count: usize = 1;
     while 0 < i {
         i -= 1;
-        let a = axis_at(axes, i);
-        count = size_at(mesh, a) * count;
+        let axis = axes.at(i);
+        count = size_at(mesh, axis) * count;
     }
     count
 }
@@ -60,12 +31,11 @@ pub fn fill_strides(zs: &mut [usize], mesh: &[u16], m: usize)
     requires { ⌜ Shards (now zs) (now mesh) m ⌝ }
     ensures { λ _. ⌜ now (zs .exit) ≡ strides (now (mesh .entry)) m ⌝ }
 {
-    let mut words = m;
     let mut i = mesh.len();
     while 0 < i {
+        let words = product_from(mesh, i) * m;
         i -= 1;
         zs[i] = words;
-        words = size_at(mesh, i) * words;
     }
 }
 
@@ -102,8 +72,9 @@ pub fn axis_digits(
     while 0 < i {
         i -= 1;
         first -= 3;
-        let a = axis_at(axes, i);
-        let size = size_at(mesh, a);
+        let axis = axes.at(i);
+        let size = size_at(mesh, axis);
+        let a = axis.0 as usize;
         let stride = zs[a];
         put_digit(digits, first, size, count, stride);
         zs[a] = 0;
@@ -124,7 +95,7 @@ pub fn mesh_digits(digits: &mut [usize], zs: &[usize], mesh: &[u16], end: usize,
     while 0 < i {
         i -= 1;
         first -= 3;
-        let size = size_at(mesh, i);
+        let size = mesh[i] as usize;
         put_digit(digits, first, size, count, zs[i]);
         count = size * count;
     }

@@ -1,7 +1,7 @@
 -- The whole call: what it answers and leaves where a test refuses (`RefusedHere`) and where all pass (`listed`), and that an accepted listing is a
 -- rearrangement (`lists-all`, specs/Promises.antt). Assumes nothing.
 use Prim.Native.Nat.{ℕ, _≤_}
-use mathlib.Core.Path.{_≡_, refl, sym, ap, _∙_, subst}
+use mathlib.Core.Path.{_≡_, refl, sym, ap, _∙_}
 use mathlib.Core.Bool.{Bool, false, _&&_}
 use mathlib.Core.List.{List, [], _++_}
 use native.Mathlib.Omega.{arith}
@@ -11,23 +11,18 @@ use lib.Dec.{T, leb, leb→le, lit<, lit≤}
 use Rattle.rules.specs.Lists.{tab}
 use Rattle.rules.specs.Mesh.{devices, listing}
 use Rattle.rules.specs.Limits.{mostAxes, mostDevices}
-use Rattle.rules.specs.Refusals.{Judged, accept, refuse, need, refusedBy, _>>_}
+use Rattle.rules.specs.Refusals.{Judged, accept, need, refusedBy}
 use Rattle.rules.specs.PlanFile.{judgeSizes, judgeAxes}
-use Rattle.rules.specs.Types.{axesOf}
 use Rattle.rules.specs.Calls.{groupsOf, groupsOut, groupsLeave}
 use Rattle.rules.specs.declared.Refusal.{Refusal}
 use Rattle.rules.proofs.Lists.{T-and}
-use Rattle.rules.proofs.Judging.{accept-inj, never, need-inv, need-true, then-inv}
+use Rattle.rules.proofs.Judging.{accept-inj, need-inv, need-true, then-inv}
 use Rattle.rules.proofs.Accepted.{SizesFacts, sizes-facts, AxesFacts, axes-facts}
 use Rattle.rules.proofs.Groups.{listing-length, listing-rearranges}
 use Rattle.mesh.specs.Fitting.{Fits}
-use Rattle.groups.specs.declared.Judgement.{Judgement}
-use Rattle.groups.specs.declared.AxesRead.{AxesRead}
-use Rattle.groups.specs.declared.Judgement.the-variants.{Passed, Refused}
-use Rattle.groups.specs.Answers.{judged, refusalOf, readBy, axesRead, axesOrRefusal}
 use Rattle.groups.specs.Ordering.{orderOf, along, IsList, IsOrder}
 use Rattle.groups.specs.Promises.{ListsAll}
-use Rattle.groups.proofs.Ordering.{order-list, order-span, listing-along}
+use Rattle.groups.proofs.Ordering.{list-length, order-list, order-span, listing-along}
 
 -- ---- what a test that passed tells
 
@@ -50,33 +45,7 @@ axes-are n axes h e =
     let f : AxesFacts n [] axes = axes-facts n false 0 [] axes e in
     record { few = h; below = f .below; once = f .once }
 
-pub axes-read : (n : ℕ) (axes L : List ℕ) → n ≤ mostAxes → accept L ≡ axesOrRefusal n axes → IsList n L
-axes-read n axes L h e =
-    let t = then-inv (judgeAxes n false 0 [] axes) (accept axes) L (sym e) in
-    subst (IsList n) (accept-inj (t .1)) (axes-are n axes h (t .0 .1))
-
--- ---- the code's answers
-
--- a test of the code that passed, or did not, and the test that it stands for
-pub passed : {m : Judged (Unit {0})} {v : Judgement} → judged v ≡ m → v ≡ Passed → m ≡ accept tt
-passed e p = sym e ∙ ap judged p
-
-pub not-passed : {m : Judged (Unit {0})} {v : Judgement} {r s : Refusal} → judged v ≡ m → v ≡ Refused r → s ≡ refusalOf v → m ≡ refusedBy s
-not-passed e p w = sym e ∙ rw (w, p) refl
-
-pub not-read : {m : Judged (List ℕ)} (a : AxesRead) {r s : Refusal} → axesRead a ≡ m → a .verdict ≡ Refused r → s ≡ refusalOf (a .verdict)
-    → m ≡ refusedBy s
-not-read a e p w = sym e ∙ rw (w, p) refl
-
-pub read-whole : {m : Judged (List ℕ)} (a : AxesRead) → axesRead a ≡ m → a .verdict ≡ Passed → accept (axesOf (a .list)) ≡ m
-read-whole a e p = sym (ap (λ (v : Judgement). readBy v (a .list)) p) ∙ e
-
 -- ---- the answer, test by test
-
--- only the first of two can refuse, where the second accepts
-then-refused : {A B : Type 0} (m : Judged A) (b : B) (n k : ℕ) → _>>_ m (accept b) ≡ refuse n k → m ≡ refuse n k
-then-refused (accept a) b n k e = absurd (never (sym e))
-then-refused (refuse i j) b n k e = let p : i ≡ n = cc in let q : j ≡ k = cc in rw (p, q) refl
 
 module _ (mesh axes out : List ℕ) where
   -- a refusal that the tests come to is the answer, and all lent memory is as it was
@@ -97,49 +66,48 @@ module _ (mesh axes out : List ℕ) where
     unfolding groupsOf
     sizes-refused e5 e = refused-here r (rw (e5, e) refl)
 
-    pub axes-refused : countTest mesh ≡ accept tt → judgeSizes mostDevices 10 11 1 mesh ≡ accept tt → axesOrRefusal (length mesh) axes ≡ refusedBy r
-        → RefusedHere r
+    pub axes-refused : countTest mesh ≡ accept tt → judgeSizes mostDevices 10 11 1 mesh ≡ accept tt
+        → judgeAxes (length mesh) false 0 [] axes ≡ refusedBy r → RefusedHere r
     unfolding groupsOf
-    axes-refused e5 e10 e = refused-here r (rw (e5, e10, then-refused (judgeAxes (length mesh) false 0 [] axes) axes _ _ e) refl)
+    axes-refused e5 e10 e = refused-here r (rw (e5, e10, e) refl)
 
   -- the tests before the last, passed
-  pub record Tried (L : List ℕ) : Type 0 where
+  pub record Tried : Type 0 where
     pub counted : countTest mesh ≡ accept tt
     pub sized : judgeSizes mostDevices 10 11 1 mesh ≡ accept tt
-    pub read : accept L ≡ axesOrRefusal (length mesh) axes
+    pub named : judgeAxes (length mesh) false 0 [] axes ≡ accept tt
 
-  module _ {L : List ℕ} (t : Tried L) where
-    all-axes : (judgeAxes (length mesh) false 0 [] axes ≡ accept tt) × (axes ≡ L)
-    all-axes =
-        let p = then-inv (judgeAxes (length mesh) false 0 [] axes) (accept axes) L (sym (t .read)) in
-        (p .0 .1, accept-inj (p .1))
+  module _ (t : Tried) where
+    pub list-ready : IsList (length mesh) axes
+    list-ready = axes-are (length mesh) axes (count-few mesh (t .counted)) (t .named)
+
+    pub list-few : length axes ≤ mostAxes
+    list-few = omega (arith, list-length list-ready, list-ready .few)
 
     pub room-refused : (r : Refusal) (d : ℕ) → d ≡ devices mesh → need (leb d (length out)) 33 ≡ refusedBy r → RefusedHere r
     unfolding groupsOf
-    room-refused r d w e = refused-here r (rw (t .counted, t .sized, all-axes .0, ← w, e) refl)
+    room-refused r d w e = refused-here r (rw (t .counted, t .sized, t .named, ← w, e) refl)
 
-    pub order-ready : (order : List ℕ) (d : ℕ) → order ≡ orderOf (length mesh) L → d ≡ devices mesh → need (leb d (length out)) 33 ≡ accept tt
+    pub order-ready : (order : List ℕ) (d : ℕ) → order ≡ orderOf (length mesh) axes → d ≡ devices mesh → need (leb d (length out)) 33 ≡ accept tt
         → IsOrder mesh order d (length out)
     order-ready order d eo w e =
         let f : Fits mesh = sizes-fit mesh (t .sized) in
-        let l : IsList (length mesh) L = axes-read (length mesh) axes L (count-few mesh (t .counted)) (t .read) in
         rw eo (record {
           fits = f;
-          list = order-list l;
-          whole = order-span mesh L f l;
+          list = order-list list-ready;
+          whole = order-span mesh axes f list-ready;
           counted = w;
           enough = leb→le d (length out) (need-true 0 (leb d (length out)) 33 e);
         })
 
     -- "It writes D device numbers .. Entries after the first D stay."
-    pub listed : (order : List ℕ) (d : ℕ) → order ≡ orderOf (length mesh) L → d ≡ devices mesh → need (leb d (length out)) 33 ≡ accept tt
+    pub listed : (order : List ℕ) (d : ℕ) → order ≡ orderOf (length mesh) axes → d ≡ devices mesh → need (leb d (length out)) 33 ≡ accept tt
         → (accept d ≡ groupsOf mesh axes out) × (tab d (along mesh order) ++ drop d out ≡ groupsLeave mesh axes out)
     unfolding groupsOf groupsLeave
     listed order d eo w e =
         let f : Fits mesh = sizes-fit mesh (t .sized) in
-        let l : IsList (length mesh) L = axes-read (length mesh) axes L (count-few mesh (t .counted)) (t .read) in
-        let a : groupsOf mesh axes out ≡ accept d = rw (t .counted, t .sized, all-axes .0, ← w, e) refl in
-        let front : tab d (along mesh order) ≡ listing mesh axes = rw (w, eo, all-axes .1) (sym (listing-along mesh L f l)) in (
+        let a : groupsOf mesh axes out ≡ accept d = rw (t .counted, t .sized, t .named, ← w, e) refl in
+        let front : tab d (along mesh order) ≡ listing mesh axes = rw (w, eo) (sym (listing-along mesh axes f list-ready)) in (
           sym a,
           ap (λ (l : List ℕ). l ++ drop d out) front ∙ sym (ap (λ (m : Judged ℕ). groupsOut m mesh axes out) a),
         )

@@ -9,10 +9,7 @@ use lib.Seq.{drop-cons, take-suc, set-at}
 use Rattle.rules.specs.Lists.{tab, pick, mem, keep, without}
 use Rattle.rules.proofs.Lists.{length-tab}
 
--- the next entry
-pub drop-at : (l : List ℕ) (i a : ℕ) → i < length l → a ≡ getD l i 0 → drop i l ≡ a ∷ drop (i + 1) l
-drop-at l i a h e = rw (drop-cons l i 0 h, ← e, add-one i) refl
-
+-- one entry more of those that are passed
 pub take-at : (l : List ℕ) (i a : ℕ) → i < length l → a ≡ getD l i 0 → take (i + 1) l ≡ take i l ++ a ∷ []
 take-at l i a h e = rw (add-one i, take-suc l i 0 h, ← e) refl
 

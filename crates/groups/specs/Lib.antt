@@ -1,4 +1,3 @@
 -- What the contracts of the group listing are written with.
-pub mod Answers
 pub mod Ordering
 pub mod Promises

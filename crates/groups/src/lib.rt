@@ -6,14 +6,15 @@ ghost use mathlib.Core.List.{[], _∷_, _++_};
 ghost use Prim.Native.Nat.{_≤_};
 ghost use lib.ListN.{length, drop};
 ghost use lib.Dec.{leb};
-ghost use Rattle.rules.specs.Lists.{tab, mem, pick, without};
+ghost use Rattle.rules.specs.Lists.{tab, pick, without};
 ghost use Rattle.rules.specs.Limits.{mostAxes, mostDevices};
-ghost use Rattle.rules.specs.Refusals.{refuse, need, numberOf};
+ghost use Rattle.rules.specs.Refusals.{need};
 ghost use Rattle.rules.specs.PlanFile.{judgeSizes};
 ghost use Rattle.rules.specs.Types.{axesOf};
 ghost use Rattle.rules.specs.Calls.{groupsOf, groupsLeave, groupsMeaning};
-ghost use Rattle.groups.specs.Answers.{judged, refusalOf, axesRead, axesOrRefusal};
+ghost use Rattle.start.specs.Start.{meaning};
 ghost use Rattle.groups.specs.Ordering.{orderOf, along, IsList, IsOrder};
+use axes::is_in;
 use mesh::device_at;
 use mesh::product_from;
 use rules::Axis;
@@ -21,135 +22,66 @@ use rules::AxisList;
 use rules::Device;
 use rules::GroupsOutcome;
 use rules::Reason;
-use rules::Refusal;
-
-// What a test answers.
-enum Judgement {
-    Passed,
-    Refused(Refusal),
-}
-
-impl Judgement {
-    fn refused_for(reason: Reason) -> Judgement
-        ensures { λ r. ⌜ judged r ≡ refuse (numberOf reason) 0 ⌝ }
-    {
-        Judgement::Refused(Refusal { reason, step: 0 })
-    }
-
-    // The refusal of a test that did not pass.
-    fn refusal(self) -> Refusal
-        ensures { λ r. ⌜ r ≡ refusalOf self ⌝ }
-    {
-        match self {
-            Judgement::Passed => Refusal {
-                reason: Reason::CountOutsideLimits,
-                step: 0,
-            },
-            Judgement::Refused(r) => r,
-        }
-    }
-}
+use start::Verdict;
+use start::judge_axes;
+use start::refusal_of;
+use start::refused;
 
 // 5: "n .. outside its limits"
-fn judge_count(n: usize) -> Judgement
-    ensures { λ r. ⌜ judged r ≡ need (leb 1 n && leb n mostAxes) 5 ⌝ }
+fn judge_count(n: usize) -> Verdict
+    ensures { λ r. ⌜ meaning r ≡ need (leb 1 n && leb n mostAxes) 5 ⌝ }
 {
     if n < 1 {
-        return Judgement::refused_for(Reason::CountOutsideLimits);
+        return refused(Reason::CountOutsideLimits, 0);
     }
     if Axis::MOST < n {
-        return Judgement::refused_for(Reason::CountOutsideLimits);
+        return refused(Reason::CountOutsideLimits, 0);
     }
-    Judgement::Passed
+    Verdict::Fine
 }
 
 // 10, 11: "each size in turn (zero, then running product)"
-fn judge_sizes(mesh: &[u16]) -> Judgement
-    ensures { λ r. ⌜ judged r ≡ judgeSizes mostDevices 10 11 1 (now (mesh .entry)) ⌝ }
+fn judge_sizes(mesh: &[u16]) -> Verdict
+    ensures { λ r. ⌜ meaning r ≡ judgeSizes mostDevices 10 11 1 (now (mesh .entry)) ⌝ }
 {
     let mut product: usize = 1;
     let mut i: usize = 0;
     while i < mesh.len() {
         let size = mesh[i] as usize;
         if size == 0 {
-            return Judgement::refused_for(Reason::MeshSizeZero);
+            return refused(Reason::MeshSizeZero, 0);
         }
         product = product * size;
         if Device::MOST < product {
-            return Judgement::refused_for(Reason::TooManyDevices);
+            return refused(Reason::TooManyDevices, 0);
         }
         i += 1;
     }
-    Judgement::Passed
+    Verdict::Fine
 }
 
-// Whether an axis is one of a list.
-fn is_in(list: AxisList, axis: Axis) -> bool
-    ensures { λ r. ⌜ r ≡ mem (axis .0) (axesOf list) ⌝ }
+// 33: "group output shorter than D"
+fn judge_room(devices: usize, room: usize) -> Verdict
+    ensures { λ r. ⌜ meaning r ≡ need (leb devices room) 33 ⌝ }
 {
-    let count = list.len();
-    let mut i: usize = 0;
-    while i < count {
-        let other = list.at(i);
-        if axis.0 == other.0 {
-            return true;
-        }
-        i += 1;
+    if room < devices {
+        return refused(Reason::OutputTooShort, 0);
     }
-    false
+    Verdict::Fine
 }
 
-// The axes of a list, or why it is refused.
-struct AxesRead {
-    verdict: Judgement,
-    list: AxisList,
-}
-
-impl AxesRead {
-    fn refused_for(reason: Reason) -> AxesRead
-        ensures { λ r. ⌜ axesRead r ≡ refuse (numberOf reason) 0 ⌝ }
-    {
-        let list = AxisList::empty();
-        AxesRead {
-            verdict: Judgement::Refused(Refusal { reason, step: 0 }),
-            list,
-        }
-    }
-}
-
-// 14, 15: "axis by axis"
-fn read_axes(axes: &[u8], n: usize) -> AxesRead
-    requires { ⌜ n ≤ mostAxes ⌝ }
-    ensures { λ r. ⌜ axesRead r ≡ axesOrRefusal n (now (axes .entry)) ⌝ }
+// The axes of a lent list.
+fn list_of(axes: &[u8]) -> AxisList
+    requires { ⌜ length (now axes) ≤ mostAxes ⌝ }
+    ensures { λ r. ⌜ axesOf r ≡ now (axes .entry) ⌝ }
 {
     let mut list = AxisList::empty();
     let mut i: usize = 0;
     while i < axes.len() {
-        let axis = Axis(axes[i]);
-        let a = axis.0 as usize;
-        if n <= a {
-            return AxesRead::refused_for(Reason::StartAxisTooLarge);
-        }
-        if is_in(list, axis) {
-            return AxesRead::refused_for(Reason::StartAxisRepeated);
-        }
-        list = list.with(axis);
+        list = list.with(Axis(axes[i]));
         i += 1;
     }
-    AxesRead {
-        verdict: Judgement::Passed,
-        list,
-    }
-}
-
-// 33: "group output shorter than D"
-fn judge_room(devices: usize, room: usize) -> Judgement
-    ensures { λ r. ⌜ judged r ≡ need (leb devices room) 33 ⌝ }
-{
-    if room < devices {
-        return Judgement::refused_for(Reason::OutputTooShort);
-    }
-    Judgement::Passed
+    list
 }
 
 // All axes of a mesh of n axes, in increasing order.
@@ -185,7 +117,7 @@ fn extended(list: AxisList, more: AxisList, but: AxisList) -> AxisList
     let mut i: usize = 0;
     while i < count {
         let axis = more.at(i);
-        let gone = is_in(but, axis);
+        let gone = is_in(axis, but);
         whole = with_unless(gone, whole, axis);
         i += 1;
     }
@@ -223,25 +155,24 @@ pub fn groups(mesh: &[u16], axes: &[u8], out: &mut [u16]) -> GroupsOutcome
 {
     let n = mesh.len();
     let counted = judge_count(n);
-    let Judgement::Passed = counted else {
-        return GroupsOutcome::Refused(counted.refusal());
+    let Verdict::Fine = counted else {
+        return GroupsOutcome::Refused(refusal_of(counted));
     };
     let sized = judge_sizes(mesh);
-    let Judgement::Passed = sized else {
-        return GroupsOutcome::Refused(sized.refusal());
+    let Verdict::Fine = sized else {
+        return GroupsOutcome::Refused(refusal_of(sized));
     };
     let devices = product_from(mesh, 0);
-    let read = read_axes(axes, n);
-    let named = read.verdict;
+    let named = judge_axes(axes, n);
     let fits = judge_room(devices, out.len());
     // 14 and 15 before 33
-    let Judgement::Passed = named else {
-        return GroupsOutcome::Refused(named.refusal());
+    let Verdict::Fine = named else {
+        return GroupsOutcome::Refused(refusal_of(named));
     };
-    let Judgement::Passed = fits else {
-        return GroupsOutcome::Refused(fits.refusal());
+    let Verdict::Fine = fits else {
+        return GroupsOutcome::Refused(refusal_of(fits));
     };
-    let list = read.list;
+    let list = list_of(axes);
     let order = order_of(list, n);
     write_devices(mesh, order, devices, out);
     GroupsOutcome::Listed(devices)

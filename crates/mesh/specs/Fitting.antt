@@ -2,9 +2,14 @@
 use Prim.Native.Nat.{ℕ, _<_, _≤_}
 use mathlib.Core.List.{List}
 use lib.ListN.{length}
-use Rattle.rules.specs.Lists.{In, Distinct}
+use Rattle.rules.specs.Lists.{product, In, Distinct}
 use Rattle.rules.specs.Mesh.{devices, span}
-use Rattle.rules.specs.Limits.{mostDevices}
+use Rattle.rules.specs.Limits.{mostDevices, mostWords}
+
+-- The sizes of a mesh, or of a shard: none is 0, and their product is at most the words of a table.
+pub record Sizes (sizes : List ℕ) : Type 0 where
+  pub some : 0 < product sizes
+  pub few : product sizes ≤ mostWords
 
 -- No size is 0, and "D at most 256".
 pub record Fits (mesh : List ℕ) : Type 0 where

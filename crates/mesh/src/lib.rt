@@ -5,7 +5,7 @@ ghost use lib.ListN.{getD, drop};
 ghost use Rattle.rules.specs.Lists.{product as productOf};
 ghost use Rattle.rules.specs.Mesh.{deviceNumber, deviceCoords, position, member};
 ghost use Rattle.rules.specs.Types.{axesOf};
-ghost use Rattle.mesh.specs.Fitting.{Fits, IsDevice, IsPosition};
+ghost use Rattle.mesh.specs.Fitting.{Sizes, IsDevice, IsPosition};
 use rules::Axis;
 use rules::AxisList;
 use rules::Device;
@@ -18,9 +18,9 @@ pub fn size_at(mesh: &[u16], axis: Axis) -> usize
     if a < mesh.len() { mesh[a] as usize } else { 1 }
 }
 
-// The product of the sizes from an axis on: D from 0 on, the stride of an axis from the next one on.
+// The product of the sizes from one on: D of a mesh and the words of a shard from 0 on, the stride of an axis from the next one on.
 pub fn product_from(mesh: &[u16], first: usize) -> usize
-    requires { ⌜ Fits (now mesh) ⌝ }
+    requires { ⌜ Sizes (now mesh) ⌝ }
     ensures { λ r. ⌜ r ≡ productOf (drop first (now (mesh .entry))) ⌝ }
 {
     let mut product: usize = 1;

@@ -18,12 +18,11 @@ use Rattle.rules.proofs.Shapes.{Cut, cut, uncut, below-owner, owner-member}
 use Rattle.rules.proofs.Buffers.{number-lt, below-coords}
 use Rattle.strided.specs.Strided.{counted, offset, Spans, Copy, copied}
 use Rattle.digits.specs.Digits.{strides, dot, push, cleared, axisDigits}
+use Rattle.mesh.proofs.Sizes.{mod-div, mod-mod-right}
 use Rattle.digits.proofs.Strides.{
   pos-left,
   pos-right,
   div-mul,
-  mod-mul-div,
-  mod-mul-mod,
   strides-length,
   coords-length,
   cleared-length,
@@ -140,7 +139,7 @@ offset-dims mesh (n ∷ ns) (w ∷ ws) (G ∷ Gs) zs o x h g k p q d =
     offset-axes mesh G (left Gs zs) (push w (product ns) r) o pe (rw tr wr) (rw (tr, ← mul-assoc e w R) q) in
     let M : ℕ = memberPart mesh G (left Gs zs) (i / w) in
     let U : ℕ = i % w * product ns in
-    let eb : offset D o ≡ M + (U + offset r (o % R)) = ea ∙ (rw (tr, div-mul o w R, mod-mul-div o w R pw pr, mod-mul-mod o w R pw pr)) in
+    let eb : offset D o ≡ M + (U + offset r (o % R)) = ea ∙ (rw (tr, div-mul o w R, mod-div o pw pr, mod-mod-right o pw pr)) in
     ap (λ (z : ℕ). z + (U + number ns (within ws rest)))
     (ap (dot zs) (sym (owner-member mesh Gs ws rest G (i / w) x (λ a u j. s .2 a j u))))
     ∙ sum-up (dot zs (owner mesh Gs ws rest y)) U (number ns (within ws rest)) (dot (left Gs zs) y) (offset r (o % R))

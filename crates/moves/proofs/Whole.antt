@@ -5,11 +5,12 @@ use mathlib.Core.Path.{_≡_, refl, sym, ap, _∙_}
 use mathlib.Core.List.{List, [], _∷_}
 use native.Mathlib.Nat.{mul-comm, mul-le-mul, mul-le-mul-right, le-mul-of-pos-right}
 use native.Mathlib.Omega.{arith}
-use lib.ListN.{length, getD, set, take, drop, replicate, length-replicate}
+use lib.ListN.{length, getD, set, drop, replicate, length-replicate}
 use Rattle.rules.specs.Lists.{flat, product}
 use Rattle.rules.specs.Spread.{from, tabulate}
 use Rattle.strided.specs.Strided.{counted, Copy, copied}
-use Rattle.digits.specs.Digits.{mostRoom, strides, cleared, meshDigits, Sizes, Shards, Devices}
+use Rattle.mesh.specs.Fitting.{Sizes}
+use Rattle.digits.specs.Digits.{mostRoom, strides, cleared, meshDigits, Shards, Devices}
 use Rattle.digits.proofs.Strides.{pos-left, pos-right, strides-length}
 use Rattle.moves.specs.Moves.{movedShape, moved, left, deviceStrides, stepDigits, Adding, Dimensions, DimensionsAt, Setting}
 use Rattle.moves.proofs.Leads.{Step, shard-length, counted-dims, left-length, device-length, copy-ok, copied-is}
@@ -46,11 +47,6 @@ zeros-at zero k = refl
 zeros-at (suc n) zero = refl
 zeros-at (suc n) (suc k) = zeros-at n k
 
-pub zeros-taken : (n k : ℕ) → n ≤ k → take {A = ℕ} n (replicate k 0) ≡ replicate n 0
-zeros-taken zero k h = refl
-zeros-taken (suc n) zero h = absurd (omega arith)
-zeros-taken (suc n) (suc k) h = ap (λ (l : List ℕ). 0 ∷ l) (zeros-taken n k (omega arith))
-
 -- ---- the set-up
 
 module _ {row zs ys mesh shape : List ℕ} {Gs Ss : List (List ℕ)} {words : ℕ} (t : Setting row zs ys mesh shape Gs Ss words) where
@@ -58,16 +54,15 @@ module _ {row zs ys mesh shape : List ℕ} {Gs Ss : List (List ℕ)} {words : �
   Z = strides mesh (product shape)
 
   pub shape-asked : Sizes shape
-  shape-asked = record { filled = t .step .old-pos; few = omega (arith, t .step .old-few) }
+  shape-asked = record { some = t .step .old-pos; few = t .step .old-few }
 
   pub mesh-sizes : Sizes mesh
-  mesh-sizes = record { filled = t .step .devices-pos; few = omega (arith, t .step .devices-few) }
+  mesh-sizes = record { some = t .step .devices-pos; few = omega (arith, t .step .devices-few) }
 
   pub strides-asked : Shards zs mesh (product shape)
   strides-asked = record {
     places = t .zs-places;
-    devices = t .step .devices-pos;
-    words = t .step .old-pos;
+    sizes = mesh-sizes;
     few = mul-le-mul (t .step .devices-few) (t .step .old-few);
   }
 

@@ -1,6 +1,8 @@
 // The steps that only move words, as one copy with strides: all-slice, all-gather and all-to-all. The digits are set up once a step; nothing is
 // divided after that. specs/Moves.antt says what the digits are.
 use digits;
+use mesh::product_from;
+use mesh::size_at;
 use rules;
 use strided;
 ghost use mathlib.Core.Path.{_≡_};
@@ -37,10 +39,11 @@ fn add_slice(ys: &mut [usize], mesh: &[u16], axes: rules::AxisList, v: usize)
     let mut i = axes.len();
     while 0 < i {
         i -= 1;
-        let a = digits::axis_at(axes, i);
+        let axis = axes.at(i);
+        let a = axis.0 as usize;
         let sum = ys[a] + words;
         ys[a] = sum;
-        words = digits::size_at(mesh, a) * words;
+        words = size_at(mesh, axis) * words;
     }
 }
 
@@ -111,7 +114,7 @@ fn shape_digits(
         j -= 1;
         let gathered = list_at(gathers, j);
         let sliced = list_at(slices, j);
-        let n = digits::size_at(shape, j);
+        let n = shape[j] as usize;
         count = dim_digits(row, zs, ys, mesh, gathered, sliced, n, w, first, count);
         first = first - 3 - 3 * gathered.len();
         w = n * w;
@@ -134,7 +137,7 @@ fn make_digits(
     ensures { λ r. ⌜ (r ≤ digitRoom) × (drop r (now (row .exit)) ≡ stepDigits (now (mesh .entry)) (now (shape .entry))
         (lists (now (shape .entry)) gathers) (lists (now (shape .entry)) slices)) ⌝ }
 {
-    let m = digits::product_of(shape);
+    let m = product_from(shape, 0);
     digits::fill_strides(zs, mesh, m);
     let end = shape_digits(row, zs, ys, mesh, shape, gathers, slices);
     add_strides(zs, ys);
@@ -161,7 +164,7 @@ fn move_with(
         (lists (now (shape .entry)) slices) words (now (old .entry)) (now (new .entry)) ⌝ }
 {
     let first = make_digits(row, zs, ys, mesh, shape, gathers, slices, words);
-    let all = digits::product_of(mesh) * words;
+    let all = product_from(mesh, 0) * words;
     strided::copy_strided(&mut new[0..all], old, &row[first..], 0);
 }
 

@@ -5,12 +5,13 @@ use mathlib.Core.List.{List, []}
 use lib.ListN.{getD, take, replicate}
 use Rattle.rules.specs.Mesh.{position, deviceCoords}
 use Rattle.rules.specs.Limits.{mostDims, mostWords}
-use Rattle.rules.specs.Types.{axesOf, dimsOf}
+use Rattle.rules.specs.Types.{dimsOf}
 use Rattle.rules.specs.declared.Placed.{Placed}
 use Rattle.rules.specs.declared.Sharding as code
 use Rattle.rules.specs.declared.Table.{Table}
 use Rattle.dims.specs.Dims.{sizesOf}
 use Rattle.mesh.specs.Fitting.{IsDevice}
+use Rattle.plan.specs.Parts.{Blank}
 
 -- a device of the mesh, and shard sizes whose blocks end within the table
 pub record Placing (mesh : List ℕ) (sharding : code.Sharding) (shard : Table) (d : ℕ) : Type 0 where
@@ -19,8 +20,5 @@ pub record Placing (mesh : List ℕ) (sharding : code.Sharding) (shard : Table) 
   pub few : (j : ℕ) → position mesh (getD (take (shard .rank) (dimsOf sharding)) j []) (deviceCoords mesh d) * getD (sizesOf shard) j 0 ≤ mostWords
 
 -- beside a refusal: all axes replicated, all sizes and indexes 0
-pub record Blank (r : Placed) : Type 0 where
-  pub dims : dimsOf (r .sharding) ≡ replicate mostDims []
-  pub unreduced : axesOf (r .sharding .unreduced) ≡ []
-  pub sizes : r .shard ≡ replicate mostDims 0
-  pub indexes : r .first ≡ replicate mostDims 0
+abbrev pub Unplaced : Placed → Type 0
+Unplaced r = Blank (r .sharding) (r .shard) × (r .first ≡ replicate mostDims 0)

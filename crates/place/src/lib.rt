@@ -10,7 +10,7 @@ ghost use Rattle.rules.specs.Refusals.{refuse, refusedBy};
 ghost use Rattle.rules.specs.Types.{dimsOf};
 ghost use Rattle.rules.specs.Calls.{placeMeaning, placeOf};
 ghost use Rattle.dims.specs.Dims.{sizesOf};
-ghost use Rattle.place.specs.Placing.{Placing, Blank};
+ghost use Rattle.place.specs.Placing.{Placing, Unplaced};
 use mesh::position_of;
 use plan::State;
 use plan::state_after;
@@ -53,7 +53,7 @@ fn first_indexes(mesh: &[u16], sharding: Sharding, shard: Table, device: Device)
 
 // No lists, no sizes and no indexes, beside a refusal.
 fn refused(refusal: Refusal) -> Placed
-    ensures { λ r. ⌜ (placeMeaning r ≡ refusedBy refusal) × Blank r ⌝ }
+    ensures { λ r. ⌜ (placeMeaning r ≡ refusedBy refusal) × Unplaced r ⌝ }
 {
     let sharding = Sharding::replicated();
     Placed {
@@ -67,7 +67,7 @@ fn refused(refusal: Refusal) -> Placed
 // The placement: the file's refusal, then 34, then 32; or the state's sharding, its shard sizes and the device's first indexes.
 pub fn place(file: &[u8], state: u16, device: Device) -> Placed
     ensures { λ r. ⌜ placeMeaning r ≡ placeOf (now (file .entry)) state (device .0) ⌝ }
-    ensures { λ r. ⌜ ((n k : ℕ) → placeOf (now (file .entry)) state (device .0) ≡ refuse n k → Blank r) ⌝ }
+    ensures { λ r. ⌜ ((n k : ℕ) → placeOf (now (file .entry)) state (device .0) ≡ refuse n k → Unplaced r) ⌝ }
 {
     let found = state_after(file, state as usize);
     let next = found.next;

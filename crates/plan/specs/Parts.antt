@@ -15,8 +15,6 @@ use Rattle.rules.specs.PlanFile.{Read, meshOffset, tensorOffset, stepCount, siz
 use Rattle.rules.specs.Types.{axesOf, dimsOf, shardingOf, stepOf}
 use Rattle.rules.specs.Calls.{CheckAnswer}
 use Rattle.rules.specs.declared.Sharding as code
-use Rattle.rules.specs.declared.Reason.the-variants.{CountOutsideLimits}
-use Rattle.rules.specs.declared.Refusal.{Refusal}
 use Rattle.reader.specs.Reading.{reading, headerOf}
 use Rattle.reader.specs.declared.Header.{Header}
 use Rattle.reader.specs.declared.Next.{Next}
@@ -24,8 +22,6 @@ use Rattle.reader.specs.declared.Next.the-variants as next
 use Rattle.axes.specs.Mesh.{meshOf}
 use Rattle.dims.specs.Dims.{sizesOf}
 use Rattle.start.specs.Start.{Fits}
-use Rattle.start.specs.declared.Verdict.{Verdict}
-use Rattle.start.specs.declared.Verdict.the-variants as verdict
 use Rattle.judge.specs.Step.{Ready}
 use Rattle.plan.specs.declared.Shape.{Shape}
 use Rattle.plan.specs.declared.Opening.{Opening}
@@ -33,11 +29,6 @@ use Rattle.plan.specs.declared.Taken.{Taken}
 use Rattle.plan.specs.declared.Walk.{Walk}
 use Rattle.plan.specs.declared.Whole.{Whole}
 use Rattle.plan.specs.declared.State.{State}
-
--- the refusal of a verdict
-abbrev pub verdictRefusal : Verdict → Refusal
-verdictRefusal verdict.Fine = record { reason = CountOutsideLimits; step = 0 }
-verdictRefusal (verdict.Refused r) = r
 
 -- ---- the sizes of mesh and tensor
 

@@ -13,7 +13,7 @@ ghost use Rattle.reader.specs.Reading.{headerOf};
 ghost use Rattle.axes.specs.Mesh.{meshOf};
 ghost use Rattle.dims.specs.Dims.{sizesOf};
 ghost use Rattle.judge.specs.Step.{Ready};
-ghost use Rattle.plan.specs.Parts.{verdictRefusal, shapeAt, shapeRead, openRead, Counts, Opens, Counted, takeStep, takenRead, walkAt, walkRead, Judges, Bounded, answerOf, Blank, stateOf, stateMeaning, Shaped};
+ghost use Rattle.plan.specs.Parts.{shapeAt, shapeRead, openRead, Counts, Opens, Counted, takeStep, takenRead, walkAt, walkRead, Judges, Bounded, answerOf, Blank, stateOf, stateMeaning, Shaped};
 use axes::Mesh;
 use dims::shard_of;
 use dims::words;
@@ -41,6 +41,7 @@ use rules::Table;
 use rules::Totals;
 use start::Verdict;
 use start::judge_start;
+use start::refusal_of;
 
 // The sizes of mesh and table, and where the next byte is.
 pub struct Shape {
@@ -72,18 +73,6 @@ pub struct Walk {
     pub next: Next,
     pub most: usize,
     pub sharding: Sharding,
-}
-
-fn refusal_of(verdict: Verdict) -> Refusal
-    ensures { λ r. ⌜ r ≡ verdictRefusal verdict ⌝ }
-{
-    match verdict {
-        Verdict::Fine => Refusal {
-            reason: Reason::CountOutsideLimits,
-            step: 0,
-        },
-        Verdict::Refused(r) => r,
-    }
 }
 
 impl Shape {

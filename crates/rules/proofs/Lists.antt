@@ -7,7 +7,7 @@ use mathlib.Core.Bool.{Bool, true, false, not, _&&_, _||_}
 use mathlib.Core.List.{List, [], _∷_, _++_, map, map-append}
 use native.Mathlib.Omega.{arith}
 use native.Mathlib.Decide.{ℕ-discrete}
-use lib.ListN.{length, getD, length-append, List·getD-append}
+use lib.ListN.{length, getD, take, replicate, length-append, List·getD-append}
 use lib.Seq.{getD-at}
 use lib.Dec.{T, T-not, not-T, eqb, eqb-refl, eqb→eq}
 use Rattle.rules.specs.Lists.{tab, each, both, pick, flat, mem, keep, without, In, Distinct, All, Below, none, more}
@@ -42,6 +42,18 @@ pub length-each : {A B C : Type 0} (f : A → B → C) (xs : List A) (ys : List 
 length-each f [] ys e = e
 length-each f (x ∷ xs) [] e = refl
 length-each f (x ∷ xs) (y ∷ ys) e = ap suc (length-each f xs ys (omega arith))
+
+-- the first entries of one entry repeated
+pub take-replicate : {A : Type 0} (a : A) (n m : ℕ) → n ≤ m → take n (replicate m a) ≡ replicate n a
+take-replicate a zero m h = refl
+take-replicate a (suc n) zero h = absurd (omega arith)
+take-replicate {A = A} a (suc n) (suc m) h = ap (λ (l : List A). a ∷ l) (take-replicate a n m (omega arith))
+
+-- an entry that is there does not depend on what stands for one that is not
+pub any-default : (l : List ℕ) (a x y : ℕ) → a < length l → getD l a x ≡ getD l a y
+any-default [] a x y h = absurd (omega arith)
+any-default (b ∷ l) zero x y h = refl
+any-default (b ∷ l) (suc a) x y h = any-default l a x y (omega arith)
 
 -- ---- P of each entry
 

@@ -1,4 +1,4 @@
--- Locality of one step of an accepted plan (`locality`). Assumes nothing.
+-- One step of an accepted plan: its shape (`next-shape`), its sizes (`next-ready`) and its locality (`locality`). Assumes nothing.
 use Prim.Native.Nat.{ℕ, zero, suc, _+_}
 use mathlib.Core.Path.{_≡_, sym, ap, _∙_, subst}
 use mathlib.Core.List.{List, [], _∷_}
@@ -8,9 +8,9 @@ use lib.ListN.{take, drop}
 use Rattle.rules.specs.Lists.{inTurn, Below}
 use Rattle.rules.specs.Sharding.{Sharding, shardSizes}
 use Rattle.rules.specs.Collectives.{Step, after, shapeAfter, stepped}
-use Rattle.rules.specs.PlanFile.{announced, announcedShape}
+use Rattle.rules.specs.PlanFile.{Plan, announced, announcedShape}
 use Rattle.rules.specs.Demands.{Locality}
-use Rattle.rules.proofs.Sources.{step-local}
+use Rattle.rules.proofs.Sources.{Ready, step-local}
 use Rattle.rules.proofs.Steps.{AcceptedStep, after-shape}
 use Rattle.rules.proofs.Accepted.{Fine, AcceptedPlan, accepted}
 use Rattle.rules.proofs.Room.{state}
@@ -41,14 +41,24 @@ step-accepted mesh sizes zero t (u ∷ ts) rest s e f = subst (λ (z : Step). Ac
 step-accepted mesh sizes (suc k) t [] rest s e f = absurd (no-entry e)
 step-accepted mesh sizes (suc k) t (u ∷ ts) rest s e f = step-accepted mesh sizes k t ts rest (after u s) e (f .1)
 
+-- the shape that the step after the first k leaves is the one announced after it
+pub next-shape : {p : Plan} → AcceptedPlan p → (k : ℕ) (t : Step) (rest : List Step) → drop k (p .steps) ≡ t ∷ rest
+    → shapeAfter (p .mesh) t (announcedShape p k) ≡ announcedShape p (k + 1)
+unfolding announcedShape announced
+next-shape {p} a k t rest d =
+    after-shape (p .mesh) (p .sizes) (a .within .sizes-pos) t (announced p k) (state a k .sharding)
+    (step-accepted (p .mesh) (p .sizes) k t (p .steps) rest (p .start) d (a .fine))
+    ∙ ap (λ (z : Sharding). shardSizes (p .mesh) (p .sizes) (z .dims)) (sym (in-turn-next after k t (p .steps) rest (p .start) d))
+
+-- the step after the first k has the sizes that its kind asks for
+pub next-ready : {p : Plan} → AcceptedPlan p → (k : ℕ) (t : Step) (rest : List Step) → drop k (p .steps) ≡ t ∷ rest → Ready (p .mesh) t (announcedShape p k)
+unfolding announcedShape announced
+next-ready {p} a k t rest d =
+    step-ready (p .mesh) (p .sizes) (a .within .sizes-pos) t (announced p k) (state a k .sharding)
+    (step-accepted (p .mesh) (p .sizes) k t (p .steps) rest (p .start) d (a .fine))
+
 pub locality : Locality
-unfolding announcedShape announced stepped
+unfolding stepped
 locality file p e k t rest d W addAll v w x bx same i bi =
     let a : AcceptedPlan p = accepted file p e in
-    let s : Sharding = announced p k in
-    let f : AcceptedStep (p .mesh) (p .sizes) t s = step-accepted (p .mesh) (p .sizes) k t (p .steps) rest (p .start) d (a .fine) in
-    let g : shapeAfter (p .mesh) t (shardSizes (p .mesh) (p .sizes) (s .dims)) ≡ announcedShape p (k + 1) =
-    after-shape (p .mesh) (p .sizes) (a .within .sizes-pos) t s (state a k .sharding) f
-    ∙ ap (λ (z : Sharding). shardSizes (p .mesh) (p .sizes) (z .dims)) (sym (in-turn-next after k t (p .steps) rest (p .start) d)) in
-    step-local (p .mesh) addAll t (announcedShape p k) v w x i (step-ready (p .mesh) (p .sizes) (a .within .sizes-pos) t s (state a k .sharding) f) bx
-    (subst (Below i) (sym g) bi) same
+    step-local (p .mesh) addAll t (announcedShape p k) v w x i (next-ready a k t rest d) bx (subst (Below i) (sym (next-shape a k t rest d)) bi) same

@@ -127,13 +127,13 @@ module _ (mesh sizes : List ℕ) (pos : (a : ℕ) → zero < getD mesh a 1) wher
 
 module _ (file : List ℕ) (p : Plan) (e : judge file ≡ accept p) (work spare : List ℕ) where
   -- what is left to judge, by the tests of the two buffers
-  abbrev judged : Bool → Bool → Judged Plan
+  abbrev pub judged : Bool → Bool → Judged Plan
   judged b c = do
     need b 30
     need c 31
     accept p
 
-  run-is : runOf file work spare ≡ runLeaves (judged (leb (room p) (length work)) (leb (room p) (length spare))) work spare
+  pub run-is : runOf file work spare ≡ runLeaves (judged (leb (room p) (length work)) (leb (room p) (length spare))) work spare
   unfolding runOf runnable
   run-is = ap (λ (j : Judged Plan). runLeaves (_>>=_ j (λ q. do
     need (leb (room q) (length work)) 30
@@ -150,7 +150,8 @@ module _ (file : List ℕ) (p : Plan) (e : judge file ≡ accept p) (work spare 
   stopped true false n = (refl, refl)
   stopped false c n = (refl, refl)
 
-  run-fits : Fits p work spare → runOf file work spare ≡ runLeaves (accept p) work spare
+  -- a run whose buffers have the room leaves the last state
+  pub run-fits : Fits p work spare → runOf file work spare ≡ runLeaves (accept p) work spare
   run-fits (f, g) =
       run-is ∙ ap₂ (λ (b c : Bool). runLeaves (judged b c) work spare) (T→true (leb (room p) (length work)) (le→leb (room p) (length work) f))
       (T→true (leb (room p) (length spare)) (le→leb (room p) (length spare) g))

@@ -2,11 +2,11 @@
 -- Assumes nothing.
 use Prim.Native.Nat.{ℕ}
 use mathlib.Core.Bool.{Bool, true, false}
-use mathlib.Core.Path.{_≡_, refl}
+use mathlib.Core.Path.{_≡_, refl, sym, ap, _∙_}
 use native.Mathlib.Omega.{arith}
-use Rattle.rules.specs.Refusals.{Judged, accept, refuse, _>>=_, _>>_, needAt}
+use Rattle.rules.specs.Refusals.{Judged, accept, refuse, _>>=_, _>>_, needAt, refusedBy}
 use Rattle.rules.specs.declared.Refusal.{Refusal}
-use Rattle.start.specs.Start.{meaning}
+use Rattle.start.specs.Start.{meaning, refusalOf}
 use Rattle.start.specs.declared.Verdict.{Verdict}
 use Rattle.start.specs.declared.Verdict.the-variants as verdict
 
@@ -22,6 +22,13 @@ module _ (v : Verdict) (m k : Judged (Unit {0})) (e : meaning v ≡ m) where
 
   pub goes-on : v ≡ verdict.Fine → _>>_ m k ≡ k
   goes-on f = rw (← e, f) refl
+
+-- what a verdict tells once it is taken apart
+pub passed : {v : Verdict} {j : Judged (Unit {0})} → meaning v ≡ j → v ≡ verdict.Fine → j ≡ accept tt
+passed e h = sym e ∙ ap meaning h
+
+pub failed : {v : Verdict} {j : Judged (Unit {0})} {r t : Refusal} → meaning v ≡ j → v ≡ verdict.Refused r → t ≡ refusalOf v → j ≡ refusedBy t
+failed e h q = sym e ∙ ap meaning h ∙ ap refusedBy (sym (q ∙ ap refusalOf h))
 
 -- ---- accepted judgements
 

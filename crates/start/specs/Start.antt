@@ -7,6 +7,8 @@ use lib.Dec.{ltb, leb}
 use Rattle.rules.specs.Lists.{mem}
 use Rattle.rules.specs.Limits.{mostAxes, mostDims}
 use Rattle.rules.specs.Refusals.{Judged, accept, _>>_, need, refusedBy}
+use Rattle.rules.specs.declared.Reason.the-variants.{CountOutsideLimits}
+use Rattle.rules.specs.declared.Refusal.{Refusal}
 use Rattle.rules.specs.declared.Table.{Table}
 use Rattle.axes.specs.declared.Mesh.{Mesh}
 use Rattle.axes.specs.Mesh.{meshOf, Sized}
@@ -16,6 +18,11 @@ use Rattle.start.specs.declared.Verdict.the-variants as verdict
 abbrev pub meaning : Verdict → Judged (Unit {0})
 meaning verdict.Fine = accept tt
 meaning (verdict.Refused r) = refusedBy r
+
+-- the refusal of a verdict; a fine one has none, and none is asked of it
+abbrev pub refusalOf : Verdict → Refusal
+refusalOf verdict.Fine = record { reason = CountOutsideLimits; step = 0 }
+refusalOf (verdict.Refused r) = r
 
 -- what judgeAxes tests at one axis
 abbrev pub judgeAxis : (n low : ℕ) → List ℕ → ℕ → Judged (Unit {0})

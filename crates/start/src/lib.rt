@@ -12,7 +12,7 @@ ghost use Rattle.rules.specs.Types.{axesOf, dimsOf, shardingOf};
 ghost use Rattle.axes.specs.Mesh.{meshOf};
 ghost use Rattle.axes.specs.Marks.{StandFor};
 ghost use Rattle.dims.specs.Dims.{sizesOf};
-ghost use Rattle.start.specs.Start.{meaning, judgeAxis, Fits};
+ghost use Rattle.start.specs.Start.{meaning, refusalOf, judgeAxis, Fits};
 use axes::Marks;
 use axes::Mesh;
 use dims::divisible;
@@ -35,6 +35,19 @@ pub fn refused(reason: Reason, step: u16) -> Verdict
     ensures { λ r. ⌜ meaning r ≡ refuse (numberOf reason) step ⌝ }
 {
     Verdict::Refused(Refusal { reason, step })
+}
+
+// The refusal of a verdict; a fine one has none, and none is asked of it.
+pub fn refusal_of(verdict: Verdict) -> Refusal
+    ensures { λ r. ⌜ r ≡ refusalOf verdict ⌝ }
+{
+    match verdict {
+        Verdict::Fine => Refusal {
+            reason: Reason::CountOutsideLimits,
+            step: 0,
+        },
+        Verdict::Refused(r) => r,
+    }
 }
 
 // One axis of a starting sharding: 14, 15, 16.

@@ -1,5 +1,5 @@
 -- What the kernels ask for follows from an accepted step, and what they leave is what the rules make. Assumes nothing.
-use Prim.Native.Nat.{ℕ, zero, suc, _*_, _≤_}
+use Prim.Native.Nat.{ℕ, _*_, _≤_}
 use mathlib.Core.Path.{_≡_, refl, sym, ap, _∙_, subst}
 use mathlib.Core.List.{List, [], _∷_, _++_}
 use native.Mathlib.Omega.{arith}
@@ -16,6 +16,7 @@ use Rattle.rules.specs.declared.Kind.{Kind}
 use Rattle.rules.specs.declared.Kind.the-variants.{AllToAll}
 use Rattle.rules.specs.declared.Sharding as code
 use Rattle.rules.specs.declared.Step as code-step
+use Rattle.rules.proofs.Lists.{take-replicate}
 use Rattle.rules.proofs.Shapes.{cut-lengths}
 use Rattle.rules.proofs.Steps.{AcceptedStep, facts, sharding-cut, shape-length}
 use Rattle.judge.proofs.Steps.{only-at}
@@ -76,11 +77,6 @@ module _ {mesh shape : List ℕ} {t : Step} {words old new : ℕ} (h : Stepping 
 
 -- ---- by the kinds of the code
 
-no-lists : (m r : ℕ) → r ≤ m → take r (replicate m []) ≡ replicate {A = List ℕ} r []
-no-lists m zero h = refl
-no-lists zero (suc r) h = absurd (omega arith)
-no-lists (suc m) (suc r) h = ap (λ (l : List (List ℕ)). [] ∷ l) (no-lists m r (omega arith))
-
 module _ {mesh shape : List ℕ} (step : code-step.Step) {words old new : ℕ} (h : Stepping mesh shape (stepOf (length shape) step) words old new) where
   pub ranked : length shape ≤ mostDims
   ranked =
@@ -88,7 +84,7 @@ module _ {mesh shape : List ℕ} (step : code-step.Step) {words old new : ℕ} (
       omega (arith, dims-many h, cut-lengths mesh c .0, h .rank-few)
 
   pub nowhere : (none : code.Sharding) → dimsOf none ≡ replicate mostDims [] → lists shape none ≡ replicate (length shape) []
-  nowhere none z = ap (λ (l : List (List ℕ)). take (length shape) l) z ∙ no-lists mostDims (length shape) ranked
+  nowhere none z = ap (λ (l : List (List ℕ)). take (length shape) l) z ∙ take-replicate {A = List ℕ} [] (length shape) mostDims ranked
 
   module _ {k : Kind} (e : step .kind ≡ k) where
     of : Stepping mesh shape (ofKind k (length shape) step) words old new

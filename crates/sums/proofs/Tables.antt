@@ -254,8 +254,7 @@ module _ {firsts shifts zs mesh L : List ℕ} {m : ℕ} (t : Tables firsts shift
   pub strides-asked : Shards zs mesh m
   strides-asked = record {
     places = t .places;
-    devices = t .devices-pos;
-    words = t .words-pos;
+    sizes = record { some = t .devices-pos; few = omega (arith, t .devices-few) };
     few = mul-le-mul (t .devices-few) (t .words-few);
   }
 

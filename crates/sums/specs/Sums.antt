@@ -88,7 +88,6 @@ pub record Tables (firsts shifts zs mesh L : List ℕ) (m : ℕ) : Type 0 where
   pub axes : length mesh ≤ mostAxes
   pub devices-pos : 0 < product mesh
   pub devices-few : product mesh ≤ mostDevices
-  pub words-pos : 0 < m
   pub words-few : m ≤ mostWords
   pub of-mesh : (a : ℕ) → In a L → a < length mesh
   pub once : Distinct L

@@ -1,6 +1,7 @@
 // All-reduce: each device gets the word-by-word sum over its group, whole shards at a time. Each group is added once, for its first member, and the
 // other members repeat that sum. Nothing is divided. specs/Sums.antt says what the tables hold.
 use digits;
+use mesh::product_from;
 use rules;
 use strided;
 ghost use mathlib.Core.Path.{_≡_};
@@ -185,8 +186,8 @@ pub fn reduce_into(old: &[u32], new: &mut [u32], mesh: &[u16], shape: &[u16], ax
     requires { ⌜ Reducing (now mesh) (now shape) (axesOf axes) (length (now old)) (length (now new)) ⌝ }
     ensures { λ _. ⌜ now (new .exit) ≡ reducedBuffer (now (mesh .entry)) (now (shape .entry)) (axesOf axes) (now (old .entry)) (now (new .entry)) ⌝ }
 {
-    let m = digits::product_of(shape);
-    let count = digits::product_of(mesh);
+    let m = product_from(shape, 0);
+    let count = product_from(mesh, 0);
     let n = mesh.len();
     let mut zs = [0usize; rules::Axis::MOST];
     let mut firsts = [0usize; rules::Device::MOST];

@@ -36,31 +36,25 @@ sub-i c = omega arith
 sub-first : tie.Need-sub-first Inv-loop μ-loop
 sub-first c = omega (arith, c .before .before .before .before .before .before .pre .front .room)
 
-axis-at-requires : tie.Need-axis-at-requires Inv-loop μ-loop
-axis-at-requires c κs = search needs
+at-requires : tie.Need-at-requires Inv-loop μ-loop
+at-requires c κs = search needs
 
 -- the axis is one of the mesh
-in-mesh : (c : tie.After-axis-at Inv-loop μ-loop) → (let s = c .before .before .before .before .before .before .before in
-    c .axis-at .result < length (now (s .args .mesh)))
+in-mesh : (c : tie.After-at Inv-loop μ-loop) → (let s = c .before .before .before .before .before .before .before in
+    c .at .result .0 < length (now (s .args .mesh)))
 in-mesh c =
     let s = c .before .before .before .before .before .before .before in
     let i = c .before .before .loop .i - 1 in
-    rw (c .axis-at .ensures) (s .pre .of-mesh (getD (axesOf (s .args .axes)) i 0) (at-in (axesOf (s .args .axes)) i (omega arith)))
+    rw (c .at .ensures) (s .pre .of-mesh (getD (axesOf (s .args .axes)) i 0) (at-in (axesOf (s .args .axes)) i (omega arith)))
 
 size-at-requires : tie.Need-size-at-requires Inv-loop μ-loop
-size-at-requires c κs = in-mesh c
+size-at-requires c κs = search needs
+
+cast-a : tie.Need-cast-a Inv-loop μ-loop
+cast-a c = search needs
 
 mul-stride : tie.Need-mul-stride Inv-loop μ-loop
 mul-stride c =
-    omega (
-      arith,
-      in-mesh (c .before),
-      c .before .before .before .loop .inv .3,
-      c .before .before .before .before .before .before .before .before .pre .places,
-    )
-
-slice-read-stride : tie.Need-slice-read-stride Inv-loop μ-loop
-slice-read-stride c =
     omega (
       arith,
       in-mesh (c .before .before),
@@ -68,49 +62,58 @@ slice-read-stride c =
       c .before .before .before .before .before .before .before .before .before .pre .places,
     )
 
+slice-read-stride : tie.Need-slice-read-stride Inv-loop μ-loop
+slice-read-stride c =
+    omega (
+      arith,
+      in-mesh (c .before .before .before),
+      c .before .before .before .before .before .loop .inv .3,
+      c .before .before .before .before .before .before .before .before .before .before .pre .places,
+    )
+
 put-digit-requires : tie.Need-put-digit-requires Inv-loop μ-loop
 put-digit-requires c κs =
-    let s = c .before .before .before .before .before .before .before .before .before .before in
-    let l = c .before .before .before .before .before in
+    let s = c .before .before .before .before .before .before .before .before .before .before .before in
+    let l = c .before .before .before .before .before .before in
     omega (arith, l .loop .inv .1, l .loop .inv .2, s .pre .front .room, s .pre .front .inside)
 
 mul-zs : tie.Need-mul-zs Inv-loop μ-loop
 mul-zs c =
     omega (
       arith,
-      in-mesh (c .before .before .before .before .before .before),
-      c .before .before .before .before .before .before .before .before .loop .inv .3,
-      c .before .before .before .before .before .before .before .before .before .before .before .before .before .pre .places,
+      in-mesh (c .before .before .before .before .before .before .before),
+      c .before .before .before .before .before .before .before .before .before .loop .inv .3,
+      c .before .before .before .before .before .before .before .before .before .before .before .before .before .before .pre .places,
     )
 
 slice-write-zs : tie.Need-slice-write-zs Inv-loop μ-loop
 slice-write-zs c =
     omega (
       arith,
-      in-mesh (c .before .before .before .before .before .before),
-      c .before .before .before .before .before .before .before .before .loop .inv .3,
-      c .before .before .before .before .before .before .before .before .before .before .before .before .before .pre .places,
+      in-mesh (c .before .before .before .before .before .before .before),
+      c .before .before .before .before .before .before .before .before .before .loop .inv .3,
+      c .before .before .before .before .before .before .before .before .before .before .before .before .before .before .pre .places,
     )
 
 -- one turn of the loop
 next : (c : tie.After-slice-known4 Inv-loop μ-loop)
-    → (let l = c .before .before .before .before .before .before .before .before in
-    let s = c .before .before .before .before .before .before .before .before .before .before .before .before .before in
+    → (let l = c .before .before .before .before .before .before .before .before .before in
+    let s = c .before .before .before .before .before .before .before .before .before .before .before .before .before .before in
     let L = axesOf (s .args .axes) in
-    let count = c .before .before .before .before .before .size-at .result * l .loop .count in
+    let count = c .before .before .before .before .before .before .size-at .result * l .loop .count in
     AxesAt (now (s .args .mesh)) L (now (s .args .zs)) (drop (s .args .end) (now (s .args .digits))) (s .args .words)
     (c .before .before .put-digit .last .0)
     (set (l .loop .zs) (getD L (l .loop .i - 1) 0) 0) (l .loop .first - 3) count (l .loop .i - 1) × (count ≤ mostRoom))
 next c =
-    let l = c .before .before .before .before .before .before .before .before in
-    let s = c .before .before .before .before .before .before .before .before .before .before .before .before .before in
+    let l = c .before .before .before .before .before .before .before .before .before in
+    let s = c .before .before .before .before .before .before .before .before .before .before .before .before .before .before in
     let mesh = now (s .args .mesh) in
-    let t = c .before .before .before .before .before .before .before .loop-test .taken in
-    let ea = c .before .before .before .before .before .before .axis-at .ensures in
-    let g = axes-turn (c .before .before .put-digit .last .0) (c .before .before .before .before .before .size-at .result) (l .loop .inv .4)
+    let t = c .before .before .before .before .before .before .before .before .loop-test .taken in
+    let ea = c .before .before .before .before .before .before .before .at .ensures in
+    let g = axes-turn (c .before .before .put-digit .last .0) (c .before .before .before .before .before .before .size-at .result) (l .loop .inv .4)
     (omega (arith, t)) (l .loop .inv .0) (s .pre .front .count)
     (omega (arith, l .loop .inv .1, s .pre .front .room, t))
-    (c .before .before .before .before .before .size-at .ensures ∙ ap (λ k. getD mesh k 1) ea)
+    (c .before .before .before .before .before .before .size-at .ensures ∙ ap (λ k. getD mesh k 1) ea)
     (rw ea at (c .before .before .put-digit .ensures)) in (
       g,
       omega (
@@ -131,14 +134,14 @@ loop-less c = omega arith
 
 loop-again : tie.Need-loop-again Inv-loop μ-loop
 loop-again c =
-    let l = c .before .before .before .before .before .before .before .before in
-    let s = c .before .before .before .before .before .before .before .before .before .before .before .before .before in
-    let t = c .before .before .before .before .before .before .before .loop-test .taken in (
+    let l = c .before .before .before .before .before .before .before .before .before in
+    let s = c .before .before .before .before .before .before .before .before .before .before .before .before .before .before in
+    let t = c .before .before .before .before .before .before .before .before .loop-test .taken in (
       omega (arith, t, l .loop .inv .0),
       omega (arith, t, l .loop .inv .1, s .pre .front .room),
       c .before .before .put-digit .kept .0 ∙ l .loop .inv .2,
       rw length-set (l .loop .inv .3),
-      rw (c .before .before .before .before .before .before .axis-at .ensures) (next c .0),
+      rw (c .before .before .before .before .before .before .before .at .ensures) (next c .0),
     )
 
 same-length : tie.Need-same-length Inv-loop μ-loop
@@ -166,8 +169,9 @@ axis-digits-spec =
     loop-holds
     sub-i
     sub-first
-    axis-at-requires
+    at-requires
     size-at-requires
+    cast-a
     mul-stride
     slice-read-stride
     put-digit-requires

@@ -1,64 +1,53 @@
 use native.Mathlib.Omega.{arith}
-use native.Mathlib.Nat.{one-mul, mul-assoc}
 use Prim.Native.Nat.{_≤_, _*_, _-_}
-use mathlib.Core.Path.{_≡_, refl, sym}
+use mathlib.Core.Path.{_≡_, refl, ap}
 use mathlib.Core.List.{_++_}
 use lib.ListN.{length, take, drop, length-set}
-use lib.Seq.{drop-length}
 use denote.Ref.{now}
 use Rattle.rules.specs.Lists.{product}
-use Rattle.digits.specs.Digits.{strides, mostRoom}
-use Rattle.digits.proofs.Loops.{drop-before, size-in, product-less, strides-start, strides-turn}
+use Rattle.digits.specs.Digits.{strides}
+use Rattle.digits.proofs.Loops.{product-less, strides-start, strides-turn}
 use Rattle.digits.proofs.fill_strides.Statement.{statement}
 use Rattle.digits.proofs.fill_strides.Tie as tie
 
 abbrev Inv-loop : tie.InvT-loop
-Inv-loop zs₀ mesh m words₀ i₀ zs words i = (i ≤ length mesh) × (length zs ≡ length zs₀) × (zs ≡ take i zs₀ ++ strides (drop i mesh) m)
-    × (words ≡ product (drop i mesh) * m)
+Inv-loop zs₀ mesh m i₀ zs i = (i ≤ length mesh) × (length zs ≡ length zs₀) × (zs ≡ take i zs₀ ++ strides (drop i mesh) m)
 
 abbrev μ-loop : tie.MeasureT-loop
-μ-loop zs₀ mesh m words₀ i₀ zs words i = i
+μ-loop zs₀ mesh m i₀ zs i = i
 
 loop-holds : tie.Need-loop-holds Inv-loop μ-loop
 loop-holds c =
-    let s = c .before .before in (
-      omega arith,
-      refl,
-      strides-start (now (s .args .mesh)) (now (s .args .zs)) (s .args .m) (s .pre .places),
-      rw (drop-length (now (s .args .mesh))) (sym (one-mul (s .args .m))),
+    let s = c .before .before in
+    (omega arith, refl, strides-start (now (s .args .mesh)) (now (s .args .zs)) (s .args .m) (s .pre .places))
+
+product-from-requires : tie.Need-product-from-requires Inv-loop μ-loop
+product-from-requires c κs = c .before .before .before .before .pre .sizes
+
+-- the words from one device of the axis to the next
+stride : (c : tie.After-product-from Inv-loop μ-loop)
+    → (let s = c .before .before .before .before .before in
+    c .product-from .result * s .args .m ≡ product (drop (c .before .before .loop .i) (now (s .args .mesh))) * s .args .m)
+stride c = ap (λ n. n * c .before .before .before .before .before .args .m) (c .product-from .ensures)
+
+mul-words : tie.Need-mul-words Inv-loop μ-loop
+mul-words c =
+    let s = c .before .before .before .before .before in
+    omega (
+      arith,
+      stride c,
+      product-less (now (s .args .mesh)) (c .before .before .loop .i) (s .args .m) (s .pre .sizes .some),
+      s .pre .few,
     )
 
 sub-i : tie.Need-sub-i Inv-loop μ-loop
 sub-i c = omega arith
 
 mul-zs : tie.Need-mul-zs Inv-loop μ-loop
-mul-zs c = omega (arith, c .before .before .before .before .pre .places, c .before .loop .inv .1)
+mul-zs c = omega (arith, c .before .before .before .before .before .pre .places, c .before .before .loop .inv .1)
 
 slice-write-zs : tie.Need-slice-write-zs Inv-loop μ-loop
-slice-write-zs c = omega (arith, c .before .before .before .before .pre .places, c .before .loop .inv .1)
-
-size-at-requires : tie.Need-size-at-requires Inv-loop μ-loop
-size-at-requires c κs = omega arith
-
--- the words from one device on
-next : (c : tie.After-size-at Inv-loop μ-loop)
-    → (let l = c .before .before in
-    let s = c .before .before .before .before .before in
-    let words = c .size-at .result * l .loop .words in
-    (words ≡ product (drop (l .loop .i - 1) (now (s .args .mesh))) * s .args .m) × (words ≤ mostRoom))
-next c =
-    let l = c .before .before in
-    let s = c .before .before .before .before .before in
-    let mesh = now (s .args .mesh) in
-    let i = l .loop .i in
-    let e : c .size-at .result * l .loop .words ≡ product (drop (i - 1) mesh) * s .args .m =
-    rw (drop-before mesh i (omega arith) (omega arith), size-in mesh (i - 1) (omega arith), c .size-at .ensures, l .loop .inv .3, mul-assoc) in
-    (e, omega (arith, product-less mesh (i - 1) (s .args .m) (s .pre .devices), s .pre .few))
-
-mul-words : tie.Need-mul-words Inv-loop μ-loop
-mul-words c =
-    let n = next c in
-    omega arith
+slice-write-zs c = omega (arith, c .before .before .before .before .before .pre .places, c .before .before .loop .inv .1)
 
 loop-less : tie.Need-loop-less Inv-loop μ-loop
 loop-less c = omega arith
@@ -69,9 +58,8 @@ loop-again c =
     let s = c .before .before .before .before .before in (
       omega arith,
       rw length-set (l .loop .inv .1),
-      strides-turn (now (s .args .mesh)) (now (s .args .zs)) (l .loop .zs) (s .args .m) (l .loop .i) (l .loop .words) (s .pre .places) (omega arith)
-          (omega arith) (l .loop .inv .3) (l .loop .inv .2),
-      next c .0,
+      strides-turn (now (s .args .mesh)) (now (s .args .zs)) (l .loop .zs) (s .args .m) (l .loop .i) _ (s .pre .places) (omega arith)
+          (omega arith) (stride c) (l .loop .inv .2),
     )
 
 same-length : tie.Need-same-length Inv-loop μ-loop
@@ -90,11 +78,11 @@ fill-strides-spec =
     Inv-loop
     μ-loop
     loop-holds
+    product-from-requires
+    mul-words
     sub-i
     mul-zs
     slice-write-zs
-    size-at-requires
-    mul-words
     loop-less
     loop-again
     same-length

@@ -6,7 +6,7 @@ use lib.ListN.{length, getD, drop}
 use lib.Seq.{drop-length}
 use denote.Ref.{now}
 use Rattle.digits.specs.Digits.{mostRoom}
-use Rattle.digits.proofs.Loops.{MeshAt, mesh-turn, size-in, product-less}
+use Rattle.digits.proofs.Loops.{MeshAt, mesh-turn, product-less}
 use Rattle.digits.proofs.mesh_digits.Statement.{statement}
 use Rattle.digits.proofs.mesh_digits.Tie as tie
 
@@ -29,8 +29,14 @@ sub-i c = omega arith
 sub-first : tie.Need-sub-first Inv-loop μ-loop
 sub-first c = omega (arith, c .before .before .before .before .before .pre .front .room)
 
-size-at-requires : tie.Need-size-at-requires Inv-loop μ-loop
-size-at-requires c κs = omega arith
+mul-size : tie.Need-mul-size Inv-loop μ-loop
+mul-size c = omega arith
+
+shared-slice-read-size : tie.Need-shared-slice-read-size Inv-loop μ-loop
+shared-slice-read-size c = omega arith
+
+cast-size : tie.Need-cast-size Inv-loop μ-loop
+cast-size c = omega (arith, c .shared-slice-known3 .given (c .before .before .loop .i - 1))
 
 mul-put-digit : tie.Need-mul-put-digit Inv-loop μ-loop
 mul-put-digit c = omega (arith, c .before .before .before .before .before .before .before .pre .places)
@@ -48,7 +54,7 @@ put-digit-requires c κs =
 next : (c : tie.After-slice-known2 Inv-loop μ-loop)
     → (let l = c .before .before .before .before .before .before .before in
     let s = c .before .before .before .before .before .before .before .before .before .before .before in
-    let count = c .before .before .before .before .before .size-at .result * l .loop .count in
+    let count = getD (now (s .args .mesh)) (l .loop .i - 1) 0 * l .loop .count in
     MeshAt (now (s .args .mesh)) (now (s .args .zs)) (drop (s .args .end) (now (s .args .digits))) (s .args .words)
     (c .before .before .put-digit .last .0)
     (l .loop .first - 3) count (l .loop .i - 1) × (count ≤ mostRoom))
@@ -58,11 +64,10 @@ next c =
     let mesh = now (s .args .mesh) in
     let i = l .loop .i in
     let t = c .before .before .before .before .before .before .loop-test .taken in
-    let g = mesh-turn (c .before .before .put-digit .last .0) (c .before .before .before .before .before .size-at .result)
+    let g = mesh-turn (c .before .before .put-digit .last .0) (getD mesh (i - 1) 0)
     (getD (now (s .args .zs)) (i - 1) 0) (l .loop .inv .3) (s .pre .places)
     (omega (arith, t)) (l .loop .inv .0) (s .pre .front .count) (omega (arith, l .loop .inv .1, s .pre .front .room, t))
-    (c .before .before .before .before .before .size-at .ensures ∙ sym (size-in mesh (i - 1) (omega (arith, t, l .loop .inv .0)))) refl
-    (c .before .before .put-digit .ensures) in
+    refl refl (c .before .before .put-digit .ensures) in
     (g, omega (arith, g .words-are, product-less mesh (i - 1) (s .args .words) (s .pre .devices), s .pre .few))
 
 mul-count : tie.Need-mul-count Inv-loop μ-loop
@@ -105,7 +110,9 @@ mesh-digits-spec =
     loop-holds
     sub-i
     sub-first
-    size-at-requires
+    mul-size
+    shared-slice-read-size
+    cast-size
     mul-put-digit
     shared-slice-read-put-digit
     put-digit-requires

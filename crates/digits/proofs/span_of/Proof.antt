@@ -1,14 +1,14 @@
 use borrow.Author.Needs.{needs}
 use native.Mathlib.Omega.{arith}
 use native.Mathlib.Nat.{mul-one}
-use Prim.Native.Nat.{_≤_, _<_, _*_, _-_}
+use Prim.Native.Nat.{_≤_, _*_, _-_}
 use mathlib.Core.Path.{_≡_}
-use lib.ListN.{length, getD, drop}
+use lib.ListN.{length, drop}
 use lib.Seq.{drop-length}
 use denote.Ref.{now}
 use Rattle.rules.specs.Mesh.{span}
 use Rattle.rules.specs.Types.{axesOf}
-use Rattle.digits.proofs.Loops.{drop-before, at-in, span-less, group-pos}
+use Rattle.digits.proofs.Loops.{drop-before, span-less, group-pos}
 use Rattle.digits.proofs.span_of.Statement.{statement}
 use Rattle.digits.proofs.span_of.Tie as tie
 
@@ -29,19 +29,11 @@ loop-holds c =
 sub-i : tie.Need-sub-i Inv-loop μ-loop
 sub-i c = omega arith
 
-axis-at-requires : tie.Need-axis-at-requires Inv-loop μ-loop
-axis-at-requires c κs = search needs
-
--- the axis is one of the mesh
-in-mesh : (c : tie.After-axis-at Inv-loop μ-loop) → (let s = c .before .before .before .before .before in
-    c .axis-at .result < length (now (s .args .mesh)))
-in-mesh c =
-    let s = c .before .before .before .before .before in
-    let i = c .before .before .loop .i - 1 in
-    rw (c .axis-at .ensures) (s .pre .of-mesh (getD (axesOf (s .args .axes)) i 0) (at-in (axesOf (s .args .axes)) i (omega arith)))
+at-requires : tie.Need-at-requires Inv-loop μ-loop
+at-requires c κs = search needs
 
 size-at-requires : tie.Need-size-at-requires Inv-loop μ-loop
-size-at-requires c κs = in-mesh c
+size-at-requires c κs = search needs
 
 -- the devices with one axis more
 next : (c : tie.After-size-at Inv-loop μ-loop)
@@ -51,7 +43,7 @@ next : (c : tie.After-size-at Inv-loop μ-loop)
 next c =
     let l = c .before .before .before in
     let L = axesOf (c .before .before .before .before .before .before .args .axes) in
-    rw (drop-before L (l .loop .i) (omega arith) (omega arith), ← c .before .axis-at .ensures, l .loop .inv .1, c .size-at .ensures)
+    rw (drop-before L (l .loop .i) (omega arith) (omega arith), ← c .before .at .ensures, l .loop .inv .1, c .size-at .ensures)
 
 mul-count : tie.Need-mul-count Inv-loop μ-loop
 mul-count c =
@@ -89,7 +81,7 @@ span-of-spec =
     len-requires
     loop-holds
     sub-i
-    axis-at-requires
+    at-requires
     size-at-requires
     mul-count
     loop-less

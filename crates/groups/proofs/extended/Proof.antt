@@ -6,7 +6,8 @@ use native.Mathlib.Omega.{arith}
 use lib.ListN.{length, drop, length-append, drop-of-length-le}
 use Rattle.rules.specs.Lists.{pick, keep, without}
 use Rattle.rules.specs.Types.{axesOf}
-use Rattle.groups.proofs.Lists.{drop-at, keeps}
+use Rattle.axes.proofs.Going.{drop-at}
+use Rattle.groups.proofs.Lists.{keeps}
 use Rattle.groups.proofs.extended.Statement.{statement}
 use Rattle.groups.proofs.extended.Tie as tie
 
@@ -36,7 +37,7 @@ with-unless-requires c κs =
     let more = axesOf (a .args .more) in
     let but = axesOf (a .args .but) in
     let next = c .before .at .result .0 in
-    let t = drop-at more (l .loop .i) next (omega (arith, l .before .len .ensures)) (c .before .at .ensures) in
+    let t = drop-at more (l .loop .i) next 0 (omega (arith, l .before .len .ensures)) (c .before .at .ensures) in
     let e = l .loop .inv ∙ ap (λ (r : List ℕ). axesOf (l .loop .whole) ++ without r but) t
     ∙ keeps (axesOf (l .loop .whole)) but (drop (l .loop .i + 1) more) _ next (c .is-in .ensures) in
     let rest = without (drop (l .loop .i + 1) more) but in
@@ -55,7 +56,7 @@ loop-again c =
     let more = axesOf (a .args .more) in
     let but = axesOf (a .args .but) in
     let next = c .before .before .at .result .0 in
-    let t = drop-at more (l .loop .i) next (omega (arith, l .before .len .ensures)) (c .before .before .at .ensures) in
+    let t = drop-at more (l .loop .i) next 0 (omega (arith, l .before .len .ensures)) (c .before .before .at .ensures) in
     let e = l .loop .inv ∙ ap (λ (r : List ℕ). axesOf (l .loop .whole) ++ without r but) t
     ∙ keeps (axesOf (l .loop .whole)) but (drop (l .loop .i + 1) more) _ next (c .before .is-in .ensures) in
     e ∙ ap (λ (r : List ℕ). r ++ without (drop (l .loop .i + 1) more) but) (sym (c .with-unless .ensures))

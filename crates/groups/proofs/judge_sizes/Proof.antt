@@ -28,13 +28,13 @@ shared-slice-read-size c = search needs
 cast-size : tie.Need-cast-size Inv-loop μ-loop
 cast-size c = omega (arith, c .shared-slice-known2 .given (c .before .before .loop .i))
 
-refused-for-requires : tie.Need-refused-for-requires Inv-loop μ-loop
-refused-for-requires c κs = search needs
+refused-requires : tie.Need-refused-requires Inv-loop μ-loop
+refused-requires c κs = search needs
 
 returns : tie.Need-returns Inv-loop μ-loop
 returns c =
     let l = c .before .before .before .before in
-    c .refused-for .ensures ∙ sym (size-zero (l .loop .inv) (c .before .before .before .loop-test .taken) _ refl (c .before .if1 .taken))
+    c .refused .ensures ∙ sym (size-zero (l .loop .inv) (c .before .before .before .loop-test .taken) _ refl (c .before .if1 .taken))
 
 mul-product : tie.Need-mul-product Inv-loop μ-loop
 mul-product c =
@@ -43,14 +43,14 @@ mul-product c =
     let few = c .before .shared-slice-known2 .given (l .loop .i) in
     omega (arith, mul-le-mul {n₁ = l .loop .product} {m₁ = size} {n₂ = mostDevices} {m₂ = 65535} (l .loop .inv .small) (omega arith))
 
-refused-for-requires-2 : tie.Need-refused-for-requires-2 Inv-loop μ-loop
-refused-for-requires-2 c κs = search needs
+refused-requires-2 : tie.Need-refused-requires-2 Inv-loop μ-loop
+refused-requires-2 c κs = search needs
 
 returns-2 : tie.Need-returns-2 Inv-loop μ-loop
 returns-2 c =
     let e = c .before .before in
     let i = e .before .before in
-    c .refused-for2 .ensures ∙ sym (size-over (i .before .loop .inv) (i .loop-test .taken) _ refl (e .if1 .left) (c .before .if2 .taken))
+    c .refused2 .ensures ∙ sym (size-over (i .before .loop .inv) (i .loop-test .taken) _ refl (e .if1 .left) (c .before .if2 .taken))
 
 add-i : tie.Need-add-i Inv-loop μ-loop
 add-i c = search needs
@@ -76,10 +76,10 @@ judge-sizes-spec =
     mul-size
     shared-slice-read-size
     cast-size
-    refused-for-requires
+    refused-requires
     returns
     mul-product
-    refused-for-requires-2
+    refused-requires-2
     returns-2
     add-i
     loop-less

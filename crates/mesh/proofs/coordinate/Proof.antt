@@ -3,7 +3,7 @@ use mathlib.Core.Path.{sym, ap₂, _∙_}
 use Prim.Native.Nat.{ℕ, _/_, _%_}
 use native.Mathlib.Omega.{arith}
 use denote.Ref.{now}
-use Rattle.mesh.proofs.Sizes.{axis-bounds, coords-at}
+use Rattle.mesh.proofs.Sizes.{fit-sizes, axis-bounds, coords-at}
 use Rattle.mesh.proofs.coordinate.Statement.{statement}
 use Rattle.mesh.proofs.coordinate.Tie as tie
 
@@ -14,7 +14,7 @@ add-product-from : tie.Need-add-product-from
 add-product-from c = search needs
 
 product-from-requires : tie.Need-product-from-requires
-product-from-requires c κs = search needs
+product-from-requires c κs = fit-sizes (c .before .before .pre .fits)
 
 size-at-requires : tie.Need-size-at-requires
 size-at-requires c κs = search needs

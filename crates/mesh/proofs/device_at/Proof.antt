@@ -2,7 +2,7 @@ use borrow.Author.Needs.{needs}
 use native.Mathlib.Omega.{arith}
 use denote.Ref.{now}
 use Rattle.rules.specs.Types.{axesOf}
-use Rattle.mesh.proofs.Sizes.{axis-bounds}
+use Rattle.mesh.proofs.Sizes.{fit-sizes, axis-bounds}
 use Rattle.mesh.proofs.Digits.{Numbering, numbering, numbered, all-numbered}
 use Rattle.mesh.proofs.device_at.Statement.{statement}
 use Rattle.mesh.proofs.device_at.Tie as tie
@@ -37,7 +37,7 @@ add-product-from : tie.Need-add-product-from Inv-loop μ-loop
 add-product-from c = search needs
 
 product-from-requires : tie.Need-product-from-requires Inv-loop μ-loop
-product-from-requires c κs = c .before .before .before .before .before .before .before .pre .fits
+product-from-requires c κs = fit-sizes (c .before .before .before .before .before .before .before .pre .fits)
 
 rem-number : tie.Need-rem-number Inv-loop μ-loop
 rem-number c =

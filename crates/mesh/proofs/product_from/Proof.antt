@@ -13,43 +13,34 @@ Inv-loop mesh first product₀ i₀ product i = Multiplying mesh first product i
 abbrev μ-loop : tie.MeasureT-loop
 μ-loop mesh first product₀ i₀ product i = length mesh - i
 
--- src/lib.rt:29:5
 loop-holds : tie.Need-loop-holds Inv-loop μ-loop
 loop-holds c = multiplying _ _
 
--- src/lib.rt:30:20
 mul-size : tie.Need-mul-size Inv-loop μ-loop
 mul-size c = search needs
 
--- src/lib.rt:30:20
 shared-slice-read-size : tie.Need-shared-slice-read-size Inv-loop μ-loop
 shared-slice-read-size c = search needs
 
--- src/lib.rt:30:20
 cast-size : tie.Need-cast-size Inv-loop μ-loop
 cast-size c = omega (arith, c .shared-slice-known .given (c .before .before .loop .i))
 
--- src/lib.rt:31:19
 mul-product : tie.Need-mul-product Inv-loop μ-loop
 mul-product c =
     let l = c .before .before in
     omega (arith, multiplied (l .loop .inv) (l .before .pre) (c .before .loop-test .taken) _ refl .fits)
 
--- src/lib.rt:32:9
 add-i : tie.Need-add-i Inv-loop μ-loop
 add-i c = search needs
 
--- src/lib.rt:29:5
 loop-less : tie.Need-loop-less Inv-loop μ-loop
 loop-less c = search needs
 
--- src/lib.rt:29:5
 loop-again : tie.Need-loop-again Inv-loop μ-loop
 loop-again c =
     let l = c .before .before in
     multiplied (l .loop .inv) (l .before .pre) (c .before .loop-test .taken) _ refl .next
 
--- src/lib.rt:23:1
 returns : tie.Need-returns Inv-loop μ-loop
 returns c = all-multiplied (c .before .loop .inv) (c .loop-test .left)
 

@@ -4,31 +4,25 @@ use Prim.Native.Nat.{_-_}
 use mathlib.Core.Path.{sym}
 use denote.Ref.{now}
 use lib.ListN.{List·getD-eq-default}
-use Rattle.mesh.proofs.Sizes.{any-default}
+use Rattle.rules.proofs.Lists.{any-default}
 use Rattle.mesh.proofs.size_at.Statement.{statement}
 use Rattle.mesh.proofs.size_at.Tie as tie
 
--- src/lib.rt:18:13
 cast-a : tie.Need-cast-a
 cast-a c = search needs
 
--- src/lib.rt:19:25
 mul-result : tie.Need-mul-result
 mul-result c = search needs
 
--- src/lib.rt:19:25
 shared-slice-read-result : tie.Need-shared-slice-read-result
 shared-slice-read-result c = search needs
 
--- src/lib.rt:19:25
 cast-result : tie.Need-cast-result
 cast-result c = let a = c .before .before .before .args in omega (arith, c .shared-slice-known .given (a .axis .0))
 
--- src/lib.rt:15:1
 returns : tie.Need-returns
 returns c = let a = c .before .before .before .args in any-default (now (a .mesh)) (a .axis .0) 0 1 (omega arith)
 
--- src/lib.rt:15:1
 returns-2 : tie.Need-returns-2
 returns-2 c = let a = c .before .before .args in sym (List·getD-eq-default (now (a .mesh)) 1 (omega arith))
 

@@ -35,38 +35,41 @@ loop-holds c =
 sub-i : tie.Need-sub-i Inv-loop μ-loop
 sub-i c = omega arith
 
-axis-at-requires : tie.Need-axis-at-requires Inv-loop μ-loop
-axis-at-requires c κs = search needs
+at-requires : tie.Need-at-requires Inv-loop μ-loop
+at-requires c κs = search needs
+
+cast-a : tie.Need-cast-a Inv-loop μ-loop
+cast-a c = search needs
 
 -- the axis is one of the mesh
-in-mesh : (c : tie.After-axis-at Inv-loop μ-loop) → (let s = c .before .before .before .before .before .before in
-    c .axis-at .result < length (now (s .args .mesh)))
+in-mesh : (c : tie.After-at Inv-loop μ-loop) → (let s = c .before .before .before .before .before .before in
+    c .at .result .0 < length (now (s .args .mesh)))
 in-mesh c =
     let s = c .before .before .before .before .before .before in
     let i = c .before .before .loop .i - 1 in
-    rw (c .axis-at .ensures) (s .pre .of-mesh (getD (axesOf (s .args .axes)) i 0) (at-in (axesOf (s .args .axes)) i (omega arith)))
+    rw (c .at .ensures) (s .pre .of-mesh (getD (axesOf (s .args .axes)) i 0) (at-in (axesOf (s .args .axes)) i (omega arith)))
 
 mul-sum : tie.Need-mul-sum Inv-loop μ-loop
-mul-sum c = omega (arith, in-mesh c, c .before .before .before .before .before .before .pre .places, c .before .before .loop .inv .1)
+mul-sum c = omega (arith, in-mesh (c .before), c .before .before .before .before .before .before .before .pre .places, c .before .before .before .loop .inv .1)
 
 slice-read-sum : tie.Need-slice-read-sum Inv-loop μ-loop
 slice-read-sum c =
     omega (
       arith,
-      in-mesh (c .before),
-      c .before .before .before .before .before .before .before .pre .places,
-      c .before .before .before .loop .inv .1,
+      in-mesh (c .before .before),
+      c .before .before .before .before .before .before .before .before .pre .places,
+      c .before .before .before .before .loop .inv .1,
     )
 
 -- the sum is small
 small : (c : tie.After-slice-known2 Inv-loop μ-loop)
-    → (let l = c .before .before .before in getD (l .loop .ys) (c .before .axis-at .result) 0 + l .loop .words ≤ mostAdded)
+    → (let l = c .before .before .before .before in getD (l .loop .ys) (c .before .before .at .result .0) 0 + l .loop .words ≤ mostAdded)
 small c =
-    let l = c .before .before .before in
-    let s = c .before .before .before .before .before .before .before in
+    let l = c .before .before .before .before in
+    let s = c .before .before .before .before .before .before .before .before in
     let mesh = now (s .args .mesh) in
     let L = axesOf (s .args .axes) in
-    let k = c .before .axis-at .result in
+    let k = c .before .before .at .result .0 in
     rw (l .loop .inv .2)
     (omega (
       arith,
@@ -78,7 +81,7 @@ small c =
       s .pre .few,
       length-drop (l .loop .i) L,
       l .loop .inv .0,
-      c .before .before .loop-test .taken,
+      c .before .before .before .loop-test .taken,
     ))
 
 add-sum : tie.Need-add-sum Inv-loop μ-loop
@@ -88,38 +91,38 @@ mul-ys : tie.Need-mul-ys Inv-loop μ-loop
 mul-ys c =
     omega (
       arith,
-      in-mesh (c .before),
-      c .before .before .before .before .before .before .before .pre .places,
-      c .before .before .before .loop .inv .1,
+      in-mesh (c .before .before),
+      c .before .before .before .before .before .before .before .before .pre .places,
+      c .before .before .before .before .loop .inv .1,
     )
 
 slice-write-ys : tie.Need-slice-write-ys Inv-loop μ-loop
 slice-write-ys c =
     omega (
       arith,
-      in-mesh (c .before),
-      c .before .before .before .before .before .before .before .pre .places,
-      c .before .before .before .loop .inv .1,
+      in-mesh (c .before .before),
+      c .before .before .before .before .before .before .before .before .pre .places,
+      c .before .before .before .before .loop .inv .1,
     )
 
 size-at-requires : tie.Need-size-at-requires Inv-loop μ-loop
-size-at-requires c κs = in-mesh (c .before)
+size-at-requires c κs = search needs
 
 -- the words with one axis more
 next : (c : tie.After-size-at Inv-loop μ-loop)
-    → (let l = c .before .before .before .before in
-    let s = c .before .before .before .before .before .before .before .before in
+    → (let l = c .before .before .before .before .before in
+    let s = c .before .before .before .before .before .before .before .before .before in
     let words = c .size-at .result * l .loop .words in
     (words ≡ span (now (s .args .mesh)) (drop (l .loop .i - 1) (axesOf (s .args .axes))) * s .args .v) × (words ≤ mostWords))
 next c =
-    let l = c .before .before .before .before in
-    let s = c .before .before .before .before .before .before .before .before in
+    let l = c .before .before .before .before .before in
+    let s = c .before .before .before .before .before .before .before .before .before in
     let mesh = now (s .args .mesh) in
     let L = axesOf (s .args .axes) in
     let e : c .size-at .result * l .loop .words ≡ span mesh (drop (l .loop .i - 1) L) * s .args .v =
     rw (
       drop-before L (l .loop .i) (omega arith) (omega arith),
-      ← c .before .before .axis-at .ensures,
+      ← c .before .before .before .at .ensures,
       l .loop .inv .3,
       c .size-at .ensures,
       mul-assoc,
@@ -136,11 +139,11 @@ loop-less c = omega arith
 
 loop-again : tie.Need-loop-again Inv-loop μ-loop
 loop-again c =
-    let l = c .before .before .before .before in
-    let s = c .before .before .before .before .before .before .before .before in (
+    let l = c .before .before .before .before .before in
+    let s = c .before .before .before .before .before .before .before .before .before in (
       omega arith,
       rw length-set (l .loop .inv .1),
-      rw (c .before .before .axis-at .ensures)
+      rw (c .before .before .before .at .ensures)
           (slice-turn (now (s .args .mesh)) (axesOf (s .args .axes)) (now (s .args .ys)) (l .loop .ys) (s .args .v) (l .loop .i) (l .loop .words)
           (omega arith) (l .loop .inv .0) (l .loop .inv .3) (l .loop .inv .2)),
       next c .0,
@@ -164,7 +167,8 @@ add-slice-spec =
     len-requires
     loop-holds
     sub-i
-    axis-at-requires
+    at-requires
+    cast-a
     mul-sum
     slice-read-sum
     add-sum

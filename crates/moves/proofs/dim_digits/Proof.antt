@@ -14,7 +14,7 @@ facts s = dim-facts (s .pre)
 span-of-requires : tie.Need-span-of-requires
 span-of-requires c κs =
     let s = c .before .before .before .before in
-    record { devices = s .pre .devices-pos; of-mesh = s .pre .sliced; few = facts s .members-few }
+    record { devices = s .pre .devices-pos; few = facts s .members-few }
 
 div-piece : tie.Need-div-piece
 div-piece c = rw (c .span-of .ensures) (facts (c .before .before .before .before .before) .members-pos)

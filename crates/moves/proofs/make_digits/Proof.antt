@@ -23,17 +23,17 @@ added c = c .before .before .before .before .before .before .before .before .bef
 abbrev made : tie.After-mesh-digits → tie.After-add-strides
 made c = c .before .before .before .before .before
 
-product-of-requires : tie.Need-product-of-requires
-product-of-requires c κs = shape-asked (c .before .before .before .before .before .pre)
+product-from-requires : tie.Need-product-from-requires
+product-from-requires c κs = shape-asked (c .before .before .before .before .before .pre)
 
 fill-strides-requires : tie.Need-fill-strides-requires
-fill-strides-requires c κs = rw (c .before .product-of .ensures) (strides-asked (c .before .before .before .before .before .before .before .pre))
+fill-strides-requires c κs = rw (c .before .product-from .ensures) (strides-asked (c .before .before .before .before .before .before .before .pre))
 
 shape-digits-requires : tie.Need-shape-digits-requires
 shape-digits-requires c κs =
     let f = c .before .before .before .before .before in
     let s = filled f in
-    rw (f .fill-strides .ensures, f .before .before .product-of .ensures)
+    rw (f .fill-strides .ensures, f .before .before .product-from .ensures)
     (dims-asked (s .pre) (strides (now (s .args .mesh)) (product (now (s .args .shape)))) refl)
 
 -- the digits of the dimensions
@@ -49,7 +49,7 @@ dims : (c : tie.After-shape-digits)
 dims c =
     rw (
       c .before .before .before .before .before .before .fill-strides .ensures,
-      c .before .before .before .before .before .before .before .before .product-of .ensures,
+      c .before .before .before .before .before .before .before .before .product-from .ensures,
     ) at (c .shape-digits .ensures)
 
 ready : (c : tie.After-add-strides)
@@ -106,7 +106,7 @@ pub make-digits-spec : {M : Type 1} → statement M
 make-digits-spec =
     tie.close
     (tie.spec
-    product-of-requires
+    product-from-requires
     fill-strides-requires
     shape-digits-requires
     add-strides-requires

@@ -1,13 +1,13 @@
 use borrow.Author.Needs.{needs}
 use native.Mathlib.Omega.{arith}
-use Prim.Native.Nat.{_-_}
+use Prim.Native.Nat.{ℕ, _-_}
 use native.Mathlib.Nat.{sub-zero}
 use mathlib.Core.Path.{refl, ap, _∙_}
 use lib.ListN.{length, take, replicate}
 use denote.Ref.{now}
 use Rattle.rules.specs.Limits.{mostAxes}
+use Rattle.rules.proofs.Lists.{take-replicate}
 use Rattle.rules.proofs.Fronts.{lent-length}
-use Rattle.moves.proofs.Whole.{zeros-taken}
 use Rattle.moves.proofs.move_into.Statement.{statement}
 use Rattle.moves.proofs.move_into.Tie as tie
 
@@ -40,7 +40,7 @@ move-with-requires c κs =
         step = s .pre .0;
         room = refl;
         zs-places = lent-length _ _ (s .pre .0 .axes-few);
-        none = ap (λ k. take k (replicate mostAxes 0)) (sub-zero n) ∙ zeros-taken n mostAxes (s .pre .0 .axes-few);
+        none = ap (λ k. take k (replicate mostAxes 0)) (sub-zero n) ∙ take-replicate {A = ℕ} 0 n mostAxes (s .pre .0 .axes-few);
         words-are = s .pre .1 .0;
       },
       s .pre .1 .1,

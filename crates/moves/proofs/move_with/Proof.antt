@@ -17,24 +17,24 @@ use Rattle.moves.proofs.move_with.Tie as tie
 abbrev made : tie.After-make-digits → tie.Start
 made c = c .before .before .before .before .before .before .before .before .before .before .before
 
-abbrev counted : tie.After-product-of → tie.After-make-digits
+abbrev counted : tie.After-product-from → tie.After-make-digits
 counted c = c .before .before .before .before .before .before .before
 
-abbrev copied : tie.After-copy-strided → tie.After-product-of
+abbrev copied : tie.After-copy-strided → tie.After-product-from
 copied c = c .before .before .before .before
 
 make-digits-requires : tie.Need-make-digits-requires
 make-digits-requires c κs = search needs
 
-product-of-requires : tie.Need-product-of-requires
-product-of-requires c κs = mesh-sizes (made (c .before .before .before .before .before .before) .pre .0)
+product-from-requires : tie.Need-product-from-requires
+product-from-requires c κs = mesh-sizes (made (c .before .before .before .before .before .before) .pre .0)
 
 -- the words of the new state, and that they have room
-all-words : (c : tie.After-product-of)
-    → (let s = made (counted c) in c .product-of .result * s .args .words ≡ product (now (s .args .mesh)) * s .args .words)
-all-words c = ap (λ n. n * made (counted c) .args .words) (c .product-of .ensures)
+all-words : (c : tie.After-product-from)
+    → (let s = made (counted c) in c .product-from .result * s .args .words ≡ product (now (s .args .mesh)) * s .args .words)
+all-words c = ap (λ n. n * made (counted c) .args .words) (c .product-from .ensures)
 
-room : (c : tie.After-product-of) → (let s = made (counted c) in c .product-of .result * s .args .words ≤ length (now (s .args .new)))
+room : (c : tie.After-product-from) → (let s = made (counted c) in c .product-from .result * s .args .words ≤ length (now (s .args .new)))
 room c = omega (arith, all-words c, made (counted c) .pre .1 .1)
 
 -- the digits, as they are lent
@@ -78,14 +78,14 @@ copy-strided-requires c κs =
     let p = c .before .before .before in
     let s = made (counted p) in
     copy-asked (s .pre .0) _ _ (length (now (s .args .old))) (digits-are (counted p))
-    (lent-length (now (s .args .new)) (p .product-of .result * s .args .words) (room p) ∙ all-words p) (s .pre .1 .0)
+    (lent-length (now (s .args .new)) (p .product-from .result * s .args .words) (room p) ∙ all-words p) (s .pre .1 .0)
 
 same-length : tie.Need-same-length
 same-length c =
     let r = c .before .before .copy-strided in
     let p = copied (c .before .before) in
     let s = made (counted p) in
-    same-len-mid 0 (p .product-of .result * s .args .words - 0) (now (s .args .new)) (r .last .0) (r .kept .0)
+    same-len-mid 0 (p .product-from .result * s .args .words - 0) (now (s .args .new)) (r .last .0) (r .kept .0)
 
 same-length-2 : tie.Need-same-length-2
 same-length-2 c = search needs
@@ -102,7 +102,7 @@ returns c =
     let p = copied (c .before .before) in
     let s = made (counted p) in
     let new = now (s .args .new) in
-    let n = p .product-of .result * s .args .words in
+    let n = p .product-from .result * s .args .words in
     lent-put new (r .last .0) n
     ∙ ap₂ (λ l k. l ++ drop k new)
     (r .ensures ∙ copy-leaves (s .pre .0) _ _ (now (s .args .old)) (digits-are (counted p)) (lent-length new n (room p) ∙ all-words p)) (all-words p)
@@ -112,7 +112,7 @@ move-with-spec =
     tie.close
     (tie.spec
     make-digits-requires
-    product-of-requires
+    product-from-requires
     mul-all
     sub-copy-strided
     part-copy-strided-start

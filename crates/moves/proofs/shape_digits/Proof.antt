@@ -3,11 +3,11 @@ use native.Mathlib.Omega.{arith}
 use Prim.Native.Nat.{ℕ, _≤_, _-_}
 use mathlib.Core.Path.{_≡_, refl, sym, ap, _∙_}
 use mathlib.Core.List.{List, [], _∷_}
-use lib.ListN.{length, take, drop}
+use lib.ListN.{length, getD, take, drop}
 use lib.Seq.{getD-take}
 use denote.Ref.{now}
 use Rattle.rules.specs.Types.{axesOf, dimsOf}
-use Rattle.digits.proofs.Loops.{drop-before, size-in}
+use Rattle.digits.proofs.Loops.{drop-before}
 use Rattle.moves.specs.Moves.{Dimension, DimensionsAt}
 use Rattle.moves.proofs.Dims.{lists-before, dims-start, dims-ask, dims-turn, dim-facts}
 use Rattle.moves.proofs.shape_digits.Statement.{statement}
@@ -37,21 +37,26 @@ list-at-requires c κs = omega (arith, c .before .before .before .before .before
 list-at-requires-2 : tie.Need-list-at-requires-2 Inv-loop μ-loop
 list-at-requires-2 c κs = omega (arith, c .before .before .before .before .before .before .before .before .pre .step .rank)
 
-size-at-requires : tie.Need-size-at-requires Inv-loop μ-loop
-size-at-requires c κs = omega arith
+mul-n : tie.Need-mul-n Inv-loop μ-loop
+mul-n c = omega arith
+
+shared-slice-read-n : tie.Need-shared-slice-read-n Inv-loop μ-loop
+shared-slice-read-n c = omega arith
+
+cast-n : tie.Need-cast-n Inv-loop μ-loop
+cast-n c = omega (arith, c .shared-slice-known3 .given (c .before .before .before .before .loop .j - 1))
 
 -- the dimension's size and lists
-size : (c : tie.After-size-at Inv-loop μ-loop)
+size : (c : tie.After-shared-slice-known3 Inv-loop μ-loop)
     → (let l = c .before .before .before .before in
     let shape = now (c .before .before .before .before .before .before .before .before .before .before .args .shape) in
-    drop (l .loop .j - 1) shape ≡ c .size-at .result ∷ drop (l .loop .j) shape)
+    drop (l .loop .j - 1) shape ≡ getD shape (l .loop .j - 1) 0 ∷ drop (l .loop .j) shape)
 size c =
     let l = c .before .before .before .before in
     let shape = now (c .before .before .before .before .before .before .before .before .before .before .args .shape) in
     drop-before shape (l .loop .j) (omega arith) (omega arith)
-    ∙ ap (λ n. n ∷ drop (l .loop .j) shape) (size-in shape (l .loop .j - 1) (omega arith) ∙ sym (c .size-at .ensures))
 
-gathered : (c : tie.After-size-at Inv-loop μ-loop)
+gathered : (c : tie.After-shared-slice-known3 Inv-loop μ-loop)
     → (let l = c .before .before .before .before in
     let s = c .before .before .before .before .before .before .before .before .before .before in
     let Gs = lists (now (s .args .shape)) (dimsOf (s .args .gathers)) in
@@ -65,7 +70,7 @@ gathered c =
     lists-before Gs j (omega arith) (omega (arith, s .pre .step .gathers))
     ∙ ap (λ L. L ∷ drop j Gs) (getD-take n (dimsOf (s .args .gathers)) (j - 1) [] (omega arith) ∙ sym (c .before .before .list-at .ensures))
 
-sliced : (c : tie.After-size-at Inv-loop μ-loop)
+sliced : (c : tie.After-shared-slice-known3 Inv-loop μ-loop)
     → (let l = c .before .before .before .before in
     let s = c .before .before .before .before .before .before .before .before .before .before in
     let Ss = lists (now (s .args .shape)) (dimsOf (s .args .slices)) in
@@ -79,16 +84,16 @@ sliced c =
     lists-before Ss j (omega arith) (omega (arith, s .pre .step .slices))
     ∙ ap (λ L. L ∷ drop j Ss) (getD-take n (dimsOf (s .args .slices)) (j - 1) [] (omega arith) ∙ sym (c .before .list-at2 .ensures))
 
-asked : (c : tie.After-size-at Inv-loop μ-loop)
+asked : (c : tie.After-shared-slice-known3 Inv-loop μ-loop)
     → (let l = c .before .before .before .before in
     let s = c .before .before .before .before .before .before .before .before .before .before in
     Dimension (l .loop .row) (l .loop .zs) (l .loop .ys) (now (s .args .mesh)) (axesOf (c .before .before .list-at .result))
     (axesOf (c .before .list-at2 .result))
-    (c .size-at .result) (l .loop .w) (l .loop .first) (l .loop .count))
+    (getD (now (s .args .shape)) (l .loop .j - 1) 0) (l .loop .w) (l .loop .first) (l .loop .count))
 asked c =
     let l = c .before .before .before .before in
     let s = c .before .before .before .before .before .before .before .before .before .before in
-    dims-ask (c .size-at .result) (axesOf (c .before .before .list-at .result)) (axesOf (c .before .list-at2 .result)) (l .loop .inv .4) (size c)
+    dims-ask _ (axesOf (c .before .before .list-at .result)) (axesOf (c .before .list-at2 .result)) (l .loop .inv .4) (size c)
     (gathered c) (sliced c)
     (s .pre) (l .loop .inv .1) (l .loop .inv .2 ∙ s .pre .zs-places) (l .loop .inv .3 ∙ s .pre .ys-places)
     (omega (arith, c .before .before .before .loop-test .taken)) (l .loop .inv .0)
@@ -134,7 +139,7 @@ loop-again c =
       r .kept .1 .0 ∙ l .loop .inv .2,
       r .kept .1 .1 .0 ∙ l .loop .inv .3,
       rw (c .len .ensures, r .ensures .0)
-          (dims-turn (x .size-at .result) (axesOf (x .before .before .list-at .result)) (axesOf (x .before .list-at2 .result)) (l .loop .inv .4)
+          (dims-turn _ (axesOf (x .before .before .list-at .result)) (axesOf (x .before .list-at2 .result)) (l .loop .inv .4)
           (size x) (gathered x) (sliced x)
           (r .last .0) (r .last .1 .0) (r .last .1 .1 .0) (s .pre .step .gathers) (s .pre .step .slices) (s .pre .step .devices-pos) (r .kept .0)
           (omega (arith, d .front .room)) (dim-facts d .apart-few) (r .ensures .1 .0) (r .ensures .1 .1 .0) (r .ensures .1 .1 .1)),
@@ -167,7 +172,9 @@ shape-digits-spec =
     sub-j
     list-at-requires
     list-at-requires-2
-    size-at-requires
+    mul-n
+    shared-slice-read-n
+    cast-n
     dim-digits-requires
     sub-first
     len-requires

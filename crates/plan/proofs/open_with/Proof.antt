@@ -1,8 +1,8 @@
 use borrow.Author.Needs.{needs}
 use mathlib.Core.Path.{sym, _∙_}
 use Rattle.reader.proofs.Answers.{read-on, read-stopped}
+use Rattle.start.proofs.Verdicts.{passed, failed}
 use Rattle.plan.proofs.Opens.{headed, fits, ranked, counted, uncounted, sharding-stops, offset-stops, start-stops, front-is}
-use Rattle.plan.proofs.Takes.{passed, failed}
 use Rattle.plan.proofs.open_with.Statement.{statement}
 use Rattle.plan.proofs.open_with.Tie as tie
 

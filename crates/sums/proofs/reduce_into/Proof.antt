@@ -12,15 +12,15 @@ use Rattle.sums.proofs.Tables.{reduced-is}
 use Rattle.sums.proofs.reduce_into.Statement.{statement}
 use Rattle.sums.proofs.reduce_into.Tie as tie
 
-product-of-requires : tie.Need-product-of-requires
-product-of-requires c κs =
+product-from-requires : tie.Need-product-from-requires
+product-from-requires c κs =
     let s = c .before .before .before .before in
-    record { filled = s .pre .words-pos; few = omega (arith, s .pre .words-few) }
+    record { some = s .pre .words-pos; few = s .pre .words-few }
 
-product-of-requires-2 : tie.Need-product-of-requires-2
-product-of-requires-2 c κs =
+product-from-requires-2 : tie.Need-product-from-requires-2
+product-from-requires-2 c κs =
     let s = c .before .before .before .before .before in
-    record { filled = s .pre .devices-pos; few = omega (arith, s .pre .devices-few) }
+    record { some = s .pre .devices-pos; few = omega (arith, s .pre .devices-few) }
 
 sub-sum-with : tie.Need-sub-sum-with
 sub-sum-with c = search needs
@@ -29,7 +29,7 @@ part-firsts-start : tie.Need-part-firsts-start
 part-firsts-start c = search needs
 
 part-firsts-end : tie.Need-part-firsts-end
-part-firsts-end c = omega (arith, c .before .product-of2 .ensures, c .before .before .before .before .before .before .before .pre .devices-few)
+part-firsts-end c = omega (arith, c .before .product-from2 .ensures, c .before .before .before .before .before .before .before .pre .devices-few)
 
 slice-aggregate-sum-with : tie.Need-slice-aggregate-sum-with
 slice-aggregate-sum-with c = search needs
@@ -46,14 +46,13 @@ part-zs-end c = omega (arith, c .before .before .before .before .before .before 
 sum-with-requires : tie.Need-sum-with-requires
 sum-with-requires c κs =
     let s = c .before .before .before .before .before .before .before .before .before .before in
-    let m = c .before .before .before .before .before .product-of .ensures in
-    let n = c .before .before .before .before .product-of2 .ensures in (
+    let m = c .before .before .before .before .before .product-from .ensures in
+    let n = c .before .before .before .before .product-from2 .ensures in (
       record {
         places = lent-length _ _ (omega (arith, s .pre .axes));
         axes = s .pre .axes;
         devices-pos = s .pre .devices-pos;
         devices-few = s .pre .devices-few;
-        words-pos = rw m (s .pre .words-pos);
         words-few = rw m (s .pre .words-few);
         of-mesh = s .pre .of-mesh;
         once = s .pre .once;
@@ -71,7 +70,7 @@ returns c =
     let s = c .before .before .before .before .before .before .before .before .before .before .before .before .before .before .before .before in
     let mesh = now (s .args .mesh) in
     let shape = now (s .args .shape) in
-    rw (c .before .before .before .before .before .before .before .before .before .before .before .product-of .ensures) at
+    rw (c .before .before .before .before .before .before .before .before .before .before .before .product-from .ensures) at
     (c .before .before .before .before .before .sum-with .ensures)
     ∙ ap (λ l. l ++ drop (product mesh * product shape) (now (s .args .new)))
     (reduced-is mesh shape (axesOf (s .args .axes)) (now (s .args .old)) (s .pre .devices-pos) (s .pre .once))
@@ -80,8 +79,8 @@ pub reduce-into-spec : {M : Type 1} → statement M
 reduce-into-spec =
     tie.close
     (tie.spec
-    product-of-requires
-    product-of-requires-2
+    product-from-requires
+    product-from-requires-2
     sub-sum-with
     part-firsts-start
     part-firsts-end

@@ -1,0 +1,50 @@
+-- Laws of the boundary: what stands past the rank, the five lists one by one, and the rank of an accepted plan. Assumes nothing.
+use Prim.Native.Nat.{ℕ, zero, suc, _<_, _≤_}
+use mathlib.Core.Path.{_≡_, refl, ap}
+use mathlib.Core.List.{List, []}
+use native.Mathlib.Omega.{arith}
+use lib.ListN.{length, take, getD, length-take, List·getD-eq-default}
+use lib.Dec.{ltb, leb}
+use Rattle.rules.specs.Limits.{mostDims}
+use Rattle.rules.specs.Mesh.{devices}
+use Rattle.rules.specs.Sharding.{Sharding}
+use Rattle.rules.specs.Refusals.{accept}
+use Rattle.rules.specs.PlanFile.{judge}
+use Rattle.rules.specs.Calls.{CheckAnswer, PlaceAnswer, checkOf, placeOf}
+use Rattle.rules.proofs.Judging.{accept-inj, bind-inv, need-inv}
+use Rattle.rules.proofs.Accepted.{accepted}
+use Rattle.capi.specs.Boundary.{listOf}
+
+-- nothing stands past the rank
+pub past : {A : Type 0} (rank : ℕ) (l : List A) (d : ℕ) (z : A) → rank ≤ d → getD (take rank l) d z ≡ z
+past rank l d z h = List·getD-eq-default (take rank l) z (omega (arith, length-take rank l))
+
+-- ---- the five lists
+
+pub list-last : (s : Sharding) (d : ℕ) → d ≡ mostDims → s .unreduced ≡ listOf s d
+list-last s d e = rw e refl
+
+pub list-dim : (s : Sharding) (d : ℕ) → d < mostDims → getD (s .dims) d [] ≡ listOf s d
+list-dim s zero h = refl
+list-dim s (suc zero) h = refl
+list-dim s (suc (suc zero)) h = refl
+list-dim s (suc (suc (suc zero))) h = refl
+list-dim s (suc (suc (suc (suc d)))) h = absurd (omega (arith, h))
+
+-- ---- the rank of a plan that is accepted
+
+pub check-rank : (file : List ℕ) (a : CheckAnswer) → checkOf file ≡ accept a → a .rank ≤ mostDims
+unfolding checkOf
+check-rank file a e =
+    let j = bind-inv (judge file) _ a e in
+    let same : length (j .0 .sizes) ≡ a .rank = ap (λ (b : CheckAnswer). b .rank) (accept-inj (j .2)) in
+    omega (arith, same, accepted file (j .0) (j .1) .within .rank-few)
+
+pub place-rank : (file : List ℕ) (state device : ℕ) (a : PlaceAnswer) → placeOf file state device ≡ accept a → a .rank ≤ mostDims
+unfolding placeOf
+place-rank file state device a e =
+    let j = bind-inv (judge file) _ a e in
+    let s = need-inv 0 (leb state (length (j .0 .steps))) 34 _ a (j .2) in
+    let d = need-inv 0 (ltb device (devices (j .0 .mesh))) 32 _ a (s .1) in
+    let same : length (j .0 .sizes) ≡ a .rank = ap (λ (b : PlaceAnswer). b .rank) (accept-inj (d .1)) in
+    omega (arith, same, accepted file (j .0) (j .1) .within .rank-few)

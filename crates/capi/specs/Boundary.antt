@@ -1,0 +1,88 @@
+-- What the calls for C answer: the numbers that stand for an answer of the library (rules/specs/Calls.antt), every field of them.
+-- Assumes nothing.
+use Prim.Native.Nat.{ℕ, _+_, _*_, _/_, _%_}
+use mathlib.Core.List.{List, [], _∷_, _++_, map}
+use lib.ListN.{length, getD, replicate}
+use Rattle.rules.specs.Lists.{tab}
+use Rattle.rules.specs.Limits.{mostAxes, mostDims}
+use Rattle.rules.specs.Sharding.{Sharding}
+use Rattle.rules.specs.Refusals.{Judged, accept, refuse}
+use Rattle.rules.specs.Calls.{CheckAnswer, PlaceAnswer}
+use Rattle.capi.specs.declared.CheckReply.{CheckReply}
+use Rattle.capi.specs.declared.PlaceReply.{PlaceReply}
+
+-- the refusal as one number: 0 for none, else the refusal number and 256 times the step
+abbrev pub refusalCode : {A : Type 0} → Judged A → ℕ
+refusalCode (accept a) = 0
+refusalCode (refuse n k) = n + 256 * k
+
+-- how many lists a sharding has, and the places of their axes
+abbrev pub lists : ℕ
+lists = mostDims + 1
+
+abbrev pub places : ℕ
+places = lists * mostAxes
+
+-- a number for each dimension, in four places; places not used are 0
+abbrev pub fourPlaces : List ℕ → List ℕ
+fourPlaces l = tab mostDims (λ d. getD l d 0)
+
+-- five lists: those of dimensions 0 to 3, no axes past the rank, then the unreduced axes
+abbrev pub fiveLists : Sharding → List (List ℕ)
+fiveLists s = tab mostDims (λ d. getD (s .dims) d []) ++ s .unreduced ∷ []
+
+abbrev pub listOf : Sharding → ℕ → List ℕ
+listOf s d = getD (fiveLists s) d []
+
+-- how many axes each list has
+abbrev pub fiveCounts : Sharding → List ℕ
+fiveCounts s = map length (fiveLists s)
+
+-- the axes of each list, in six places; places not used are 0
+abbrev pub axisIn : Sharding → ℕ → ℕ
+axisIn s i = getD (listOf s (i / mostAxes)) (i % mostAxes) 0
+
+abbrev pub thirtyAxes : Sharding → List ℕ
+thirtyAxes s = tab places (axisIn s)
+
+-- the check's answer; every field but the refusal is 0 where there is one
+abbrev pub checkReply : Judged CheckAnswer → CheckReply
+checkReply (accept a) = record {
+  refusal = 0;
+  room = a .room;
+  devices = a .devices;
+  steps = a .steps;
+  rank = a .rank;
+  shard = fourPlaces (a .shard);
+  counts = fiveCounts (a .sharding);
+  axes = thirtyAxes (a .sharding);
+}
+checkReply (refuse n k) = record {
+  refusal = n + 256 * k;
+  room = 0;
+  devices = 0;
+  steps = 0;
+  rank = 0;
+  shard = replicate mostDims 0;
+  counts = replicate lists 0;
+  axes = replicate places 0;
+}
+
+-- the placement's answer, in the same way
+abbrev pub placeReply : Judged PlaceAnswer → PlaceReply
+placeReply (accept a) = record {
+  refusal = 0;
+  rank = a .rank;
+  shard = fourPlaces (a .shard);
+  first = fourPlaces (a .first);
+  counts = fiveCounts (a .sharding);
+  axes = thirtyAxes (a .sharding);
+}
+placeReply (refuse n k) = record {
+  refusal = n + 256 * k;
+  rank = 0;
+  shard = replicate mostDims 0;
+  first = replicate mostDims 0;
+  counts = replicate lists 0;
+  axes = replicate places 0;
+}

@@ -1,0 +1,246 @@
+// The library's calls for C, Rust and Python; include/ishkrela.h declares them.
+// What they answer is defined in specs/Boundary.antt, from the definitions of the library's calls (rules/specs/Calls.antt).
+ghost use mathlib.Core.Path.{_≡_};
+ghost use Prim.Native.Nat.{_<_, _≤_, _+_, _*_};
+ghost use lib.ListN.{length, take, getD};
+ghost use Rattle.rules.specs.Limits.{mostDims};
+ghost use Rattle.rules.specs.Refusals.{numberOf, refusedBy};
+ghost use Rattle.rules.specs.Types.{axesOf, shardingOf};
+ghost use Rattle.rules.specs.Calls.{checkOf, placeOf, groupsOf, groupsLeave, checkedBy, placedBy};
+ghost use Rattle.capi.specs.Boundary.{refusalCode, places, fourPlaces, listOf, fiveCounts, axisIn, thirtyAxes, checkReply, placeReply};
+use ishkrela::Axis;
+use ishkrela::AxisList;
+use ishkrela::CheckOutcome;
+use ishkrela::Checked;
+use ishkrela::Device;
+use ishkrela::Dim;
+use ishkrela::GroupsOutcome;
+use ishkrela::PlaceOutcome;
+use ishkrela::Placed;
+use ishkrela::Refusal;
+use ishkrela::Sharding;
+use ishkrela::Totals;
+
+// A list for each dimension, and the unreduced axes.
+const LISTS: usize = Dim::MOST + 1;
+
+// The places of their axes.
+const PLACES: usize = LISTS * Axis::MOST;
+
+// C's ishkrela_checked: the numbers that stand for the check's answer.
+#[repr(C)]
+pub struct CheckReply {
+    pub refusal: u32,
+    pub room: u32,
+    pub devices: u16,
+    pub steps: u16,
+    pub rank: u16,
+    pub shard: [u16; Dim::MOST],
+    pub counts: [u8; LISTS],
+    pub axes: [u8; PLACES],
+}
+
+// C's ishkrela_placed: the numbers that stand for the placement's answer.
+#[repr(C)]
+pub struct PlaceReply {
+    pub refusal: u32,
+    pub rank: u16,
+    pub shard: [u16; Dim::MOST],
+    pub first: [u16; Dim::MOST],
+    pub counts: [u8; LISTS],
+    pub axes: [u8; PLACES],
+}
+
+// The refusal as one number.
+fn code_of(refusal: Refusal) -> u32
+    ensures { λ r. ⌜ r ≡ numberOf (refusal .reason) + 256 * refusal .step ⌝ }
+{
+    let reason = refusal.reason;
+    let number = reason.number();
+    number as u32 + 256 * (refusal.step as u32)
+}
+
+// The number of a dimension, 0 past the rank.
+fn size_at(sizes: [u16; Dim::MOST], rank: usize, d: usize) -> u16
+    requires { ⌜ d < mostDims ⌝ }
+    ensures { λ r. ⌜ r ≡ getD (take rank sizes) d 0 ⌝ }
+{
+    if d < rank { sizes[d] } else { 0 }
+}
+
+fn four_places(sizes: [u16; Dim::MOST], rank: usize) -> [u16; Dim::MOST]
+    ensures { λ r. ⌜ r ≡ fourPlaces (take rank sizes) ⌝ }
+{
+    [
+        size_at(sizes, rank, 0),
+        size_at(sizes, rank, 1),
+        size_at(sizes, rank, 2),
+        size_at(sizes, rank, 3),
+    ]
+}
+
+// One of the five lists: that of a dimension, no axes past the rank; the unreduced axes last.
+fn list_of(sharding: Sharding, rank: usize, d: usize) -> AxisList
+    requires { ⌜ d ≤ mostDims ⌝ }
+    ensures { λ r. ⌜ axesOf r ≡ listOf (shardingOf rank sharding) d ⌝ }
+{
+    if d == Dim::MOST {
+        return sharding.unreduced;
+    }
+    if d < rank {
+        return sharding.list(Dim(d as u8));
+    }
+    AxisList::empty()
+}
+
+fn count_of(sharding: Sharding, rank: usize, d: usize) -> u8
+    requires { ⌜ d ≤ mostDims ⌝ }
+    ensures { λ r. ⌜ r ≡ length (listOf (shardingOf rank sharding) d) ⌝ }
+{
+    let list = list_of(sharding, rank, d);
+    list.len() as u8
+}
+
+fn five_counts(sharding: Sharding, rank: usize) -> [u8; LISTS]
+    ensures { λ r. ⌜ r ≡ fiveCounts (shardingOf rank sharding) ⌝ }
+{
+    [
+        count_of(sharding, rank, 0),
+        count_of(sharding, rank, 1),
+        count_of(sharding, rank, 2),
+        count_of(sharding, rank, 3),
+        count_of(sharding, rank, 4),
+    ]
+}
+
+// The axis in one of the thirty places, six to a list.
+fn axis_in(sharding: Sharding, rank: usize, i: usize) -> u8
+    requires { ⌜ i < places ⌝ }
+    ensures { λ r. ⌜ r ≡ axisIn (shardingOf rank sharding) i ⌝ }
+{
+    let list = list_of(sharding, rank, i / Axis::MOST);
+    let axis = list.at(i % Axis::MOST);
+    axis.0
+}
+
+fn thirty_axes(sharding: Sharding, rank: usize) -> [u8; PLACES]
+    ensures { λ r. ⌜ r ≡ thirtyAxes (shardingOf rank sharding) ⌝ }
+{
+    let mut axes = [0u8; PLACES];
+    let mut i: usize = 0;
+    while i < PLACES {
+        axes[i] = axis_in(sharding, rank, i);
+        i += 1;
+    }
+    axes
+}
+
+fn check_refused(refusal: Refusal) -> CheckReply
+    ensures { λ r. ⌜ r ≡ checkReply (refusedBy refusal) ⌝ }
+{
+    CheckReply {
+        refusal: code_of(refusal),
+        room: 0,
+        devices: 0,
+        steps: 0,
+        rank: 0,
+        shard: [0; Dim::MOST],
+        counts: [0; LISTS],
+        axes: [0; PLACES],
+    }
+}
+
+fn check_passed(totals: Totals, checked: Checked) -> CheckReply
+    requires { ⌜ totals .rank ≤ mostDims ⌝ }
+    ensures { λ r. ⌜ r ≡ checkReply (checkedBy (CheckOutcome.Passed totals) checked) ⌝ }
+{
+    let rank = totals.rank;
+    let sharding = checked.sharding;
+    let sizes = checked.shard;
+    let shard = four_places(sizes, rank);
+    let counts = five_counts(sharding, rank);
+    let axes = thirty_axes(sharding, rank);
+    CheckReply {
+        refusal: 0,
+        room: totals.room,
+        devices: totals.devices,
+        steps: totals.steps,
+        rank: rank as u16,
+        shard,
+        counts,
+        axes,
+    }
+}
+
+// The check of a plan file.
+#[no_mangle]
+pub extern "C" fn ishkrela_check(file: &[u8]) -> CheckReply
+    ensures { λ r. ⌜ r ≡ checkReply (checkOf (now (file .entry))) ⌝ }
+{
+    let checked = ishkrela::check(file);
+    let outcome = checked.outcome;
+    match outcome {
+        CheckOutcome::Passed(totals) => check_passed(totals, checked),
+        CheckOutcome::Refused(refusal) => check_refused(refusal),
+    }
+}
+
+fn place_refused(refusal: Refusal) -> PlaceReply
+    ensures { λ r. ⌜ r ≡ placeReply (refusedBy refusal) ⌝ }
+{
+    PlaceReply {
+        refusal: code_of(refusal),
+        rank: 0,
+        shard: [0; Dim::MOST],
+        first: [0; Dim::MOST],
+        counts: [0; LISTS],
+        axes: [0; PLACES],
+    }
+}
+
+fn place_found(rank: usize, placed: Placed) -> PlaceReply
+    requires { ⌜ rank ≤ mostDims ⌝ }
+    ensures { λ r. ⌜ r ≡ placeReply (placedBy (PlaceOutcome.Found rank) placed) ⌝ }
+{
+    let sharding = placed.sharding;
+    let sizes = placed.shard;
+    let indexes = placed.first;
+    let shard = four_places(sizes, rank);
+    let first = four_places(indexes, rank);
+    let counts = five_counts(sharding, rank);
+    let axes = thirty_axes(sharding, rank);
+    PlaceReply {
+        refusal: 0,
+        rank: rank as u16,
+        shard,
+        first,
+        counts,
+        axes,
+    }
+}
+
+// The placement of a device in a state.
+#[no_mangle]
+pub extern "C" fn ishkrela_place(file: &[u8], state: u16, device: u16) -> PlaceReply
+    ensures { λ r. ⌜ r ≡ placeReply (placeOf (now (file .entry)) state device) ⌝ }
+{
+    let placed = ishkrela::place(file, state, Device(device));
+    let outcome = placed.outcome;
+    match outcome {
+        PlaceOutcome::Found(rank) => place_found(rank, placed),
+        PlaceOutcome::Refused(refusal) => place_refused(refusal),
+    }
+}
+
+// The group listing.
+#[no_mangle]
+pub extern "C" fn ishkrela_groups(mesh: &[u16], axes: &[u8], out: &mut [u16]) -> u32
+    ensures answers { λ r. ⌜ r ≡ refusalCode (groupsOf (now (mesh .entry)) (now (axes .entry)) (now (out .entry))) ⌝ }
+    ensures leaves { λ r. ⌜ now (out .exit) ≡ groupsLeave (now (mesh .entry)) (now (axes .entry)) (now (out .entry)) ⌝ }
+{
+    let outcome = ishkrela::groups(mesh, axes, out);
+    match outcome {
+        GroupsOutcome::Listed(_) => 0,
+        GroupsOutcome::Refused(refusal) => code_of(refusal),
+    }
+}

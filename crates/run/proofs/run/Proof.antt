@@ -1,0 +1,157 @@
+use borrow.Author.Needs.{needs}
+use native.Mathlib.Omega.{arith}
+use Prim.Native.Nat.{ℕ, _≤_, _<_}
+use mathlib.Core.Path.{_≡_, sym, ap, _∙_}
+use lib.ListN.{length, replicate}
+use denote.Ref.{now}
+use Rattle.rules.specs.PlanFile.{room}
+use Rattle.rules.specs.Calls.{runMeaning}
+use Rattle.rules.specs.declared.RunOutcome.{RunOutcome}
+use Rattle.rules.specs.declared.RunOutcome.the-variants.{Finished}
+use Rattle.plan.proofs.Wholes.{plan-held, whole-stopped, bounded}
+use Rattle.run.proofs.Promises.{stops-file, stops-work, stops-spare, finishes, cleared-behind, last-size, last-fits, promise}
+use Rattle.run.proofs.run.Statement.{statement}
+use Rattle.run.proofs.run.Tie as tie
+
+judge-file-requires : tie.Need-judge-file-requires
+judge-file-requires c κs = search needs
+
+enum-known-next : tie.Need-enum-known-next
+enum-known-next c = search needs
+
+enum-told : tie.Need-enum-told
+enum-told c = search needs
+
+refusal-requires : tie.Need-refusal-requires
+refusal-requires c κs = search needs
+
+returns : tie.Need-returns
+returns c =
+    let j = c .before .before .before in
+    let s = j .before .before .before .before in
+    let e = whole-stopped _ _ (j .judge-file .ensures) (c .before .enum-told .given .1) (c .refusal .ensures) in
+    promise _ _ _ _ (λ i. j .before .before .slice-known .given i .fits) (stops-file _ (now (s .args .work)) (now (s .args .spare)) e)
+
+mul-room : tie.Need-mul-room
+mul-room c =
+    let b = bounded _ (plan-held _ _ (c .before .before .before .before .judge-file .ensures) (c .before .before .next .given .1)) in
+    omega (arith, b .room-few)
+
+refused-requires : tie.Need-refused-requires
+refused-requires c κs = search needs
+
+returns-2 : tie.Need-returns-2
+returns-2 c =
+    let j = c .before .before .before .before .before .before in
+    let s = j .before .before .before .before in
+    let h = plan-held _ _ (j .judge-file .ensures) (c .before .before .before .before .next .given .1) in
+    let l : length (now (s .args .work)) < room (h .0) = omega (arith, h .2 .room-is, c .before .if1 .taken) in
+    promise _ _ _ (c .refused .result) (λ i. j .before .before .slice-known .given i .fits)
+    (stops-work _ (now (s .args .work)) (now (s .args .spare)) (h .1) l
+    ∙ ap (λ (o : RunOutcome). record { outcome = runMeaning o; work = now (s .args .work); spare = now (s .args .spare) }) (sym (c .refused .ensures)))
+
+refused-requires-2 : tie.Need-refused-requires-2
+refused-requires-2 c κs = search needs
+
+returns-3 : tie.Need-returns-3
+returns-3 c =
+    let j = c .before .before .before .before .before .before .before in
+    let s = j .before .before .before .before in
+    let h = plan-held _ _ (j .judge-file .ensures) (c .before .before .before .before .before .next .given .1) in
+    let w : room (h .0) ≤ length (now (s .args .work)) = omega (arith, h .2 .room-is, c .before .before .if1 .left) in
+    let l : length (now (s .args .spare)) < room (h .0) = omega (arith, h .2 .room-is, c .before .if2 .taken) in
+    promise _ _ _ (c .refused2 .result) (λ i. j .before .before .slice-known .given i .fits)
+    (stops-spare _ (now (s .args .work)) (now (s .args .spare)) (h .1) w l
+    ∙ ap (λ (o : RunOutcome). record { outcome = runMeaning o; work = now (s .args .work); spare = now (s .args .spare) }) (sym (c .refused2 .ensures)))
+
+run-steps-requires : tie.Need-run-steps-requires
+run-steps-requires c κs =
+    let j = c .before .before .before .before .before .before .before .before in
+    let h = plan-held _ _ (j .judge-file .ensures) (c .before .before .before .before .before .before .next .given .1) in
+    record {
+      plan = h .0;
+      judged = h .1;
+      holds = h .2;
+      work-room = omega (arith, h .2 .room-is, c .before .before .before .if1 .left);
+      spare-room = omega (arith, h .2 .room-is, c .before .before .if2 .left);
+    }
+
+last-words-requires : tie.Need-last-words-requires
+last-words-requires c κs =
+    let r = c .before .before .before .before in
+    let j = r .before .before .before .before .before .before .before .before .before in
+    let h = plan-held _ _ (j .judge-file .ensures) (r .before .before .before .before .before .before .before .next .given .1) in
+    (bounded _ h, last-fits h (r .before .before .before .before .if1 .left) .few)
+
+mul-clear : tie.Need-mul-clear
+mul-clear c = omega (arith, c .last-words .ensures, last-words-requires (c .before) _ .1)
+
+sub-clear : tie.Need-sub-clear
+sub-clear c =
+    let r = c .before .before .before .before .before in
+    let j = r .before .before .before .before .before .before .before .before .before in
+    let h = plan-held _ _ (j .judge-file .ensures) (r .before .before .before .before .before .before .before .next .given .1) in
+    let l : length (r .run-steps .last .1 .1 .1 .0) ≡ length (now (j .before .before .before .before .args .work)) = search needs in
+    omega (arith, l, c .last-words .ensures, last-fits h (r .before .before .before .before .if1 .left) .in-work)
+
+part-clear-start : tie.Need-part-clear-start
+part-clear-start c = search (needs, sub-clear c)
+
+part-clear-end : tie.Need-part-clear-end
+part-clear-end c = search needs
+
+clear-requires : tie.Need-clear-requires
+clear-requires c κs = search needs
+
+clear-requires-2 : tie.Need-clear-requires-2
+clear-requires-2 c κs = search needs
+
+same-length : tie.Need-same-length
+same-length c = search needs
+
+same-length-2 : tie.Need-same-length-2
+same-length-2 c = search needs
+
+returns-4 : tie.Need-returns-4
+returns-4 c =
+    let v = c .before .before .before .before .before .before .before .before in
+    let r = v .before .before .before .before .before in
+    let j = r .before .before .before .before .before .before .before .before .before in
+    let s = j .before .before .before .before in
+    let work = now (s .args .work) in
+    let spare = now (s .args .spare) in
+    let h = plan-held _ _ (j .judge-file .ensures) (r .before .before .before .before .before .before .before .next .given .1) in
+    let w : room (h .0) ≤ length work = omega (arith, h .2 .room-is, r .before .before .before .before .if1 .left) in
+    let q : room (h .0) ≤ length spare = omega (arith, h .2 .room-is, r .before .before .before .if2 .left) in
+    let lw : length (r .run-steps .last .1 .1 .1 .0) ≡ length work = search needs in
+    let ls : length (r .run-steps .last .1 .1 .1 .1 .0) ≡ length spare = search needs in
+    promise _ _ _ Finished (λ i. j .before .before .slice-known .given i .fits)
+    (finishes _ work spare (h .1) (w, q)
+    (cleared-behind _ work _ _ _ (v .last-words .ensures ∙ last-size h work) (sub-clear v) lw (r .run-steps .ensures (h .0) (h .1)) (c .before .before .before .before .before .before .clear .ensures))
+    (c .before .before .clear2 .ensures ∙ ap (λ (n : ℕ). replicate n 0) ls))
+
+pub run-spec : {M : Type 1} → statement M
+run-spec =
+    tie.close
+    (tie.spec
+    judge-file-requires
+    enum-known-next
+    enum-told
+    refusal-requires
+    returns
+    mul-room
+    refused-requires
+    returns-2
+    refused-requires-2
+    returns-3
+    run-steps-requires
+    last-words-requires
+    mul-clear
+    sub-clear
+    part-clear-start
+    part-clear-end
+    clear-requires
+    clear-requires-2
+    same-length
+    same-length-2
+    returns-4)

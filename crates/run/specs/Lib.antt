@@ -1,0 +1,3 @@
+-- The run's promise, and what its parts ask for and leave.
+pub mod Promise
+pub mod Turns

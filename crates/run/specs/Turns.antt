@@ -1,0 +1,39 @@
+-- What the parts of the run (src/lib.rt) ask for and leave. Assumes nothing.
+use Prim.Native.Nat.{ℕ, _+_, _-_, _≤_, _<_}
+use mathlib.Core.Path.{_≡_}
+use mathlib.Core.List.{List}
+use lib.ListN.{length, take, drop}
+use Rattle.rules.specs.Refusals.{accept}
+use Rattle.rules.specs.PlanFile.{stepsAt, Plan, judge, announced, room}
+use Rattle.rules.specs.Calls.{lastState}
+use Rattle.rules.specs.Types.{shardingOf}
+use Rattle.rules.specs.declared.Sharding as code
+use Rattle.plan.specs.Parts.{Holds}
+use Rattle.plan.specs.declared.Whole.{Whole}
+
+-- a plan that passed, its steps from `at` on, and buffers with room for it
+pub record Runs (file : List ℕ) (at : ℕ) (w : Whole) (work spare : ℕ) : Type 0 where
+  pub plan : Plan
+  pub judged : judge file ≡ accept plan
+  pub holds : Holds file at w plan
+  pub work-room : room plan ≤ work
+  pub spare-room : room plan ≤ spare
+
+-- after k steps the rest of the plan's steps is read from `at` on
+abbrev pub ReadsOn : List ℕ → ℕ → Plan → ℕ → Type 0
+ReadsOn file at p k =
+    stepsAt (p .mesh) (p .sizes) (k + 1) (length (p .steps) - k) file at (announced p k) ≡ accept (record { value = drop k (p .steps); next = length file })
+
+-- such a plan when some of its steps are done: the number of the next step, where it begins, and the sharding before it
+pub record Turn (file : List ℕ) (at number : ℕ) (w : Whole) (s : code.Sharding) (work spare : ℕ) : Type 0 where
+  pub first : ℕ
+  pub runs : Runs file first w work spare
+  pub done : ℕ
+  pub number-is : number ≡ done + 1
+  pub more : done < length (runs .plan .steps)
+  pub sharding-is : shardingOf (w .table .rank) s ≡ announced (runs .plan) done
+  pub reads : ReadsOn file at (runs .plan) done
+
+-- the buffer begins with the state that the plan's last step leaves, from the words given
+abbrev pub BeginsWithLast : (file given buffer : List ℕ) → Type 0
+BeginsWithLast file given buffer = (p : Plan) → judge file ≡ accept p → take (length (lastState p given)) buffer ≡ lastState p given

@@ -1,0 +1,65 @@
+/* announce PLAN: prints what a plan announces, and where each device's shard begins.
+ *
+ * Judges the file, and prints for each state its sharding and shard sizes, and the first indexes
+ * of the devices. Ends with status 1 where the plan is refused. */
+#include <stdio.h>
+#include "ishkrela.h"
+
+static void print_list(const uint8_t *counts, const uint8_t *axes, int list)
+{
+    printf("[");
+    for (int i = 0; i < counts[list]; i++)
+        printf("%s%d", i ? " " : "", axes[6 * list + i]);
+    printf("]");
+}
+
+static void print_sizes(const uint16_t *sizes, int rank)
+{
+    for (int d = 0; d < rank; d++)
+        printf("%s%d", d ? "x" : "", sizes[d]);
+}
+
+static int refused(uint32_t refusal)
+{
+    printf("refused: %u in step %u\n", (unsigned)ISHKRELA_NUMBER(refusal), (unsigned)ISHKRELA_STEP(refusal));
+    return 1;
+}
+
+static void print_state(const uint8_t *file, size_t len, uint16_t state, uint16_t devices)
+{
+    ishkrela_placed at = ishkrela_place(file, len, state, 0);
+    printf("state %d: ", state);
+    for (int d = 0; d < at.rank; d++)
+        print_list(at.counts, at.axes, d);
+    printf(" unreduced ");
+    print_list(at.counts, at.axes, ISHKRELA_UNREDUCED);
+    printf(", shards of ");
+    print_sizes(at.shard, at.rank);
+    printf(", first indexes");
+    for (uint16_t device = 0; device < devices; device++) {
+        at = ishkrela_place(file, len, state, device);
+        printf(" ");
+        print_sizes(at.first, at.rank);
+    }
+    printf("\n");
+}
+
+int main(int argc, char **argv)
+{
+    uint8_t file[4097]; /* one byte more than a plan may have: a longer file is refused, not cut */
+    FILE *in = argc == 2 ? fopen(argv[1], "rb") : NULL;
+    if (!in) {
+        fprintf(stderr, "usage: announce PLAN\n");
+        return 2;
+    }
+    size_t len = fread(file, 1, sizeof file, in);
+    fclose(in);
+
+    ishkrela_checked plan = ishkrela_check(file, len);
+    if (plan.refusal)
+        return refused(plan.refusal);
+    printf("%d devices, %d steps, room for %u words\n", plan.devices, plan.steps, (unsigned)plan.room);
+    for (uint16_t state = 0; state <= plan.steps; state++)
+        print_state(file, len, state, plan.devices);
+    return 0;
+}

@@ -1,0 +1,150 @@
+/* Ishkrela: plans that move a table between the devices of a mesh.
+ *
+ * A mesh is a grid of up to 256 devices with 1 to 6 axes. A table (a tensor of rank 1 to 4, at
+ * most 4,096 words of 32 bits) is spread over it: each dimension is split along some of the axes.
+ * How it is spread is its sharding. A plan is a small file that names the mesh's sizes, the
+ * table's sizes, the sharding at the start, and up to 64 steps that change it: all-slice,
+ * all-gather, all-reduce (by sum) and all-to-all. State 0 is the start, state k is after step k.
+ *
+ * These calls judge a plan, say where its shards lie, and list device groups. Their code is
+ * proved to answer what the rules define on every input: any bytes may be handed over, nothing
+ * asks for a valid plan, and no call stops the program. Build and link:
+ *
+ *     rt staticlib capi
+ *     cc -I include program.c target/staticlib/libcapi.a
+ *
+ *
+ * WORDS
+ *
+ * axis      an axis of the mesh, numbered from 0
+ * device    a device, by the row-major number of its coordinates, the last axis fastest
+ * D         the number of devices, the product of the mesh's sizes
+ * shard     the part of the table that one device holds; its sizes are one number a dimension
+ * sharding  for each dimension a list of axes that it is split along, outer to inner; and a list
+ *           of unreduced axes, along which the devices' shards are parts of a sum. An axis in no
+ *           list is replicated: devices that differ only there hold equal shards
+ * group     for a list of axes: devices that agree on all other axes. The position in a group
+ *           counts along the list, its first axis most significant
+ * room      the words that the run of a plan needs: D times the most words of a shard in any state
+ *
+ *
+ * A PLAN FILE
+ *
+ * 18 to 4,096 bytes; 16-bit numbers are little-endian. Without gaps:
+ *
+ *     header     nine 16-bit numbers: 1, number of axes, rank, number of steps, the offsets of
+ *                mesh sizes (18), table sizes, sharding and steps, and the length of the file
+ *     mesh       a 16-bit size for each axis
+ *     table      a 16-bit size for each dimension
+ *     sharding   a list for each dimension, then the unreduced list
+ *     steps      a kind byte, then
+ *                    1 all-slice, 2 all-gather   a list for each dimension
+ *                    3 all-reduce                one list
+ *                    4 all-to-all                source dimension, target dimension (bytes), one list
+ *
+ * A list is a count byte and that many axis bytes. docs/PROMISES.md goes through the rules, and
+ * crates/rules/specs/PlanFile.antt has them, test by test.
+ *
+ *
+ * REFUSALS
+ *
+ * Each call answers a refusal as one number, 0 for none. Otherwise it is
+ *
+ *     refusal number + 256 * step        ISHKRELA_NUMBER(refusal), ISHKRELA_STEP(refusal)
+ *
+ * where steps count from 1; the step is 0 for numbers outside 20 to 28.
+ *
+ *      1  fewer than 18 bytes                  2  more than 4,096 bytes
+ *      3  the edition is not 1                 4  total length is not the number of bytes given
+ *      5  number of axes, rank or number of steps outside its limits
+ *      6  an offset is wrong                   7  a section runs past the end
+ *      8  a list's count is above the number of axes
+ *      9  bytes left after the last step
+ *     10  a mesh size is 0                    11  the product of mesh sizes passes 256
+ *     12  a table size is 0                   13  the product of table sizes passes 4,096
+ *     14  start: no such axis                 15  start: an axis named before
+ *     16  start: unreduced list not strictly increasing
+ *     17  start: a dimension is not divisible
+ *     20  unknown kind of step                21  a step names no axis
+ *     22  step: no such axis
+ *     23  all-slice: the axis is not replicated, or was named earlier in this step
+ *     24  the gathered list is not the tail of the dimension's list
+ *     25  a dimension's shard size is not divisible
+ *     26  all-reduce: list not strictly increasing
+ *     27  all-reduce: an axis is not unreduced
+ *     28  all-to-all: source or target is no dimension, or they are equal
+ *     30  work is shorter than the room       31  spare is shorter than the room
+ *     32  no such device                      33  the group output is shorter than D
+ *     34  no such state
+ *
+ *
+ * MEMORY
+ *
+ * All memory is the caller's. It is used during the call only; nothing is allocated or kept. On a
+ * refusal every other field of the answer is 0, and memory lent for writing is as it was.
+ *
+ * A pointer and the length after it, which counts elements and not bytes, are a slice: the pointer
+ * is aligned for its type, and that many elements may be read (and written, where it is not const)
+ * and have been written before. Memory lent for writing overlaps no other memory of the call;
+ * memory that is only read may overlap. Nothing is read or written through a pointer whose length
+ * is 0, so it may be null. The calls keep no state of their own: threads may call at once where none
+ * lends memory for writing that another uses.
+ */
+#ifndef ISHKRELA_H
+#define ISHKRELA_H
+
+#include <stddef.h>
+#include <stdint.h>
+
+#ifdef __cplusplus
+extern "C" {
+#endif
+
+#define ISHKRELA_NUMBER(refusal) ((refusal) % 256)
+#define ISHKRELA_STEP(refusal) ((refusal) / 256)
+
+/* The five lists of a sharding: dimensions 0 to 3, then the unreduced list, ISHKRELA_UNREDUCED.
+ * List d has counts[d] axes, axes[6 * d] and those after it; places not used are 0. */
+#define ISHKRELA_UNREDUCED 4
+#define ISHKRELA_AXIS(answer, list, i) ((answer).axes[6 * (list) + (i)])
+
+/* The answer of the check, of the last state. */
+typedef struct {
+    uint32_t refusal;   /* 0, or the refusal; every other field is then 0 */
+    uint32_t room;      /* the words that work and spare need for a run */
+    uint16_t devices;   /* D */
+    uint16_t steps;     /* the number of steps */
+    uint16_t rank;      /* the number of dimensions */
+    uint16_t shard[4];  /* the sizes of a shard; 0 past the rank */
+    uint8_t counts[5];  /* how many axes each list has */
+    uint8_t axes[30];   /* the axes of each list, in six places */
+} ishkrela_checked;
+
+/* The answer of the placement, of the state asked for. */
+typedef struct {
+    uint32_t refusal;   /* 0, or the refusal; every other field is then 0 */
+    uint16_t rank;      /* the number of dimensions */
+    uint16_t shard[4];  /* the sizes of a shard; 0 past the rank */
+    uint16_t first[4];  /* where in the table the device's shard begins; 0 past the rank */
+    uint8_t counts[5];  /* how many axes each list has */
+    uint8_t axes[30];   /* the axes of each list, in six places */
+} ishkrela_placed;
+
+/* Judges a plan file, and announces its last state. Refusals 1 to 28. */
+ishkrela_checked ishkrela_check(const uint8_t *file, size_t file_len);
+
+/* Announces a state of a plan, and where a device's shard begins in the table.
+ * Refusals of the check; then 34, then 32. */
+ishkrela_placed ishkrela_place(const uint8_t *file, size_t file_len, uint16_t state, uint16_t device);
+
+/* Lists the devices of a mesh, group by group along a list of axes: groups in row-major order of
+ * the other axes, devices by position. Writes D numbers; those after them stay.
+ * Refusals 5, 10, 11, 14, 15, 33, in that order. */
+uint32_t ishkrela_groups(const uint16_t *mesh, size_t mesh_len, const uint8_t *axes, size_t axes_len,
+                         uint16_t *out, size_t out_len);
+
+#ifdef __cplusplus
+}
+#endif
+
+#endif
