@@ -96,10 +96,14 @@ impl Limit {
         self.seen.extend(ratio.map(|ratio| (ratio, label.into())));
     }
 
-    fn tell(&self, page: &mut String) {
-        // As printed: a ratio that is shown as the limit itself is not over it.
+    /// What was seen over the limit; a ratio that is shown as the limit itself is not over it.
+    fn over(&self) -> impl Iterator<Item = &(f64, String)> {
         let over = |(ratio, _): &&(f64, String)| *ratio >= self.most + 0.005;
-        let over = self.seen.iter().filter(over).count();
+        self.seen.iter().filter(over)
+    }
+
+    fn tell(&self, page: &mut String) {
+        let over = self.over().count();
         let largest = self.seen.iter().max_by(|one, two| one.0.total_cmp(&two.0));
         let label = largest.map_or("", |(_, label)| label);
         let verdict = match (largest, over) {
@@ -162,15 +166,27 @@ impl Limits {
             "largest",
             ""
         );
-        let of_steps = [&self.long, &self.middle, &self.single, &self.whole];
-        let of_calls = [&self.small_call, &self.one_step_run, &self.step];
-        let of_calls = of_calls.into_iter().chain([&self.whole_run]);
-        for limit in of_steps
-            .into_iter()
-            .chain([&self.reduction])
-            .chain(of_calls)
-        {
+        let beside_copies = [&self.long, &self.middle, &self.single, &self.whole];
+        let beside_additions = [&self.reduction];
+        let beside_reference = [
+            &self.small_call,
+            &self.one_step_run,
+            &self.step,
+            &self.whole_run,
+        ];
+        let groups: [&[&Limit]; 3] = [&beside_copies, &beside_additions, &beside_reference];
+        for limit in groups.concat() {
             limit.tell(page);
+        }
+        let slower = beside_reference.iter().map(|limit| limit.over().count());
+        if slower.sum::<usize>() == 0 {
+            return;
+        }
+        say!(page, "\nWhere the library is slower than the reference:\n");
+        for limit in beside_reference {
+            for (ratio, label) in limit.over() {
+                say!(page, "    {:<40} {ratio:>5.2}  {label}", limit.ratio);
+            }
         }
     }
 }
@@ -392,7 +408,10 @@ fn move_shapes() -> Vec<(&'static str, usize, usize, Vec<u16>)> {
             let row = run * group;
             shapes.push(("last", run, group, table(&[MOST_WORDS / row, row])));
         }
-        for row in RUNS.into_iter().filter(|row| row * group <= MOST_WORDS) {
+        for row in [16, 256]
+            .into_iter()
+            .filter(|row| row * group <= MOST_WORDS)
+        {
             shapes.push(("first", row, group, table(&[MOST_WORDS / row, row])));
         }
     }
