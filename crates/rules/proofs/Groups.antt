@@ -92,10 +92,6 @@ module _ (mesh L : List ℕ) (distinct : Distinct L) (of-axes : (a : ℕ) → In
       at : (q : ℕ) → q < span mesh L → position mesh L (member mesh L q x) ≡ q
       at q l = position-member mesh L q x distinct (λ a i. rw (below-length bx) (of-axes a i)) l
 
-  -- the member at a device's own position is that device
-  pub member-own : {x : List ℕ} → Below x mesh → member mesh L (position mesh L x) x ≡ x
-  member-own bx = member-at bx bx (λ a l off. refl)
-
 -- ---- the sizes of groups
 
 module _ (mesh : List ℕ) where

@@ -1,17 +1,17 @@
 -- The bridge from the kernels to the rules. A step that only moves words gathers along some lists of axes and slices along others, never both along
 -- one dimension, so a kernel may slice first and then gather: what it leaves (`moved`) is what the rules make of an accepted all-slice, all-gather or
--- all-to-all (`step-moved`), for every element type. What such a kernel asks of its lists and sizes is one record (`Moves`, `step-moves`). What the
--- rules make of an all-reduce is a list by places, as a kernel by device numbers writes it (`reduced-words`). Assumes nothing.
+-- all-to-all (`step-moved`), for every element type. What such a kernel asks of its lists and sizes is one record (`Moves`, `step-moves`).
+-- Assumes nothing.
 use Prim.Native.Nat.{ℕ, zero, suc, _+_, _*_, _/_, _%_, _<_, _≤_}
 use mathlib.Core.Path.{_≡_, refl, sym, ap, ap₂, _∙_, subst}
 use mathlib.Core.Logic.{_≢_}
 use mathlib.Core.List.{List, [], _∷_}
-use native.Mathlib.Nat.{mod-lt, mod-eq-of-lt, mul-one, one-mul, mul-comm, div-one, mul-div-cancel, le-mul-of-pos-right}
+use native.Mathlib.Nat.{mod-eq-of-lt, mul-one, one-mul, mul-comm, div-one, mul-div-cancel, le-mul-of-pos-right}
 use native.Mathlib.Omega.{arith}
 use lib.ListN.{length, getD, replicate, length-replicate, length-set}
 use lib.Arith.{digits-lt}
-use Rattle.rules.specs.Lists.{tab, flat, product, In, Distinct, Below, none, more}
-use Rattle.rules.specs.Mesh.{number, coords, deviceNumber, deviceCoords, devices, span, position, member}
+use Rattle.rules.specs.Lists.{flat, product, In, Distinct, Below, none, more}
+use Rattle.rules.specs.Mesh.{span, position, member}
 use Rattle.rules.specs.Sharding.{Sharding, shardSizes, firstIndexes, IsSharding}
 use Rattle.rules.specs.Spread.{StateOf, tabulate, held, from}
 use Rattle.rules.specs.Collectives.{
@@ -28,17 +28,15 @@ use Rattle.rules.specs.Collectives.{
   within,
   slicePlace,
   gatherPlace,
-  reducePlaces,
   sources,
   made,
 }
-use Rattle.rules.proofs.Lists.{tab-cong, distinct-few}
+use Rattle.rules.proofs.Lists.{distinct-few}
 use Rattle.rules.proofs.Positions.{pos-of-lt, position-lt}
-use Rattle.rules.proofs.Buffers.{number-coords, tabulate-same}
+use Rattle.rules.proofs.Buffers.{tabulate-same}
 use Rattle.rules.proofs.Shapes.{Cut, cut, uncut, cut-lengths, piece-below}
 use Rattle.rules.proofs.Sizes.{cut-product, span-pos}
-use Rattle.rules.proofs.Sums.{members-tab}
-use Rattle.rules.proofs.Sources.{Ready, in-only, made-reduce}
+use Rattle.rules.proofs.Sources.{Ready, in-only}
 use Rattle.rules.proofs.Steps.{
   AcceptedStep,
   flat-empty,
@@ -340,21 +338,3 @@ module _ (mesh sizes : List ℕ) (pos : (a : ℕ) → zero < getD mesh a 1) wher
         new-words-pos = new .0;
         new-words-few = new .1;
       }
-
--- ---- the reduction
-
--- What the rules make of an all-reduce, place by place: device numbers in place of coordinates, and no index.
-pub reduced-words : {W : Type 0} (addAll : List W → W) (z : W) (mesh shape L : List ℕ) (old : List W)
-    → tabulate mesh shape (made addAll (reducePlaces mesh L) (held z mesh shape old))
-    ≡ tab (devices mesh * product shape) (λ p. addAll (tab (span mesh L) (λ q.
-    getD old (deviceNumber mesh (member mesh L q (deviceCoords mesh (p / product shape))) * product shape + p % product shape) z)))
-unfolding tabulate held
-reduced-words addAll z mesh shape L old =
-    let m : ℕ = product shape in
-    tab-cong (devices mesh * m) _ _ (λ p l.
-    let x : List ℕ = deviceCoords mesh (p / m) in
-    let i : List ℕ = coords shape (p % m) in
-    let e : number shape i ≡ p % m = number-coords shape (p % m) (mod-lt p (pos-of-lt (devices mesh) m l)) in
-    made-reduce addAll mesh L (held z mesh shape old) x i
-    ∙ ap addAll (members-tab (λ y. held z mesh shape old y i) mesh L x
-    ∙ tab-cong (span mesh L) _ _ (λ q k. ap (λ (n : ℕ). getD old (deviceNumber mesh (member mesh L q x) * m + n) z) e)))

@@ -1,5 +1,5 @@
 -- Document 01, "Ledger of worked plans": W1 (the check's answer) to W10 as one table under one statement, of the definitions that the calls'
--- promises cite. Beside it, W4 with gather [0] and then [1]. Assumes nothing.
+-- promises cite. Beside it, W3's second group, W4 with gather [0] and then [1], and plans at the limits. Assumes nothing.
 use Prim.Native.Nat.{ℕ, _+_, _-_, _*_, _/_, _%_}
 use mathlib.Core.Path.{_≡_, refl}
 use mathlib.Core.List.{List, [], _∷_, _++_}
@@ -143,8 +143,31 @@ w1-bytes : fileOf (2 ∷ 2 ∷ []) (4 ∷ 4 ∷ []) ((0 ∷ []) ∷ (1 ∷ []) �
 unfolding fileOf
 w1-bytes = refl
 
+-- W3, its second group: the next one along the remaining axes in row-major order
+second-group : take 3 (drop 15 (groupsLeave (2 ∷ 3 ∷ 4 ∷ 5 ∷ []) (3 ∷ 1 ∷ []) (nines 120))) ≡ 5 ∷ 25 ∷ 45 ∷ []
+unfolding groupsLeave
+second-group = refl
+
 -- W4, gather [0] and then [1]: a run that does the first collective and relabels the later ones leaves other words
 two-gathers : Holds (ran (w4 ((2 ∷ 1 ∷ 0 ∷ []) ∷ (2 ∷ 1 ∷ 1 ∷ []) ∷ [])) (10 ∷ 30 ∷ 20 ∷ 40 ∷ [])
     (10 ∷ 20 ∷ 30 ∷ 40 ∷ 10 ∷ 20 ∷ 30 ∷ 40 ∷ 10 ∷ 20 ∷ 30 ∷ 40 ∷ 10 ∷ 20 ∷ 30 ∷ 40 ∷ []))
 unfolding fileOf runOf
 two-gathers = refl
+
+-- "Mesh 256 with 4,096 words passes; mesh 257 gives 11; table 4,097 gives 13. 64 steps pass, 65 give 5." And six axes with four dimensions pass.
+-- The steps: a dimension split along axis 0 and gathered, in turn.
+abbrev pub toAndFro : ℕ → List ℕ
+toAndFro n = fileOf (2 ∷ []) (2 ∷ []) ([] ∷ [] ∷ []) (tab n (λ k. (1 + k % 2) ∷ 1 ∷ 0 ∷ []))
+
+limits :
+    (checkOf (fileOf (256 ∷ []) (4096 ∷ []) ((0 ∷ []) ∷ [] ∷ []) [])
+    ≡ accept (record { room = 4096; devices = 256; steps = 0; rank = 1; sharding = record { dims = (0 ∷ []) ∷ []; unreduced = [] }; shard = 16 ∷ [] }))
+    × (checkOf (fileOf (257 ∷ []) (4096 ∷ []) ([] ∷ [] ∷ []) []) ≡ refuse 11 0)
+    × (checkOf (fileOf (256 ∷ []) (4097 ∷ []) ([] ∷ [] ∷ []) []) ≡ refuse 13 0)
+    × (checkOf (toAndFro 64)
+    ≡ accept (record { room = 4; devices = 2; steps = 64; rank = 1; sharding = record { dims = [] ∷ []; unreduced = [] }; shard = 2 ∷ [] }))
+    × (checkOf (toAndFro 65) ≡ refuse 5 0)
+    × (checkOf (fileOf (replicate 6 1) (replicate 4 2) (replicate 5 []) [])
+    ≡ accept (record { room = 16; devices = 1; steps = 0; rank = 4; sharding = record { dims = replicate 4 []; unreduced = [] }; shard = replicate 4 2 }))
+unfolding fileOf checkOf
+limits = (refl, refl, refl, refl, refl, refl)

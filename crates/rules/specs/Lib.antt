@@ -12,3 +12,4 @@ pub mod Calls
 pub mod Demands
 pub mod Ledger
 pub mod Refused
+pub mod Meanings

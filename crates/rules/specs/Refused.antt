@@ -71,6 +71,7 @@ refusals =
     ∷ checked (start ([] ∷ [] ∷ (1 ∷ 1 ∷ []) ∷ [])) (refuse 15 0)
     ∷ checked (start ([] ∷ [] ∷ (1 ∷ 0 ∷ []) ∷ [])) (refuse 16 0)
     ∷ checked (start ((0 ∷ []) ∷ [] ∷ (1 ∷ 0 ∷ []) ∷ [])) (refuse 15 0)
+    ∷ checked (start ([] ∷ (0 ∷ 0 ∷ []) ∷ [] ∷ [])) (refuse 15 0)
     ∷ checked (fileOf (2 ∷ 2 ∷ 2 ∷ []) (4 ∷ []) ([] ∷ (2 ∷ 1 ∷ 7 ∷ []) ∷ []) []) (refuse 16 0)
     ∷ checked (one ([] ∷ (0 ∷ []) ∷ [] ∷ []) (5 ∷ [])) (refuse 17 0)
     -- a step: its bytes
@@ -103,7 +104,8 @@ refusals =
     ∷ checked (one split (4 ∷ 0 ∷ 2 ∷ 1 ∷ 0 ∷ [])) (refuse 28 1)
     ∷ checked (one split (4 ∷ 0 ∷ 1 ∷ 1 ∷ 1 ∷ [])) (refuse 24 1)
     ∷ checked (one split (4 ∷ 0 ∷ 1 ∷ 1 ∷ 0 ∷ [])) (refuse 25 1)
-    -- the second step, and bytes after the last
+    -- a step is judged before the next is read; the second step, and bytes after the last
+    ∷ checked (set (but 34 0) 6 2) (refuse 24 1)
     ∷ checked (fileOf (2 ∷ 2 ∷ []) (4 ∷ 3 ∷ []) split ((2 ∷ 1 ∷ 0 ∷ 0 ∷ []) ∷ (2 ∷ 1 ∷ 0 ∷ 0 ∷ []) ∷ [])) (refuse 24 2)
     ∷ checked (but 16 36 ++ 0 ∷ []) (refuse 9 0)
     ∷ []
@@ -222,7 +224,7 @@ refused = (
                                                                                                               refl,
                                                                                                               (
                                                                                                                 refl,
-                                                                                                                (refl, tt),
+                                                                                                                (refl, (refl, (refl, tt))),
                                                                                                               ),
                                                                                                             ),
                                                                                                           ),

@@ -1,5 +1,5 @@
--- One step of the code: what it reads is the plan's next step (`taken-is`), what it asks for holds (`turn-ready`, `turn-stepping`), and how many words
--- the new state has (`turn-fits`). Assumes nothing.
+-- One step of the code: what it reads is the plan's next step (`taken-is`), what it asks for holds (`turn-ready`, `turn-asks`), and what it leaves is
+-- what the rules make (`turn-leaves`). Assumes nothing.
 use Prim.Native.Nat.{ℕ, _+_, _*_, _≤_, _<_}
 use mathlib.Core.Path.{_≡_, refl, sym, ap, _∙_, subst, transport}
 use mathlib.Core.List.{List}
@@ -27,7 +27,7 @@ use Rattle.plan.specs.Parts.{Holds, Move, takeStep, takenRead}
 use Rattle.plan.specs.declared.Taken.{Taken}
 use Rattle.plan.specs.declared.Whole.{Whole}
 use Rattle.step.specs.Stepping.{Stepping, steppedBuffer}
-use Rattle.run.specs.Turns.{Turn}
+use Rattle.run.specs.Turns.{Turn, Takes, shapeOf, nextBuffer}
 use Rattle.run.proofs.Turns.{NextStep, next-step, stepping}
 
 -- what a reading that passes holds
@@ -49,7 +49,7 @@ module _ {file : List ℕ} {at number : ℕ} {w : Whole} {s : code.Sharding} {wo
   turn-accepted = accepted file plan (h .runs .judged)
 
   -- the code's shard sizes are the announced ones
-  pub shape-here : shardSizes (meshOf (w .mesh)) (sizesOf (w .table)) (take (w .table .rank) (dimsOf s)) ≡ announcedShape plan (h .done)
+  pub shape-here : shapeOf w s ≡ announcedShape plan (h .done)
   unfolding announcedShape
   shape-here = λ i. shardSizes (sym (held .mesh-is) i) (sym (held .sizes-are) i) (h .sharding-is i .dims)
 
@@ -63,10 +63,9 @@ module _ {file : List ℕ} {at number : ℕ} {w : Whole} {s : code.Sharding} {wo
     pub next-is : r .next ≡ next.At (turn-next .next)
     pub step-is : stepOf (w .table .rank) (r .step) ≡ turn-next .step
     pub sharding-after : shardingOf (w .table .rank) (r .sharding) ≡ announced plan (h .done + 1)
-    pub shape-after : shardSizes (meshOf (w .mesh)) (sizesOf (w .table)) (take (w .table .rank) (dimsOf (r .sharding))) ≡ announcedShape plan (h .done + 1)
+    pub shape-after : shapeOf w (r .sharding) ≡ announcedShape plan (h .done + 1)
 
-  pub taken-is : (r : Taken)
-      → takenRead (w .table .rank) r ≡ takeStep (meshOf (w .mesh)) (sizesOf (w .table)) number file at (shardingOf (w .table .rank) s) → TakenIs r
+  pub taken-is : (r : Taken) → Takes file at number w s r → TakenIs r
   unfolding announcedShape
   taken-is r e =
       let n : NextStep file at plan (h .done) = turn-next in
@@ -82,43 +81,32 @@ module _ {file : List ℕ} {at number : ℕ} {w : Whole} {s : code.Sharding} {wo
 
   module _ {r : Taken} (t : TakenIs r) where
     abbrev size : ℕ
-    size = product (shardSizes (meshOf (w .mesh)) (sizesOf (w .table)) (take (w .table .rank) (dimsOf (r .sharding))))
+    size = product (shapeOf w (r .sharding))
 
-    pub turn-stepping : Stepping (meshOf (w .mesh)) (shardSizes (meshOf (w .mesh)) (sizesOf (w .table)) (take (w .table .rank) (dimsOf s)))
+    pub turn-stepping : Stepping (meshOf (w .mesh)) (shapeOf w s)
         (stepOf (w .table .rank) (r .step)) size work spare
     turn-stepping =
         transport (λ i. Stepping (held .mesh-is i) (sym shape-here i) (sym (t .step-is) i) (product (sym (t .shape-after) i)) work spare)
         (stepping file plan (h .runs .judged) turn-next (h .runs .work-room) (h .runs .spare-room))
 
-    -- the new state fits the buffers, and its words are few
-    pub record TurnFits : Type 0 where
-      pub count-is : w .devices * size ≡ devices (meshOf (w .mesh)) * size
-      pub inside : w .devices * size ≤ work
-      pub few : w .devices * size ≤ mostDevices * mostWords
-
-    pub turn-fits : TurnFits
-    turn-fits =
-        let d : devices (plan .mesh) ≡ w .devices = held .devices-are in
-        let l : devices (plan .mesh) * product (announcedShape plan (h .done + 1)) ≤ room plan =
-        state turn-accepted (h .done + 1) .fits (omega (arith, h .more)) in
-        let f : w .devices * size ≤ room plan = transport (λ i. d i * product (sym (t .shape-after) i) ≤ room plan) l in
-        record {
-          count-is = ap (λ (n : ℕ). n * size) (sym d ∙ ap devices (held .mesh-is));
-          inside = omega (arith, f, h .runs .work-room);
-          few = omega (arith, f, room-few turn-accepted);
-        }
-
     -- what the code gives the step, and what it leaves, from the sizes that the code has computed
-    module _ {shape : List ℕ} {words count : ℕ} (shape-is : shape ≡ shardSizes (meshOf (w .mesh)) (sizesOf (w .table)) (take (w .table .rank) (dimsOf s)))
-        (rank-is : length shape ≡ w .table .rank) (words-are : words ≡ size) (count-is : count ≡ w .devices * words) where
+    module _ {shape : List ℕ} {words : ℕ} (shape-is : shape ≡ shapeOf w s) (rank-is : length shape ≡ w .table .rank) (words-are : words ≡ size) where
       pub turn-asks : Stepping (meshOf (w .mesh)) shape (stepOf (length shape) (r .step)) words work spare
-          × ((count ≡ devices (meshOf (w .mesh)) * words) × (count ≤ work))
-      turn-asks = rw (shape-is, words-are) (
-        subst (λ (n : ℕ). Stepping (meshOf (w .mesh)) (shardSizes (meshOf (w .mesh)) (sizesOf (w .table)) (take (w .table .rank) (dimsOf s))) (stepOf n (r .step)) size work spare) (sym rank-is ∙ ap length shape-is) turn-stepping,
-        (count-is ∙ ap (λ (n : ℕ). w .devices * n) words-are ∙ turn-fits .count-is, omega (arith, count-is, ap (λ (n : ℕ). w .devices * n) words-are, turn-fits .inside)),
-      )
+      turn-asks = rw (shape-is, words-are) (subst (λ (n : ℕ). Stepping (meshOf (w .mesh)) (shapeOf w s) (stepOf n (r .step)) size work spare)
+          (sym rank-is ∙ ap length shape-is) turn-stepping)
 
-      pub turn-leaves : (old : List ℕ) {new : List ℕ} → new ≡ steppedBuffer (meshOf (w .mesh)) shape (stepOf (length shape) (r .step)) words old old
-          → new ≡ steppedBuffer (meshOf (w .mesh)) (shardSizes (meshOf (w .mesh)) (sizesOf (w .table)) (take (w .table .rank) (dimsOf s)))
-          (stepOf (w .table .rank) (r .step)) size old old
-      turn-leaves old e = e ∙ (λ i. steppedBuffer (meshOf (w .mesh)) (shape-is i) (stepOf (rank-is i) (r .step)) (words-are i) old old)
+      pub turn-leaves : (old new : List ℕ) {left : List ℕ}
+          → left ≡ steppedBuffer (meshOf (w .mesh)) shape (stepOf (length shape) (r .step)) words old new → left ≡ nextBuffer w s r old new
+      turn-leaves old new e = e ∙ (λ i. steppedBuffer (meshOf (w .mesh)) (shape-is i) (stepOf (rank-is i) (r .step)) (words-are i) old new)
+
+  -- the same step the other way
+  pub turn-back : Turn file at number w s spare work
+  turn-back = record {
+    first = h .first;
+    runs = record { plan = plan; judged = h .runs .judged; holds = held; work-room = h .runs .spare-room; spare-room = h .runs .work-room };
+    done = h .done;
+    number-is = h .number-is;
+    more = h .more;
+    sharding-is = h .sharding-is;
+    reads = h .reads;
+  }

@@ -79,18 +79,18 @@ module _ {file : List ℕ} {at : ℕ} {w : Whole} (h : (p : Plan) × (judge file
       sym (last-length file given p (h .1)
       ∙ (λ i. g .devices-are i * product (shardSizes (g .mesh-is i) (g .sizes-are i) (g .last-is i .dims))))
 
-  pub record LastFits (work : ℕ) : Type 0 where
-    pub in-work : w .devices * product (answerOf w .shard) ≤ work
+  pub record LastFits (buffer : ℕ) : Type 0 where
+    pub inside : w .devices * product (answerOf w .shard) ≤ buffer
     pub few : w .devices * product (answerOf w .shard) ≤ mostDevices * mostWords
 
-  pub last-fits : {work : ℕ} → w .devices * w .most ≤ work → LastFits work
+  pub last-fits : {buffer : ℕ} → w .devices * w .most ≤ buffer → LastFits buffer
   last-fits l =
       let p : Plan = h .0 in
       let a : AcceptedPlan p = accepted file p (h .1) in
       let n : ℕ = length (p .steps) in
       let f : devices (p .mesh) * product (announcedShape p n) ≤ room p = state a n .fits (omega arith) in
       let e : w .devices * product (answerOf w .shard) ≡ devices (p .mesh) * product (announcedShape p n) = last-size [] ∙ last-length file [] p (h .1) in
-      record { in-work = omega (arith, e, f, h .2 .room-is); few = omega (arith, e, f, room-few a) }
+      record { inside = omega (arith, e, f, h .2 .room-is); few = omega (arith, e, f, room-few a) }
 
 -- ---- what a run that is the definition's promises
 

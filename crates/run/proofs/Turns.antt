@@ -32,16 +32,6 @@ pub tab-same : {A : Type 0} (n : ℕ) (a : A) → tab n (λ k. a) ≡ replicate 
 tab-same zero a = refl
 tab-same (suc n) a = ap (λ (l : List _). l ++ a ∷ []) (tab-same n a) ∙ replicate-append-replicate n 1 a ∙ ap (λ (k : ℕ). replicate k a) (add-one n)
 
--- the state that a step made in spare, copied back to work
-pub copied-back : {mesh shape : List ℕ} {t : Step} {words old new : ℕ} → Stepping mesh shape t words old new → (count : ℕ) (work spare : List ℕ) {new-spare copied : List ℕ}
-    → count ≡ devices mesh * words → new-spare ≡ steppedBuffer mesh shape t words work spare → copied ≡ take count new-spare
-    → copied ++ drop count work ≡ steppedBuffer mesh shape t words work work
-copied-back {mesh} {shape} {t} {words} h count work spare q e f =
-    let w : StateOf ℕ = made addWords (sources mesh t shape) (held 0 mesh shape work) in
-    let state : List ℕ = tabulate mesh (shapeAfter mesh t shape) w in
-    let l : length state ≡ count = length-tabulate mesh (shapeAfter mesh t shape) w ∙ ap (λ (n : ℕ). devices mesh * n) (sym (h .words-are)) ∙ sym q in
-    ap (λ (z : List ℕ). z ++ drop count work) (f ∙ ap (take count) e ∙ take-at state _ count l) ∙ ap (λ (k : ℕ). state ++ drop k work) q
-
 -- ---- the next step
 
 pub record NextStep (file : List ℕ) (at : ℕ) (p : Plan) (k : ℕ) : Type 0 where
@@ -140,17 +130,17 @@ module _ (file : List ℕ) (p : Plan) (e : judge file ≡ accept p) where
         ap (λ (shape : List ℕ). made addWords (sources (p .mesh) (n .step) shape) (shardsAfter p given k .words)) (sym (whole-plan file p e .shapes given k (omega (arith, n .more))))
         ∙ ap (λ (v : Shards ℕ). v .words) (sym (in-turn-next (stepped addWords (p .mesh)) k (n .step) (p .steps) (drop (k + 1) (p .steps)) _ (n .steps-left)))
 
-    pub state-next : (given work : List ℕ) → Fronts p given k work
-        → Fronts p given (k + 1) (steppedBuffer (p .mesh) (announcedShape p k) (n .step) (product (announcedShape p (k + 1))) work work)
-    state-next given work h =
+    pub state-next : (given old new : List ℕ) → Fronts p given k old
+        → Fronts p given (k + 1) (steppedBuffer (p .mesh) (announcedShape p k) (n .step) (product (announcedShape p (k + 1))) old new)
+    state-next given old new h =
         let a : AcceptedPlan p = plan-accepted in
         let mesh : List ℕ = p .mesh in
         let shape : List ℕ = announcedShape p k in
-        let new : StateOf ℕ = made addWords (sources mesh (n .step) shape) (held 0 mesh shape work) in
+        let w : StateOf ℕ = made addWords (sources mesh (n .step) shape) (held 0 mesh shape old) in
         let g : shapeAfter mesh (n .step) shape ≡ announcedShape p (k + 1) = next-shape a k (n .step) _ (n .steps-left) in
-        take-at _ _ _ (length-tabulate mesh (shapeAfter mesh (n .step) shape) new ∙ ap (λ (l : List ℕ). devices mesh * product l) g)
-        ∙ ap (λ (l : List ℕ). tabulate mesh l new) g
-        ∙ tabulate-same mesh (announcedShape p (k + 1)) new (shardsAfter p given (k + 1) .words) (λ x i bx bi.
-        step-local mesh addWords (n .step) shape (held 0 mesh shape work) (shardsAfter p given k .words) x i
-        (next-ready a k (n .step) _ (n .steps-left)) bx (subst (Below i) (sym g) bi) (λ y j by bj _. front-word given work h y j by bj)
-        ∙ ap (λ (w : StateOf ℕ). w x i) (shards-next given))
+        take-at _ _ _ (length-tabulate mesh (shapeAfter mesh (n .step) shape) w ∙ ap (λ (l : List ℕ). devices mesh * product l) g)
+        ∙ ap (λ (l : List ℕ). tabulate mesh l w) g
+        ∙ tabulate-same mesh (announcedShape p (k + 1)) w (shardsAfter p given (k + 1) .words) (λ x i bx bi.
+        step-local mesh addWords (n .step) shape (held 0 mesh shape old) (shardsAfter p given k .words) x i
+        (next-ready a k (n .step) _ (n .steps-left)) bx (subst (Below i) (sym g) bi) (λ y j by bj _. front-word given old h y j by bj)
+        ∙ ap (λ (v : StateOf ℕ). v x i) (shards-next given))

@@ -3,13 +3,19 @@ use Prim.Native.Nat.{ℕ, _+_, _-_, _≤_, _<_}
 use mathlib.Core.Path.{_≡_}
 use mathlib.Core.List.{List}
 use lib.ListN.{length, take, drop}
+use Rattle.rules.specs.Lists.{product}
+use Rattle.rules.specs.Sharding.{shardSizes}
 use Rattle.rules.specs.Refusals.{accept}
 use Rattle.rules.specs.PlanFile.{stepsAt, Plan, judge, announced, room}
 use Rattle.rules.specs.Calls.{lastState}
-use Rattle.rules.specs.Types.{shardingOf}
+use Rattle.rules.specs.Types.{dimsOf, shardingOf, stepOf}
 use Rattle.rules.specs.declared.Sharding as code
-use Rattle.plan.specs.Parts.{Holds}
+use Rattle.axes.specs.Mesh.{meshOf}
+use Rattle.dims.specs.Dims.{sizesOf}
+use Rattle.plan.specs.Parts.{Holds, takeStep, takenRead}
+use Rattle.plan.specs.declared.Taken.{Taken}
 use Rattle.plan.specs.declared.Whole.{Whole}
+use Rattle.step.specs.Stepping.{steppedBuffer}
 
 -- a plan that passed, its steps from `at` on, and buffers with room for it
 pub record Runs (file : List ℕ) (at : ℕ) (w : Whole) (work spare : ℕ) : Type 0 where
@@ -33,6 +39,19 @@ pub record Turn (file : List ℕ) (at number : ℕ) (w : Whole) (s : code.Shardi
   pub more : done < length (runs .plan .steps)
   pub sharding-is : shardingOf (w .table .rank) s ≡ announced (runs .plan) done
   pub reads : ReadsOn file at (runs .plan) done
+
+-- the step that is read at `at` and judged, of the number and the sharding given
+abbrev pub Takes : List ℕ → (at number : ℕ) → Whole → code.Sharding → Taken → Type 0
+Takes file at number w s r =
+    takenRead (w .table .rank) r ≡ takeStep (meshOf (w .mesh)) (sizesOf (w .table)) number file at (shardingOf (w .table .rank) s)
+
+-- a state's shard sizes, and what the step that was taken leaves of the old buffer in the new one
+abbrev pub shapeOf : Whole → code.Sharding → List ℕ
+shapeOf w s = shardSizes (meshOf (w .mesh)) (sizesOf (w .table)) (take (w .table .rank) (dimsOf s))
+
+abbrev pub nextBuffer : Whole → code.Sharding → Taken → (old new : List ℕ) → List ℕ
+nextBuffer w s r old new =
+    steppedBuffer (meshOf (w .mesh)) (shapeOf w s) (stepOf (w .table .rank) (r .step)) (product (shapeOf w (r .sharding))) old new
 
 -- the buffer begins with the state that the plan's last step leaves, from the words given
 abbrev pub BeginsWithLast : (file given buffer : List ℕ) → Type 0

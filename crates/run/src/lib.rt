@@ -4,16 +4,10 @@
 ghost use mathlib.Core.Path.{_≡_};
 ghost use Prim.Native.Nat.{_*_, _≤_};
 ghost use lib.ListN.{length, take, replicate};
-ghost use Rattle.rules.specs.Lists.{product};
+ghost use Rattle.rules.specs.Lists.{pick, product};
 ghost use Rattle.rules.specs.Limits.{mostDevices, mostWords};
-ghost use Rattle.rules.specs.Mesh.{devices as devicesOf};
-ghost use Rattle.rules.specs.Sharding.{shardSizes};
-ghost use Rattle.rules.specs.Types.{dimsOf, shardingOf, stepOf};
-ghost use Rattle.axes.specs.Mesh.{meshOf};
-ghost use Rattle.dims.specs.Dims.{sizesOf};
-ghost use Rattle.plan.specs.Parts.{Bounded, answerOf, takeStep, takenRead};
-ghost use Rattle.step.specs.Stepping.{Stepping, steppedBuffer};
-ghost use Rattle.run.specs.Turns.{Turn, Runs, BeginsWithLast};
+ghost use Rattle.plan.specs.Parts.{Bounded, answerOf};
+ghost use Rattle.run.specs.Turns.{Runs, Turn, Takes, nextBuffer, BeginsWithLast};
 ghost use Rattle.run.specs.Promise.{RunPromise};
 use dims::shard_of;
 use dims::words;
@@ -26,7 +20,6 @@ use rules::Reason;
 use rules::Refusal;
 use rules::RunOutcome;
 use rules::Sharding;
-use rules::Step;
 use step::step_into;
 use strided::copy_run;
 
@@ -41,41 +34,19 @@ fn clear(words: &mut [u32])
     }
 }
 
-// One step, by way of spare: the new state, of count words in all, at the front of work, whose other words stay.
-fn step_over(
-    work: &mut [u32],
-    spare: &mut [u32],
-    mesh: &[u16],
-    shape: &[u16],
-    step: Step,
-    words: usize,
-    count: usize,
-)
-    requires { ⌜ Stepping (now mesh) (now shape) (stepOf (length (now shape)) step) words (length (now work)) (length (now spare)) ⌝ }
-    requires { ⌜ (count ≡ devicesOf (now mesh) * words) × (count ≤ length (now work)) ⌝ }
-    ensures { λ _. ⌜ now (work .exit) ≡ steppedBuffer (now (mesh .entry)) (now (shape .entry)) (stepOf (length (now (shape .entry))) step) words
-        (now (work .entry)) (now (work .entry)) ⌝ }
-{
-    step_into(work, spare, mesh, shape, step, words);
-    copy_run(&mut work[..count], &spare[..count]);
-}
-
-// Step k, read again and done.
+// Step k, read again and done: from the state in old, the next one at the front of new, whose other words stay.
 fn do_step(
     file: &[u8],
     at: usize,
     k: u16,
     whole: Whole,
     sharding: Sharding,
-    work: &mut [u32],
-    spare: &mut [u32],
+    old: &[u32],
+    new: &mut [u32],
 ) -> Taken
-    requires { ⌜ Turn (now file) at k whole sharding (length (now work)) (length (now spare)) ⌝ }
-    ensures { λ r. ⌜ takenRead (whole .table .rank) r ≡ takeStep (meshOf (whole .mesh)) (sizesOf (whole .table)) k (now (file .entry)) at
-        (shardingOf (whole .table .rank) sharding) ⌝ }
-    ensures { λ r. ⌜ now (work .exit) ≡ steppedBuffer (meshOf (whole .mesh)) (shardSizes (meshOf (whole .mesh)) (sizesOf (whole .table))
-        (take (whole .table .rank) (dimsOf sharding))) (stepOf (whole .table .rank) (r .step)) (product (shardSizes (meshOf (whole .mesh))
-        (sizesOf (whole .table)) (take (whole .table .rank) (dimsOf (r .sharding))))) (now (work .entry)) (now (work .entry)) ⌝ }
+    requires { ⌜ Turn (now file) at k whole sharding (length (now old)) (length (now new)) ⌝ }
+    ensures { λ r. ⌜ Takes (now (file .entry)) at k whole sharding r ⌝ }
+    ensures { λ r. ⌜ now (new .exit) ≡ nextBuffer whole sharding r (now (old .entry)) (now (new .entry)) ⌝ }
 {
     let mesh = whole.mesh;
     let table = whole.table;
@@ -83,42 +54,71 @@ fn do_step(
     let before = shard_of(table, sharding, mesh);
     let after = taken.sharding;
     let size = words(shard_of(table, after, mesh));
-    let count = whole.devices * size;
     let n = mesh.n;
     let axes = mesh.sizes;
     let rank = before.rank;
     let shape = before.sizes;
-    step_over(
-        work,
-        spare,
-        &axes[..n],
-        &shape[..rank],
-        taken.step,
-        size,
-        count,
-    );
+    step_into(old, new, &axes[..n], &shape[..rank], taken.step, size);
     taken
 }
 
-// The steps in turn: work begins with the last state.
-fn run_steps(file: &[u8], at: usize, whole: Whole, work: &mut [u32], spare: &mut [u32])
+// Step k between the two buffers: from work to spare, or back.
+fn do_turn(
+    file: &[u8],
+    at: usize,
+    k: u16,
+    whole: Whole,
+    sharding: Sharding,
+    in_work: bool,
+    work: &mut [u32],
+    spare: &mut [u32],
+) -> Taken
+    requires { ⌜ Turn (now file) at k whole sharding (length (now work)) (length (now spare)) ⌝ }
+    ensures { λ r. ⌜ Takes (now (file .entry)) at k whole sharding r ⌝ }
+    ensures { λ r. ⌜ pick in_work (now (spare .exit)) (now (work .exit)) ≡ nextBuffer whole sharding r
+        (pick in_work (now (work .entry)) (now (spare .entry))) (pick in_work (now (spare .entry)) (now (work .entry))) ⌝ }
+{
+    if in_work {
+        do_step(file, at, k, whole, sharding, work, spare)
+    } else {
+        do_step(file, at, k, whole, sharding, spare, work)
+    }
+}
+
+// The steps in turn. Answers whether the last state stands at the front of work; else it stands at that of spare.
+fn run_steps(file: &[u8], at: usize, whole: Whole, work: &mut [u32], spare: &mut [u32]) -> bool
     requires { ⌜ Runs (now file) at whole (length (now work)) (length (now spare)) ⌝ }
-    ensures { λ _. ⌜ BeginsWithLast (now (file .entry)) (now (work .entry)) (now (work .exit)) ⌝ }
+    ensures { λ r. ⌜ BeginsWithLast (now (file .entry)) (now (work .entry)) (pick r (now (work .exit)) (now (spare .exit))) ⌝ }
 {
     let steps = whole.steps;
     let mut sharding = whole.start;
     let mut place = at;
+    let mut in_work = true;
     let mut k: usize = 0;
     while k < steps {
-        let taken = do_step(file, place, (k + 1) as u16, whole, sharding, work, spare);
+        let number = (k + 1) as u16;
+        let taken = do_turn(file, place, number, whole, sharding, in_work, work, spare);
         let next = taken.next;
         let Next::At(end) = next else {
-            return;
+            return in_work;
         };
         sharding = taken.sharding;
         place = end;
+        in_work = !in_work;
         k += 1;
     }
+    in_work
+}
+
+// The last state, of so many words, at the front of work, whichever buffer it stands in.
+fn bring_home(in_work: bool, last: usize, work: &mut [u32], spare: &[u32])
+    requires { ⌜ (last ≤ length (now work)) × (last ≤ length (now spare)) ⌝ }
+    ensures { λ _. ⌜ take last (now (work .exit)) ≡ take last (pick in_work (now (work .entry)) (now (spare .entry))) ⌝ }
+{
+    if in_work {
+        return;
+    }
+    copy_run(&mut work[..last], &spare[..last]);
 }
 
 // The words of the last state.
@@ -152,8 +152,9 @@ pub fn run(file: &[u8], work: &mut [u32], spare: &mut [u32]) -> RunOutcome
     if spare.len() < room {
         return refused(Reason::SpareTooShort);
     }
-    run_steps(file, at, whole, work, spare);
+    let in_work = run_steps(file, at, whole, work, spare);
     let last = last_words(whole);
+    bring_home(in_work, last, work, spare);
     clear(&mut work[last..]);
     clear(spare);
     RunOutcome::Finished

@@ -1,11 +1,10 @@
 use borrow.Author.Needs.{needs}
 use native.Mathlib.Omega.{arith}
-use Prim.Native.Nat.{ℕ, _*_}
-use mathlib.Core.Path.{_≡_, refl, sym, ap, _∙_}
-use lib.ListN.{length, take, length-map}
+use mathlib.Core.Path.{sym, ap, _∙_}
+use lib.ListN.{length-map}
 use lib.Seq.{length-take-le}
 use Rattle.rules.specs.Lists.{product}
-use Rattle.run.proofs.Done.{turn-ready, taken-is, turn-fits, turn-asks, turn-leaves}
+use Rattle.run.proofs.Done.{turn-ready, taken-is, turn-asks, turn-leaves}
 use Rattle.run.proofs.do_step.Statement.{statement}
 use Rattle.run.proofs.do_step.Tie as tie
 
@@ -23,58 +22,47 @@ words-requires c κs =
     let f = c .before .before .before .before .before .before .before .before .before .pre .runs .holds .ready .fits in
     omega (arith, f .rank, c .shard-of2 .ensures .0)
 
-mul-count : tie.Need-mul-count
-mul-count c =
-    let t = c .before .before .before .before .before in
-    let s = t .before .before .before .before .before .before in
-    let e = c .before .words .ensures ∙ ap product (c .before .before .shard-of2 .ensures .1) in
-    let f = turn-fits (s .pre) (taken-is (s .pre) (t .take-step .result) (t .take-step .ensures)) in
-    omega (arith, ap (λ (n : ℕ). s .args .whole .devices * n) e, f .few)
-
 array-share-prefix-axes : tie.Need-array-share-prefix-axes
 array-share-prefix-axes c =
-    let s = c .before .before .before .before .before .before .before .before .before .before .before .before .before .before .before in
+    let s = c .before .before .before .before .before .before .before .before .before .before .before .before .before in
     let z = simp length-map at (s .good .1 .1 .1 .0 .1 .1 .1 .1 .1 .1 .0 .1 .1 .1 .0 .1 .0 .1) in
     omega (arith, z, s .pre .runs .holds .ready .fits .axes)
 
-slice-aggregate-step-over : tie.Need-slice-aggregate-step-over
-slice-aggregate-step-over c = sym (length-take-le _ _ (array-share-prefix-axes (c .before)))
+slice-aggregate-step-into : tie.Need-slice-aggregate-step-into
+slice-aggregate-step-into c = sym (length-take-le _ _ (array-share-prefix-axes (c .before)))
 
 array-share-prefix-shape : tie.Need-array-share-prefix-shape
 array-share-prefix-shape c =
-    let b = c .before .before .before .before .before .before .before .before .before in
+    let b = c .before .before .before .before .before .before .before in
     let s = b .before .before .before .before .before .before .before in
     let z = simp length-map at (b .shard-of .ok .1 .1 .1 .0 .1 .0 .1) in
     omega (arith, z, b .shard-of .ensures .0, s .pre .runs .holds .ready .fits .rank)
 
-slice-aggregate-step-over-2 : tie.Need-slice-aggregate-step-over-2
-slice-aggregate-step-over-2 c = sym (length-take-le _ _ (array-share-prefix-shape (c .before)))
+slice-aggregate-step-into-2 : tie.Need-slice-aggregate-step-into-2
+slice-aggregate-step-into-2 c = sym (length-take-le _ _ (array-share-prefix-shape (c .before)))
 
-step-over-requires : tie.Need-step-over-requires
-step-over-requires c κs =
-    let u = c .before .before .before .before .before .before .before in
+step-into-requires : tie.Need-step-into-requires
+step-into-requires c κs =
+    let u = c .before .before .before .before .before in
     let b = u .before .before .before in
+    let t = b .before .take-step in
     let s = b .before .before .before .before .before .before .before in
     let e = u .words .ensures ∙ ap product (u .before .shard-of2 .ensures .1) in
-    turn-asks (s .pre) (taken-is (s .pre) (b .before .take-step .result) (b .before .take-step .ensures)) (b .shard-of .ensures .1)
-    (sym (slice-aggregate-step-over-2 c) ∙ b .shard-of .ensures .0) e refl
+    turn-asks (s .pre) (taken-is (s .pre) (t .result) (t .ensures)) (b .shard-of .ensures .1) (sym (slice-aggregate-step-into-2 c) ∙ b .shard-of .ensures .0) e
 
 same-length : tie.Need-same-length
 same-length c = search needs
 
-same-length-2 : tie.Need-same-length-2
-same-length-2 c = search needs
-
 returns : tie.Need-returns
 returns c =
-    let o = c .before .before .before .before in
-    let u = o .before .before .before .before .before .before .before .before in
+    let o = c .before .before in
+    let u = o .before .before .before .before .before .before in
     let b = u .before .before .before in
-    let s = b .before .before .before .before .before .before .before in
     let t = b .before .take-step in
+    let s = b .before .before .before .before .before .before .before in
     let e = u .words .ensures ∙ ap product (u .before .shard-of2 .ensures .1) in
-    let l = sym (slice-aggregate-step-over-2 (o .before)) ∙ b .shard-of .ensures .0 in
-    (t .ensures, turn-leaves (s .pre) (taken-is (s .pre) (t .result) (t .ensures)) (b .shard-of .ensures .1) l e refl _ (o .step-over .ensures))
+    let l = sym (slice-aggregate-step-into-2 (o .before)) ∙ b .shard-of .ensures .0 in
+    (t .ensures, turn-leaves (s .pre) (taken-is (s .pre) (t .result) (t .ensures)) (b .shard-of .ensures .1) l e _ _ (o .step-into .ensures))
 
 pub do-step-spec : {M : Type 1} → statement M
 do-step-spec =
@@ -84,12 +72,10 @@ do-step-spec =
     shard-of-requires
     shard-of-requires-2
     words-requires
-    mul-count
     array-share-prefix-axes
-    slice-aggregate-step-over
+    slice-aggregate-step-into
     array-share-prefix-shape
-    slice-aggregate-step-over-2
-    step-over-requires
+    slice-aggregate-step-into-2
+    step-into-requires
     same-length
-    same-length-2
     returns)

@@ -2,8 +2,9 @@ use borrow.Author.Needs.{needs}
 use native.Mathlib.Omega.{arith}
 use Prim.Native.Nat.{ℕ, _≤_, _<_}
 use mathlib.Core.Path.{_≡_, sym, ap, _∙_}
-use lib.ListN.{length, replicate}
+use lib.ListN.{length, take, replicate}
 use denote.Ref.{now}
+use Rattle.rules.specs.Lists.{pick}
 use Rattle.rules.specs.PlanFile.{room}
 use Rattle.rules.specs.Calls.{runMeaning}
 use Rattle.rules.specs.declared.RunOutcome.{RunOutcome}
@@ -83,16 +84,26 @@ last-words-requires c κs =
     let h = plan-held _ _ (j .judge-file .ensures) (r .before .before .before .before .before .before .before .next .given .1) in
     (bounded _ h, last-fits h (r .before .before .before .before .if1 .left) .few)
 
+bring-home-requires : tie.Need-bring-home-requires
+bring-home-requires c κs =
+    let v = c .before .before in
+    let r = v .before .before .before .before .before in
+    let j = r .before .before .before .before .before .before .before .before .before in
+    let h = plan-held _ _ (j .judge-file .ensures) (r .before .before .before .before .before .before .before .next .given .1) in
+    let lw : length (r .run-steps .last .1 .1 .1 .0) ≡ length (now (j .before .before .before .before .args .work)) = search needs in
+    let ls : length (r .run-steps .last .1 .1 .1 .1 .0) ≡ length (now (j .before .before .before .before .args .spare)) = search needs in (
+      omega (arith, lw, v .last-words .ensures, last-fits h (r .before .before .before .before .if1 .left) .inside),
+      omega (arith, ls, v .last-words .ensures, last-fits h (r .before .before .before .if2 .left) .inside),
+    )
+
 mul-clear : tie.Need-mul-clear
-mul-clear c = omega (arith, c .last-words .ensures, last-words-requires (c .before) _ .1)
+mul-clear c = omega (arith, c .before .before .before .before .before .last-words .ensures, last-words-requires (c .before .before .before .before .before .before) _ .1)
 
 sub-clear : tie.Need-sub-clear
 sub-clear c =
-    let r = c .before .before .before .before .before in
-    let j = r .before .before .before .before .before .before .before .before .before in
-    let h = plan-held _ _ (j .judge-file .ensures) (r .before .before .before .before .before .before .before .next .given .1) in
-    let l : length (r .run-steps .last .1 .1 .1 .0) ≡ length (now (j .before .before .before .before .args .work)) = search needs in
-    omega (arith, l, c .last-words .ensures, last-fits h (r .before .before .before .before .if1 .left) .in-work)
+    let g = c .before .before in
+    let l : length (g .bring-home .last .1 .1 .0) ≡ length (g .before .before .before .before .before .before .before .before .run-steps .last .1 .1 .1 .0) = search needs in
+    omega (arith, l, bring-home-requires (g .before) (g .bring-home .lifetimes) .0)
 
 part-clear-start : tie.Need-part-clear-start
 part-clear-start c = search (needs, sub-clear c)
@@ -114,7 +125,8 @@ same-length-2 c = search needs
 
 returns-4 : tie.Need-returns-4
 returns-4 c =
-    let v = c .before .before .before .before .before .before .before .before in
+    let g = c .before .before .before .before .before .before .before .before .before .before in
+    let v = g .before .before .before in
     let r = v .before .before .before .before .before in
     let j = r .before .before .before .before .before .before .before .before .before in
     let s = j .before .before .before .before in
@@ -123,11 +135,14 @@ returns-4 c =
     let h = plan-held _ _ (j .judge-file .ensures) (r .before .before .before .before .before .before .before .next .given .1) in
     let w : room (h .0) ≤ length work = omega (arith, h .2 .room-is, r .before .before .before .before .if1 .left) in
     let q : room (h .0) ≤ length spare = omega (arith, h .2 .room-is, r .before .before .before .if2 .left) in
-    let lw : length (r .run-steps .last .1 .1 .1 .0) ≡ length work = search needs in
+    let lw : length (g .bring-home .last .1 .1 .0) ≡ length work = search needs in
     let ls : length (r .run-steps .last .1 .1 .1 .1 .0) ≡ length spare = search needs in
+    let e = v .last-words .ensures ∙ last-size h work in
+    let f = ap (λ (n : ℕ). take n (g .bring-home .last .1 .1 .0)) (sym e) ∙ g .bring-home .ensures
+    ∙ ap (λ (n : ℕ). take n (pick (r .run-steps .result) (r .run-steps .last .1 .1 .1 .0) (r .run-steps .last .1 .1 .1 .1 .0))) e
+    ∙ r .run-steps .ensures (h .0) (h .1) in
     promise _ _ _ Finished (λ i. j .before .before .slice-known .given i .fits)
-    (finishes _ work spare (h .1) (w, q)
-    (cleared-behind _ work _ _ _ (v .last-words .ensures ∙ last-size h work) (sub-clear v) lw (r .run-steps .ensures (h .0) (h .1)) (c .before .before .before .before .before .before .clear .ensures))
+    (finishes _ work spare (h .1) (w, q) (cleared-behind _ work _ _ _ e (sub-clear (c .before .before .before .before .before .before .before .before)) lw f (c .before .before .before .before .before .before .clear .ensures))
     (c .before .before .clear2 .ensures ∙ ap (λ (n : ℕ). replicate n 0) ls))
 
 pub run-spec : {M : Type 1} → statement M
@@ -146,6 +161,7 @@ run-spec =
     returns-3
     run-steps-requires
     last-words-requires
+    bring-home-requires
     mul-clear
     sub-clear
     part-clear-start

@@ -9,26 +9,26 @@ use Rattle.run.proofs.run_steps.Statement.{statement}
 use Rattle.run.proofs.run_steps.Tie as tie
 
 abbrev Inv-loop : tie.InvT-loop
-Inv-loop file at whole work₀ spare₀ steps sharding₀ place₀ k₀ work spare sharding place k =
-    Running file work₀ at whole k place sharding work spare × (length work ≡ length work₀) × (length spare ≡ length spare₀)
+Inv-loop file at whole work₀ spare₀ steps sharding₀ place₀ in-work₀ k₀ work spare sharding place in-work k =
+    Running file work₀ at whole k place sharding in-work work spare × (length work ≡ length work₀) × (length spare ≡ length spare₀)
 
 abbrev μ-loop : tie.MeasureT-loop
-μ-loop file at whole work₀ spare₀ steps sharding₀ place₀ k₀ work spare sharding place k = whole .steps - k
+μ-loop file at whole work₀ spare₀ steps sharding₀ place₀ in-work₀ k₀ work spare sharding place in-work k = whole .steps - k
 
 loop-holds : tie.Need-loop-holds Inv-loop μ-loop
 loop-holds c = (running _ _ _ _ _ (c .before .before .before .before .pre), refl, refl)
 
-add-do-step : tie.Need-add-do-step Inv-loop μ-loop
-add-do-step c = omega arith
+add-number : tie.Need-add-number Inv-loop μ-loop
+add-number c = omega arith
 
-cast-do-step : tie.Need-cast-do-step Inv-loop μ-loop
-cast-do-step c =
+cast-number : tie.Need-cast-number Inv-loop μ-loop
+cast-number c =
     let h = c .before .before .before .before .before .before .pre in
     let b = bounded _ (h .plan, h .judged, h .holds) in
     omega (arith, b .steps-few)
 
-do-step-requires : tie.Need-do-step-requires Inv-loop μ-loop
-do-step-requires c κs = turn (c .before .before .before .loop .inv .0) (c .before .before .loop-test .taken)
+do-turn-requires : tie.Need-do-turn-requires Inv-loop μ-loop
+do-turn-requires c κs = turn (c .before .before .before .loop .inv .0) (c .before .before .loop-test .taken)
 
 enum-known-next : tie.Need-enum-known-next Inv-loop μ-loop
 enum-known-next c = search needs
@@ -40,20 +40,20 @@ same-length : tie.Need-same-length Inv-loop μ-loop
 same-length c =
     let d = c .before .before .before .before .before .before in
     let t = d .before .before .before in
-    absurd (no-refusal (t .before .loop .inv .0) (t .loop-test .taken) (d .do-step .result) (d .do-step .ensures .0) (c .enum-told .given .1))
+    absurd (no-refusal (t .before .loop .inv .0) (t .loop-test .taken) (d .do-turn .result) (d .do-turn .ensures .0) (c .enum-told .given .1))
 
 same-length-2 : tie.Need-same-length-2 Inv-loop μ-loop
 same-length-2 c =
     let d = c .before .before .before .before .before .before in
     let t = d .before .before .before in
-    absurd (no-refusal (t .before .loop .inv .0) (t .loop-test .taken) (d .do-step .result) (d .do-step .ensures .0) (c .enum-told .given .1))
+    absurd (no-refusal (t .before .loop .inv .0) (t .loop-test .taken) (d .do-turn .result) (d .do-turn .ensures .0) (c .enum-told .given .1))
 
 -- no step is refused again
 returns : tie.Need-returns Inv-loop μ-loop
 returns c =
     let d = c .before .before .before .before .before .before in
     let t = d .before .before .before in
-    absurd (no-refusal (t .before .loop .inv .0) (t .loop-test .taken) (d .do-step .result) (d .do-step .ensures .0) (c .enum-told .given .1))
+    absurd (no-refusal (t .before .loop .inv .0) (t .loop-test .taken) (d .do-turn .result) (d .do-turn .ensures .0) (c .enum-told .given .1))
 
 add-k : tie.Need-add-k Inv-loop μ-loop
 add-k c =
@@ -70,10 +70,10 @@ loop-again c =
     let d = n .before .before .before .before .before .before in
     let t = d .before .before .before in
     let i = t .before .loop .inv in
-    let e = d .do-step .ensures in
-    let w : length (d .do-step .last .1 .1 .1 .1 .1 .0) ≡ length (t .before .loop .work) = search needs in
-    let s : length (d .do-step .last .1 .1 .1 .1 .1 .1 .0) ≡ length (t .before .loop .spare) = search needs in
-    (onward (i .0) (t .loop-test .taken) (d .do-step .result) (e .0) (n .next .given .1) (e .1) w s, w ∙ i .1, s ∙ i .2)
+    let e = d .do-turn .ensures in
+    let w : length (d .do-turn .last .1 .1 .1 .1 .1 .1 .0) ≡ length (t .before .loop .work) = search needs in
+    let s : length (d .do-turn .last .1 .1 .1 .1 .1 .1 .1 .0) ≡ length (t .before .loop .spare) = search needs in
+    (onward (i .0) (t .loop-test .taken) (d .do-turn .result) (e .0) (n .next .given .1) (e .1) w s, w ∙ i .1, s ∙ i .2)
 
 same-length-3 : tie.Need-same-length-3 Inv-loop μ-loop
 same-length-3 c = c .before .loop .inv .1
@@ -91,9 +91,9 @@ run-steps-spec =
     Inv-loop
     μ-loop
     loop-holds
-    add-do-step
-    cast-do-step
-    do-step-requires
+    add-number
+    cast-number
+    do-turn-requires
     enum-known-next
     enum-told
     same-length
