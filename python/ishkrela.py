@@ -259,23 +259,28 @@ def picture(file, state, words):
     """A drawing of a state's words: the last axis of the mesh runs across, the others run down.
 
     Of a shard the last dimension runs across; planes of the other dimensions stand below each other.
+    Devices are named beside the drawing, the first and the last of each row; those of a single row
+    of more than two are named above it, where the names fit.
     """
     mesh, _ = _sizes(file)
     shard = place(file, state, 0).shard
     width = max(len(str(word)) for word in words)
     across, down = shard[-1], math.prod(shard[:-1])
-    rule = "+" + (("-" * ((width + 1) * across + 1)) + "+") * mesh[-1]
-    drawn = []
+    cell = (width + 1) * across + 1
+    rule = "+" + ("-" * cell + "+") * mesh[-1]
+    above = len(mesh) == 1 and mesh[0] > 2 and cell > len("device")
+    drawn = _above(mesh[0], cell) if above else []
     for row, beside in enumerate(itertools.product(*map(range, mesh[:-1]))):
         first, last = _device(*beside, 0), _device(*beside, mesh[-1] - 1)
-        margin = " " * len(f"{first} -> ")
+        margin = "" if above else " " * len(f"{first} -> ")
         drawn.append(margin + rule)
         for line in range(down):
             text = "|"
             for column in range(mesh[-1]):
                 at = ((row * mesh[-1] + column) * down + line) * across
                 text += "".join(f" {word:>{width}}" for word in words[at:at + across]) + " |"
-            drawn.append(margin + text if line else f"{first} -> {text}" + (f" <- {last}" if first != last else ""))
+            named = line == 0 and not above
+            drawn.append(f"{first} -> {text}" + (f" <- {last}" if first != last else "") if named else margin + text)
     return "\n".join([*drawn, margin + rule])
 
 
@@ -379,3 +384,9 @@ def _row_major(sizes, index):
 
 def _device(*coordinates):
     return f"device ({', '.join(map(str, coordinates))})"
+
+
+def _above(devices, cell):
+    """The names of a row of devices, in two lines, each name over its shard."""
+    names = [["device"] * devices, [f"({device})" for device in range(devices)]]
+    return [" " + "".join(name.ljust(cell + 1) for name in line).rstrip() for line in names]

@@ -7,6 +7,7 @@ import ctypes
 import doctest
 import json
 import os
+import subprocess
 import unittest
 
 import ishkrela
@@ -14,7 +15,8 @@ from ishkrela import AllGather, AllReduce, AllSlice, AllToAll, Refused, Sharding
 from ishkrela import check, groups, moved, picture, place, plan_file, run, spread
 
 W1 = bytes.fromhex("0100020002000100120016001a001f002300" "02000200" "04000400" "0100010100" "02000101")
-TESTS = os.path.join(os.path.dirname(os.path.abspath(__file__)), "..", "tests")
+ROOT = os.path.join(os.path.dirname(os.path.abspath(__file__)), "..")
+
 
 def w4(*steps):
     return plan_file([2, 2], [4], Sharding([[1, 0]]), steps)
@@ -25,7 +27,7 @@ def w7(unreduced=(0,), size=2):
 
 
 def cases(name):
-    with open(os.path.join(TESTS, name), encoding="utf-8") as file:
+    with open(os.path.join(ROOT, "tests", name), encoding="utf-8") as file:
         for line in file.read().splitlines():
             if line and not line.startswith("#"):
                 yield line.split("|")
@@ -224,6 +226,11 @@ class Pictures(Case):
     def test_the_words_of_the_module(self):
         self.assertEqual(doctest.testmod(ishkrela).failed, 0)
 
+    def test_the_page_of_the_collectives(self):
+        printed = subprocess.run([os.path.join(ROOT, "tools", "pictures")], capture_output=True, check=True, text=True)
+        with open(os.path.join(ROOT, "docs", "COLLECTIVES.md"), encoding="utf-8") as page:
+            self.assertEqual(printed.stdout, page.read())
+
     def test_unreduced_spread(self):
         self.assertEqual(spread(w7(), [6, 8]), [6, 8, 0, 0])
 
@@ -235,6 +242,18 @@ class Pictures(Case):
             "device (0) -> |  1 |  2 | <- device (1)",
             "|  3 | 10 |",
             "+----+----+",
+        ])
+
+    def test_one_row_of_three(self):
+        file = plan_file([3], [3, 3, 2], Sharding([[0], [], []]))
+        self.assertEqual(picture(file, 0, list(range(11, 29))).split("\n"), [
+            " device  device  device",
+            " (0)     (1)     (2)",
+            "+-------+-------+-------+",
+            "| 11 12 | 17 18 | 23 24 |",
+            "| 13 14 | 19 20 | 25 26 |",
+            "| 15 16 | 21 22 | 27 28 |",
+            "+-------+-------+-------+",
         ])
 
     def test_a_spread_stays_one(self):

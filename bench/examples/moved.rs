@@ -37,4 +37,5 @@ fn main() {
 #[cfg(not(library))]
 fn main() {
     eprintln!("tools/build makes the library first");
+    std::process::exit(1);
 }

@@ -422,7 +422,10 @@ fn broken_bytes(random: &mut Random, draft: &Draft, number: u8) -> Option<(Vec<u
     let whole = file.len();
     match number {
         1 => file.truncate(random.below(18)),
-        2 => file.resize(random.between(MOST_BYTES + 1, MOST_BYTES + 200), 0),
+        2 => {
+            let more = random.pick(&[1, 1, 200]);
+            file.resize(MOST_BYTES + random.between(1, more), 0);
+        }
         3 => change_number(random, &mut file, 0),
         4 => change_number(random, &mut file, 8),
         5 => return Some((broken_limit(random, draft), Refusal::whole(5))),
@@ -439,7 +442,10 @@ fn broken_bytes(random: &mut Random, draft: &Draft, number: u8) -> Option<(Vec<u
             file[count] = random.between(draft.mesh.len() + 1, 255) as u8;
         }
         9 => {
-            file.extend((0..random.between(1, 40)).map(|_| random.byte()));
+            // Sometimes as long as a file may be.
+            let most = random.pick(&[1, 40, MOST_BYTES - whole]);
+            let least = if most > 40 { most } else { 1 };
+            file.extend((0..random.between(least, most)).map(|_| random.byte()));
             mend_length(&mut file);
         }
         _ => return None,

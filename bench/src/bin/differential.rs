@@ -4,10 +4,11 @@
 //! tried, on the reference.
 
 use bench::answers::{Axis, Device, Refusal};
-use bench::plans::{self, Draft, FILE_REFUSALS};
+use bench::plans::{self, Draft, Step, FILE_REFUSALS};
 use bench::random::Random;
 use bench::spreads::{product, Layout};
 use bench::{hex, implementations, library, Implementation, Reference};
+use std::collections::BTreeSet;
 use std::fmt::Debug;
 use std::process::ExitCode;
 use std::{env, fmt};
@@ -21,17 +22,47 @@ struct Difference {
 
 type Outcome = Result<(), Difference>;
 
+/// What was tried.
 #[derive(Default)]
 struct Tally {
     accepted: usize,
     broken: usize,
     damaged: usize,
+    accepted_though_damaged: usize,
     limits: usize,
+    placements: usize,
+    listings: usize,
     runs: usize,
-    refused_runs: usize,
     runs_at_limits: usize,
+    /// Slices, gathers, reductions, all-to-alls.
+    steps: [usize; 4],
+    longer_buffers: usize,
+    refused_runs: usize,
     faithful: usize,
     prefixes: usize,
+    refusals: BTreeSet<u8>,
+}
+
+/// The numbers of all refusals of document 01: those of files, of buffers and of other numbers.
+const REFUSALS: usize = FILE_REFUSALS.len() + 5;
+
+impl Tally {
+    fn see<T>(&mut self, answer: &Result<T, Refusal>) {
+        let refusal = answer.as_ref().err();
+        self.refusals.extend(refusal.map(|refusal| refusal.number));
+    }
+
+    fn see_steps(&mut self, draft: &Draft) {
+        for step in &draft.steps {
+            match step {
+                Step::Slice(_) => self.steps[0] += 1,
+                Step::Gather(_) => self.steps[1] += 1,
+                Step::Reduce(_) => self.steps[2] += 1,
+                Step::AllToAll(..) => self.steps[3] += 1,
+                Step::Bytes(_) => {}
+            }
+        }
+    }
 }
 
 fn main() -> ExitCode {
@@ -48,7 +79,7 @@ fn main() -> ExitCode {
     }
     let mut tally = Tally::default();
     let outcome = compare(&mut Random::new(seed), files, runs, &mut tally);
-    println!("seed {seed}: {tally}");
+    println!("seed {seed}\n{tally}");
     match outcome {
         Ok(()) => {
             println!("no difference");
@@ -65,8 +96,8 @@ fn compare(random: &mut Random, files: u64, runs: u64, tally: &mut Tally) -> Out
     if let Some(library) = library() {
         for _ in 0..files {
             let file = random_file(random, tally);
-            compare_file(random, library, &file)?;
-            compare_groups(random, library)?;
+            compare_file(random, library, &file, tally)?;
+            compare_groups(random, library, tally)?;
         }
     }
     for _ in 0..runs {
@@ -89,7 +120,9 @@ fn random_file(random: &mut Random, tally: &mut Tally) -> Vec<u8> {
         20..29 => {
             tally.damaged += 1;
             let file = random_draft(random).encode();
-            plans::damaged(random, &file)
+            let file = plans::damaged(random, &file);
+            tally.accepted_though_damaged += usize::from(Reference.check(&file).is_ok());
+            file
         }
         _ => {
             tally.limits += 1;
@@ -103,8 +136,14 @@ fn random_draft(random: &mut Random) -> Draft {
     plans::accepted(random, scale)
 }
 
-fn compare_file(random: &mut Random, library: &dyn Implementation, file: &[u8]) -> Outcome {
+fn compare_file(
+    random: &mut Random,
+    library: &dyn Implementation,
+    file: &[u8],
+    tally: &mut Tally,
+) -> Outcome {
     let answer = Reference.check(file);
+    tally.see(&answer);
     same("check", file, &answer, &library.check(file))?;
     same_at_boundary(file, "check", |raw| raw.check(file, answer))?;
     let (steps, devices) = answer.map_or((3, 4), |checked| (checked.steps, checked.devices));
@@ -114,6 +153,8 @@ fn compare_file(random: &mut Random, library: &dyn Implementation, file: &[u8]) 
         let device = Device(number_up_to(random, devices));
         let call = format!("place of device {device:?} in state {state}");
         let answer = Reference.place(file, state, device);
+        tally.placements += 1;
+        tally.see(&answer);
         same(&call, file, &answer, &library.place(file, state, device))?;
         same_at_boundary(file, &call, |raw| raw.place(file, state, device, answer))?;
     }
@@ -207,7 +248,7 @@ fn same<T: PartialEq + Debug>(call: &str, file: &[u8], reference: &T, library: &
     }
 }
 
-fn compare_groups(random: &mut Random, library: &dyn Implementation) -> Outcome {
+fn compare_groups(random: &mut Random, library: &dyn Implementation, tally: &mut Tally) -> Outcome {
     let (mesh, axes) = random_listing(random);
     let devices = product(&mesh).min(300);
     let length = (devices + random.below(4)).saturating_sub(random.below(2));
@@ -215,6 +256,8 @@ fn compare_groups(random: &mut Random, library: &dyn Implementation) -> Outcome 
     let (mut ours, mut theirs) = (untouched.clone(), untouched);
     let answer = Reference.groups(&mesh, &axes, &mut ours);
     let other = library.groups(&mesh, &axes, &mut theirs);
+    tally.listings += 1;
+    tally.see(&answer);
     let call = format!("groups of mesh {mesh:?} along {axes:?} into {length} places");
     same(&call, &[], &(answer, ours), &(other, theirs))
 }
@@ -241,42 +284,58 @@ fn random_listing(random: &mut Random) -> (Vec<u16>, Vec<Axis>) {
 
 /// One plan, run on one pair of buffers.
 fn compare_run(random: &mut Random, tally: &mut Tally) -> Outcome {
+    tally.runs += 1;
+    let faithful = random.once_in(2);
+    match library() {
+        // A file that is no plan.
+        Some(library) if !faithful && random.once_in(4) => {
+            let file = spoilt_file(random);
+            compare_any_words(random, library, &file, tally)
+        }
+        library => {
+            let draft = random_run(random, tally);
+            match library {
+                Some(library) if !faithful => {
+                    compare_any_words(random, library, &draft.encode(), tally)
+                }
+                _ => {
+                    tally.faithful += 1;
+                    try_demand_3(random, &draft, tally)
+                }
+            }
+        }
+    }
+}
+
+/// A plan to be run, now and then one at the limits.
+fn random_run(random: &mut Random, tally: &mut Tally) -> Draft {
     let at_limits = random.once_in(50);
     let draft = match at_limits {
         true => plans::at_limits(random),
         false => random_draft(random),
     };
-    tally.runs += 1;
     tally.runs_at_limits += usize::from(at_limits);
-    let faithful = random.once_in(2);
-    match library() {
-        Some(library) if !faithful => compare_any_words(random, library, &draft, tally),
-        _ => {
-            tally.faithful += 1;
-            try_demand_3(random, &draft, tally)
-        }
-    }
+    tally.see_steps(&draft);
+    draft
 }
 
-/// A run on words that spread no table, of any length, and now and then of a file that is no plan.
+/// A run on words that spread no table, in buffers of any length.
 fn compare_any_words(
     random: &mut Random,
     library: &dyn Implementation,
-    draft: &Draft,
+    file: &[u8],
     tally: &mut Tally,
 ) -> Outcome {
-    let file = match random.once_in(4) {
-        true => spoilt_file(random),
-        false => draft.encode(),
-    };
-    let room = room_of(&file);
+    let room = room_of(file);
     let work = random_length(random, room);
     let work = random.words(work);
     let spare = random_length(random, room);
     let spare = random.words(spare);
-    let short = work.len() < room || spare.len() < room;
-    tally.refused_runs += usize::from(short || Reference.check(&file).is_err());
-    same_run(library, &file, &work, &spare)
+    tally.longer_buffers += usize::from(work.len() > room || spare.len() > room);
+    let answer = same_run(library, file, &work, &spare)?;
+    tally.refused_runs += usize::from(answer.is_err());
+    tally.see(&answer);
+    Ok(())
 }
 
 fn spoilt_file(random: &mut Random) -> Vec<u8> {
@@ -304,7 +363,13 @@ fn random_length(random: &mut Random, room: usize) -> usize {
     }
 }
 
-fn same_run(library: &dyn Implementation, file: &[u8], work: &[u32], spare: &[u32]) -> Outcome {
+/// Compares the runs of a file on copies of the buffers, and answers how they ended.
+fn same_run(
+    library: &dyn Implementation,
+    file: &[u8],
+    work: &[u32],
+    spare: &[u32],
+) -> Result<Result<(), Refusal>, Difference> {
     let after = |one: &dyn Implementation| {
         let (mut work, mut spare) = (work.to_vec(), spare.to_vec());
         let answer = one.run(file, &mut work, &mut spare);
@@ -325,7 +390,8 @@ fn same_run(library: &dyn Implementation, file: &[u8], work: &[u32], spare: &[u3
         file,
         &our_spare,
         &their_spare,
-    )
+    )?;
+    Ok(answer)
 }
 
 /// Compares buffers; only the first word that differs is told.
@@ -358,7 +424,8 @@ fn try_demand_3(random: &mut Random, draft: &Draft, tally: &mut Tally) -> Outcom
     let spare = room + random.below(3);
     let spare = random.words(spare);
     if let Some(library) = library() {
-        same_run(library, &file, &work, &spare)?;
+        let answer = same_run(library, &file, &work, &spare)?;
+        answer.map_err(|refusal| refused("a run of an accepted plan", &file, refusal))?;
     }
     for steps in random_prefixes(random, draft.steps.len(), room) {
         tally.prefixes += 1;
@@ -455,21 +522,35 @@ fn is_cleared(layout: &Layout, work: &[u32], spare: &[u32]) -> bool {
 impl fmt::Display for Tally {
     fn fmt(&self, f: &mut fmt::Formatter) -> fmt::Result {
         let files = self.accepted + self.broken + self.damaged + self.limits;
-        write!(
+        let [slices, gathers, reductions, all_to_alls] = self.steps;
+        writeln!(f, "{files} files checked")?;
+        writeln!(f, "    {} accepted", self.accepted)?;
+        writeln!(f, "    {} broken in a chosen way", self.broken)?;
+        let still = self.accepted_though_damaged;
+        writeln!(f, "    {} damaged, {still} still accepted", self.damaged)?;
+        writeln!(f, "    {} at the limits", self.limits)?;
+        let met = self.refusals.len();
+        writeln!(f, "{} placements", self.placements)?;
+        writeln!(f, "{} group listings", self.listings)?;
+        writeln!(
             f,
-            "{files} files ({} accepted, {} broken, {} damaged, {} at the limits), ",
-            self.accepted, self.broken, self.damaged, self.limits
+            "{} runs, {} at the limits",
+            self.runs, self.runs_at_limits
         )?;
-        write!(
+        writeln!(f, "    {slices} slices, {gathers} gathers")?;
+        writeln!(f, "    {reductions} reductions, {all_to_alls} all-to-alls")?;
+        let any = self.runs - self.faithful;
+        let (refused, longer) = (self.refused_runs, self.longer_buffers);
+        writeln!(
             f,
-            "{} runs ({} at the limits, {} refused), ",
-            self.runs, self.runs_at_limits, self.refused_runs
+            "    {any} on any words, {refused} refused, {longer} in longer buffers"
         )?;
-        write!(
+        let (spreads, prefixes) = (self.faithful, self.prefixes);
+        writeln!(
             f,
-            "{} of them for demand 3, after {} lists of steps",
-            self.faithful, self.prefixes
-        )
+            "    {spreads} on spreads of tables, demand 3 tried {prefixes} times"
+        )?;
+        write!(f, "{met} of {REFUSALS} refusal numbers met")
     }
 }
 

@@ -1,43 +1,204 @@
 //! Times the calls of the library beside the reference and plain copies, all in one run.
 //!
-//! An argument sets the number of rounds. Every time printed is the least of all rounds. In each
-//! round the reference and the library take turns; the copies for a row follow at once.
+//! An argument sets the number of rounds. A round measures everything, each row in a few tries:
+//! the reference and the library take turns, and the copies for the row follow at once. Every
+//! time printed is the least of all. What is printed is Markdown, which `tools/benchmarks` puts
+//! into docs/BENCHMARKS.md.
 
 use bench::answers::{Axis, Device, Dim, MOST_DEVICES, MOST_ROOM, MOST_WORDS};
 use bench::plans::{axes, Draft, Lists, Step};
 use bench::random::Random;
 use bench::{library, Implementation, Reference};
 use std::env;
+use std::fmt::Write;
 use std::hint::black_box;
 use std::time::Instant;
 
-const ROUNDS: usize = 15;
+const ROUNDS: usize = 12;
+const TRIES: usize = 3;
 const RUNS: [usize; 4] = [1, 16, 256, 4096];
 const GROUPS: [usize; 3] = [2, 16, 256];
 
-fn main() {
-    let rounds = env::args().nth(1).and_then(|text| text.parse().ok());
-    let mut bench = Bench::new(rounds.unwrap_or(ROUNDS));
-    print_preface(bench.rounds);
-    small_calls(&bench);
-    one_step_runs(&mut bench);
-    steps_alone(&mut bench);
-    whole_runs(&mut bench);
+/// Writes a line of the page.
+macro_rules! say {
+    ($page:expr, $($text:tt)*) => {
+        writeln!($page, $($text)*).expect("a text in memory")
+    };
 }
 
-fn print_preface(rounds: usize) {
-    println!("Times are the least of {rounds} rounds, in microseconds.");
-    println!("Before each timing, outside it, work is filled with the same words and spare is");
-    println!("cleared; both have been touched before. Buffers are as long as the plan's room.");
-    println!("A copy is copy_from_slice of as many words as the steps write.");
+fn main() {
+    let rounds = env::args().nth(1).and_then(|text| text.parse().ok());
+    let rounds: usize = rounds.unwrap_or(ROUNDS);
+    let mut bench = Bench::new();
+    for _ in 0..rounds {
+        bench.begin_round();
+        preface(&mut bench.page, rounds);
+        small_calls(&mut bench);
+        one_step_runs(&mut bench);
+        steps_alone(&mut bench);
+        whole_runs(&mut bench);
+        bench.limits.tell(&mut bench.page);
+    }
+    print!("{}", bench.page);
+}
+
+fn preface(page: &mut String, rounds: usize) {
+    say!(
+        page,
+        "Times are in microseconds, the least of {rounds} rounds with {TRIES} tries in each."
+    );
+    say!(
+        page,
+        "Before each timing, outside it, work is filled with the same words and spare is"
+    );
+    say!(
+        page,
+        "cleared; both have been touched before. Buffers are as long as the plan's room."
+    );
+    say!(
+        page,
+        "`copy` is memcpy (copy_from_slice) of as many words as the steps write, between"
+    );
+    say!(page, "buffers of that length.");
     if library().is_none() {
-        println!("The library is not linked: its columns stay empty.");
+        say!(page, "\nThe library is not linked: its columns stay empty.");
+    }
+}
+
+/// A ratio that is to stay below some number, and what was seen of it.
+struct Limit {
+    ratio: &'static str,
+    most: f64,
+    seen: Vec<(f64, String)>,
+}
+
+/// The limits in the order that they are printed in.
+struct Limits {
+    long: Limit,
+    middle: Limit,
+    single: Limit,
+    whole: Limit,
+    reduction: Limit,
+    small_call: Limit,
+    one_step_run: Limit,
+    step: Limit,
+    whole_run: Limit,
+}
+
+impl Limit {
+    fn new(ratio: &'static str, most: f64) -> Limit {
+        let seen = Vec::new();
+        Limit { ratio, most, seen }
+    }
+
+    fn see(&mut self, time: Option<f64>, base: f64, label: &str) {
+        let ratio = ratio(time, base);
+        self.seen.extend(ratio.map(|ratio| (ratio, label.into())));
+    }
+
+    /// What was seen over the limit; a ratio that is shown as the limit itself is not over it.
+    fn over(&self) -> impl Iterator<Item = &(f64, String)> {
+        let over = |(ratio, _): &&(f64, String)| *ratio >= self.most + 0.005;
+        self.seen.iter().filter(over)
+    }
+
+    fn tell(&self, page: &mut String) {
+        let over = self.over().count();
+        let largest = self.seen.iter().max_by(|one, two| one.0.total_cmp(&two.0));
+        let label = largest.map_or("", |(_, label)| label);
+        let verdict = match (largest, over) {
+            (None, _) => "-",
+            (_, 0) => "ok",
+            _ => "over",
+        };
+        say!(
+            page,
+            "    {:<40} {:>5.1} {:>5} {over:>5} {}  {verdict:<5} {label}",
+            self.ratio,
+            self.most,
+            self.seen.len(),
+            shown(largest.map(|(ratio, _)| *ratio), 7, 2),
+        );
+    }
+}
+
+impl Limits {
+    fn new() -> Limits {
+        Limits {
+            long: Limit::new("step / copy, runs of 256 words and more", 1.5),
+            middle: Limit::new("step / copy, runs of 16 words", 4.0),
+            single: Limit::new("step / copy, runs of 1 word", 10.0),
+            whole: Limit::new("64 steps / copies, runs of 256 and more", 3.0),
+            reduction: Limit::new("reduction / addition of shards", 1.5),
+            small_call: Limit::new("small call / reference", 1.0),
+            one_step_run: Limit::new("run of one step / reference", 1.0),
+            step: Limit::new("step / reference", 1.0),
+            whole_run: Limit::new("run of 64 steps / reference", 1.0),
+        }
+    }
+
+    /// The limit of a step that only moves words, by its run along the last dimension.
+    fn of_run(&mut self, run: usize) -> &mut Limit {
+        match run {
+            1 => &mut self.single,
+            16 => &mut self.middle,
+            _ => &mut self.long,
+        }
+    }
+
+    fn tell(&self, page: &mut String) {
+        say!(page, "\n### Limits\n");
+        say!(
+            page,
+            "What the library's times are to stay within, and the largest ratio in the tables"
+        );
+        say!(
+            page,
+            "above. A step is taken as the run does it, with its part of what is copied back.\n"
+        );
+        say!(
+            page,
+            "    {:<40} {:>5} {:>5} {:>5} {:>7}  {:<5} where",
+            "ratio",
+            "limit",
+            "cases",
+            "over",
+            "largest",
+            ""
+        );
+        let beside_copies = [&self.long, &self.middle, &self.single, &self.whole];
+        let beside_additions = [&self.reduction];
+        let beside_reference = [
+            &self.small_call,
+            &self.one_step_run,
+            &self.step,
+            &self.whole_run,
+        ];
+        let groups: [&[&Limit]; 3] = [&beside_copies, &beside_additions, &beside_reference];
+        for limit in groups.concat() {
+            limit.tell(page);
+        }
+        let slower = beside_reference.iter().map(|limit| limit.over().count());
+        if slower.sum::<usize>() == 0 {
+            return;
+        }
+        say!(page, "\nWhere the library is slower than the reference:\n");
+        for limit in beside_reference {
+            for (ratio, label) in limit.over() {
+                say!(page, "    {:<40} {ratio:>5.2}  {label}", limit.ratio);
+            }
+        }
     }
 }
 
 /// Buffers that last over all timings, so that no page is new to any of them.
 struct Bench {
-    rounds: usize,
+    /// The least times of all rounds so far, in the order that a round measures them in.
+    least: Vec<f64>,
+    /// How many times this round has measured.
+    measured: usize,
+    limits: Limits,
+    page: String,
     filled: Vec<u32>,
     work: Vec<u32>,
     spare: Vec<u32>,
@@ -51,6 +212,18 @@ struct Times {
 }
 
 impl Times {
+    const NONE: Times = Times {
+        library: None,
+        reference: f64::INFINITY,
+    };
+
+    /// The lesser of these times and of new ones, the reference's first.
+    fn least(self, mut time: impl FnMut(&dyn Implementation) -> f64) -> Times {
+        let reference = self.reference.min(time(&Reference));
+        let library = library().map(|one| time(one).min(self.library.unwrap_or(f64::INFINITY)));
+        Times { library, reference }
+    }
+
     fn with(self, other: Times, combine: impl Fn(f64, f64) -> f64) -> Times {
         let library = self.library.zip(other.library);
         Times {
@@ -61,13 +234,39 @@ impl Times {
 }
 
 impl Bench {
-    fn new(rounds: usize) -> Bench {
+    fn new() -> Bench {
         Bench {
-            rounds,
+            least: Vec::new(),
+            measured: 0,
+            limits: Limits::new(),
+            page: String::new(),
             filled: Random::new(0).words(MOST_ROOM),
             work: vec![1; MOST_ROOM],
             spare: vec![1; MOST_ROOM],
         }
+    }
+
+    fn begin_round(&mut self) {
+        self.measured = 0;
+        self.limits = Limits::new();
+        self.page.clear();
+    }
+
+    /// Measures a time, and answers the least that it has been in this and earlier rounds.
+    fn least(&mut self, mut time: impl FnMut(&mut Bench) -> f64) -> f64 {
+        let tries = (0..TRIES).map(|_| time(self));
+        let least = tries.fold(f64::INFINITY, f64::min);
+        self.kept(least)
+    }
+
+    fn kept(&mut self, time: f64) -> f64 {
+        if self.measured == self.least.len() {
+            self.least.push(time);
+        }
+        let least = &mut self.least[self.measured];
+        *least = least.min(time);
+        self.measured += 1;
+        *least
     }
 
     /// Times one use of the buffers, after they have been made ready.
@@ -84,21 +283,20 @@ impl Bench {
 
     /// The least times of whole runs of some plans, by both implementations in turn.
     fn runs<const N: usize>(&mut self, files: [&[u8]; N]) -> [Times; N] {
-        let mut least = [Times {
-            library: library().map(|_| f64::INFINITY),
-            reference: f64::INFINITY,
-        }; N];
-        for _ in 0..self.rounds {
+        let mut least = [Times::NONE; N];
+        for _ in 0..TRIES {
             for (file, least) in files.iter().zip(&mut least) {
-                let time = self.run(&Reference, file);
-                least.reference = least.reference.min(time);
-                if let Some(library) = library() {
-                    let time = self.run(library, file);
-                    least.library = least.library.map(|old| old.min(time));
-                }
+                *least = least.least(|one| self.run(one, file));
             }
         }
-        least
+        least.map(|times| self.kept_both(times))
+    }
+
+    fn kept_both(&mut self, times: Times) -> Times {
+        Times {
+            reference: self.kept(times.reference),
+            library: times.library.map(|time| self.kept(time)),
+        }
     }
 
     fn run(&mut self, one: &dyn Implementation, file: &[u8]) -> f64 {
@@ -110,26 +308,20 @@ impl Bench {
 
     /// The least time of copying so many words, in buffers as long as those of the run.
     fn copy(&mut self, room: usize, words: usize) -> f64 {
-        let mut least = f64::INFINITY;
-        for _ in 0..self.rounds {
-            let time = self.time(room, |work, spare| {
+        self.least(|bench| {
+            bench.time(room, |work, spare| {
                 black_box(&mut spare[..words]).copy_from_slice(black_box(&work[..words]));
-            });
-            least = least.min(time);
-        }
-        least
+            })
+        })
     }
 
     /// The least time of adding up shards, group by group, over as many words as a run may need.
     fn addition(&mut self, group: usize) -> f64 {
-        let mut least = f64::INFINITY;
-        for _ in 0..self.rounds {
-            let time = self.time(MOST_ROOM, |work, spare| {
+        self.least(|bench| {
+            bench.time(MOST_ROOM, |work, spare| {
                 add_shards(black_box(work), black_box(spare), group);
-            });
-            least = least.min(time);
-        }
-        least
+            })
+        })
     }
 }
 
@@ -170,6 +362,13 @@ struct Case {
 }
 
 impl Case {
+    fn label(&self, kind: &str) -> String {
+        format!(
+            "{kind}, {}, run {}, group {}",
+            self.on, self.run, self.group
+        )
+    }
+
     /// The words of the larger of its two states.
     fn room(&self) -> usize {
         self.words.max(self.words_back)
@@ -198,9 +397,10 @@ fn axis_on(dim: usize) -> Lists {
 }
 
 /// Tables for a slice or gather along the last dimension, with runs of so many words, and along
-/// the first, with rows of so many words; each with its run and group.
+/// the first, with rows of so many words; each with its run and group. A shard has at most 4,096
+/// words, so that a run of as many is there in groups of one device only.
 fn move_shapes() -> Vec<(&'static str, usize, usize, Vec<u16>)> {
-    let mut shapes = Vec::new();
+    let mut shapes = vec![("last", MOST_WORDS, 1, table(&[1, MOST_WORDS]))];
     for group in GROUPS {
         let mut runs: Vec<usize> = RUNS.map(|run| run.min(MOST_WORDS / group)).to_vec();
         runs.dedup();
@@ -208,7 +408,10 @@ fn move_shapes() -> Vec<(&'static str, usize, usize, Vec<u16>)> {
             let row = run * group;
             shapes.push(("last", run, group, table(&[MOST_WORDS / row, row])));
         }
-        for row in RUNS.into_iter().filter(|row| row * group <= MOST_WORDS) {
+        for row in [16, 256]
+            .into_iter()
+            .filter(|row| row * group <= MOST_WORDS)
+        {
             shapes.push(("first", row, group, table(&[MOST_WORDS / row, row])));
         }
     }
@@ -315,11 +518,16 @@ fn with_steps(case: &Case, steps: Vec<Step>) -> Vec<u8> {
     draft.encode()
 }
 
-fn small_calls(bench: &Bench) {
-    println!("\nSmall calls, each time that of one call among many\n");
-    println!(
-        "{:<34} {:>9} {:>9} {:>7}",
-        "call", "library", "reference", "lib/ref"
+fn small_calls(bench: &mut Bench) {
+    say!(bench.page, "\n### Small calls\n");
+    say!(bench.page, "Each time is that of one call among many.\n");
+    say!(
+        bench.page,
+        "    {:<36} {:>9} {:>9} {:>7}",
+        "call",
+        "library",
+        "reference",
+        "lib/ref"
     );
     for steps in [1, 8, 64] {
         let file = steps_file(steps);
@@ -366,25 +574,19 @@ fn steps_file(steps: usize) -> Vec<u8> {
     draft.encode()
 }
 
-fn small_call(bench: &Bench, label: &str, mut call: impl FnMut(&dyn Implementation)) {
+fn small_call(bench: &mut Bench, label: &str, mut call: impl FnMut(&dyn Implementation)) {
     const CALLS: usize = 2000;
-    let mut time = |one: &dyn Implementation| {
+    let times = Times::NONE.least(|one| {
         let start = Instant::now();
         (0..CALLS).for_each(|_| call(one));
         start.elapsed().as_secs_f64() * 1e6 / CALLS as f64
-    };
-    let mut times = Times {
-        library: library().map(|_| f64::INFINITY),
-        reference: f64::INFINITY,
-    };
-    for _ in 0..bench.rounds {
-        times.reference = times.reference.min(time(&Reference));
-        times.library = library()
-            .zip(times.library)
-            .map(|(one, old)| old.min(time(one)));
-    }
-    println!(
-        "{label:<34} {} {:>9.3} {}",
+    });
+    let times = bench.kept_both(times);
+    let limit = &mut bench.limits.small_call;
+    limit.see(times.library, times.reference, label);
+    say!(
+        bench.page,
+        "    {label:<36} {} {:>9.3} {}",
         shown(times.library, 9, 3),
         times.reference,
         shown(ratio(times.library, times.reference), 7, 2),
@@ -392,42 +594,81 @@ fn small_call(bench: &Bench, label: &str, mut call: impl FnMut(&dyn Implementati
 }
 
 fn one_step_runs(bench: &mut Bench) {
-    println!("\nRuns of one step: judging, the step, the copy back and the clearing");
-    print_columns("addition");
+    say!(bench.page, "\n### Runs of one step\n");
+    say!(
+        bench.page,
+        "The whole call: judging the file, the step, what the run copies back, and the"
+    );
+    say!(
+        bench.page,
+        "zeros in the rest of work and in all of spare. Beside it a copy of the words"
+    );
+    say!(
+        bench.page,
+        "that the step writes, and for a reduction the addition of shards in plain Rust."
+    );
+    columns(&mut bench.page, None);
     let moves = slices_and_gathers();
     let (slices, gathers): (Vec<Case>, Vec<Case>) = moves.into_iter().unzip();
     for case in slices.iter().chain(&gathers).chain(&all_to_alls()) {
-        let [times] = bench.runs([&case.draft.encode()]);
-        let copy = bench.copy(case.room(), case.words);
-        print_row(case.kind, case, case.words, times, copy, None);
+        one_step_run(bench, case, None);
     }
+    columns(&mut bench.page, Some("addition"));
     for case in &reductions() {
-        let [times] = bench.runs([&case.draft.encode()]);
-        let copy = bench.copy(case.room(), case.words);
         let addition = bench.addition(case.group);
-        print_row(case.kind, case, case.words, times, copy, Some(addition));
+        one_step_run(bench, case, Some(addition));
     }
 }
 
-/// What a step costs in a longer run, without the judging, the copy back and the clearing.
+fn one_step_run(bench: &mut Bench, case: &Case, addition: Option<f64>) {
+    let [times] = bench.runs([&case.draft.encode()]);
+    let copy = bench.copy(case.room(), case.words);
+    let limit = &mut bench.limits.one_step_run;
+    limit.see(times.library, times.reference, &case.label(case.kind));
+    let row = Row {
+        kind: case.kind,
+        case,
+        words: case.words,
+        times,
+        copy,
+        beside: addition,
+    };
+    row.tell(&mut bench.page);
+}
+
+/// What a step costs in a longer run, without what a run does only once.
 fn steps_alone(bench: &mut Bench) {
-    println!("\nSteps alone, as differences between runs that end in the same state");
-    println!("A slice and the gather back, or an all-to-all and the one back, count together:");
-    println!("the time of three steps less that of the first. A reduction is compared with one");
-    println!("over groups of one device, which copies.");
-    print_columns("addition");
+    say!(bench.page, "\n### Steps alone\n");
+    say!(
+        bench.page,
+        "What a step adds to a longer run, as the difference between runs that end in the"
+    );
+    say!(
+        bench.page,
+        "same state: three steps less the first alone, so that a slice and the gather"
+    );
+    say!(
+        bench.page,
+        "back, or an all-to-all and the one back, count together. A reduction is compared"
+    );
+    say!(
+        bench.page,
+        "with one over groups of one device, which copies."
+    );
+    columns(&mut bench.page, None);
     for (slice, _) in &slices_and_gathers() {
         there_and_back(bench, "slice, gather", slice);
     }
     for case in &all_to_alls() {
         there_and_back(bench, "all-to-all x2", case);
     }
+    columns(&mut bench.page, Some("addition"));
     for case in &reductions() {
         reduction_alone(bench, case);
     }
 }
 
-fn there_and_back(bench: &mut Bench, label: &str, case: &Case) {
+fn there_and_back(bench: &mut Bench, kind: &str, case: &Case) {
     let Some(back) = case.back.clone() else {
         return;
     };
@@ -437,7 +678,18 @@ fn there_and_back(bench: &mut Bench, label: &str, case: &Case) {
     let [once, thrice] = bench.runs([&once, &thrice]);
     let times = thrice.with(once, |thrice, once| thrice - once);
     let copy = case.copies(bench);
-    print_row(label, case, case.words + case.words_back, times, copy, None);
+    let (limits, label) = (&mut bench.limits, case.label(kind));
+    limits.of_run(case.run).see(times.library, copy, &label);
+    limits.step.see(times.library, times.reference, &label);
+    let row = Row {
+        kind,
+        case,
+        words: case.words + case.words_back,
+        times,
+        copy,
+        beside: None,
+    };
+    row.tell(&mut bench.page);
 }
 
 fn reduction_alone(bench: &mut Bench, case: &Case) {
@@ -452,13 +704,31 @@ fn reduction_alone(bench: &mut Bench, case: &Case) {
     let times = one_copy.with(more, |copy, more| copy + more);
     let copy = bench.copy(case.room(), case.words);
     let addition = bench.addition(case.group);
-    print_row("reduce", case, case.words, times, copy, Some(addition));
+    let (limits, label) = (&mut bench.limits, case.label(case.kind));
+    limits.reduction.see(times.library, addition, &label);
+    limits.step.see(times.library, times.reference, &label);
+    let row = Row {
+        kind: case.kind,
+        case,
+        words: case.words,
+        times,
+        copy,
+        beside: Some(addition),
+    };
+    row.tell(&mut bench.page);
 }
 
 fn whole_runs(bench: &mut Bench) {
-    println!("\nRuns of 64 steps, slices and gathers in turn, with the copy back and the clearing");
-    println!("beside them: what the steps write copied, and 64 copies of {MOST_ROOM} words.");
-    print_columns("64 full");
+    say!(bench.page, "\n### Runs of 64 steps\n");
+    say!(
+        bench.page,
+        "Slices and gathers in turn, with all that the run copies back and clears. `copy`"
+    );
+    say!(
+        bench.page,
+        "is a copy of what the steps write; `64 full` is 64 copies of {MOST_ROOM} words."
+    );
+    columns(&mut bench.page, Some("64 full"));
     let full = 64.0 * bench.copy(MOST_ROOM, MOST_ROOM);
     for (case, _) in &slices_and_gathers() {
         let Some(back) = case.back.clone() else {
@@ -468,16 +738,31 @@ fn whole_runs(bench: &mut Bench) {
         let [times] = bench.runs([&with_steps(case, steps)]);
         let copies = 32.0 * (case.copies(bench));
         let words = 32 * (case.words + case.words_back);
-        print_row("64 steps", case, words, times, copies, Some(full));
+        let (limits, label) = (&mut bench.limits, case.label("64 steps"));
+        if case.run >= 256 {
+            limits.whole.see(times.library, copies, &label);
+        }
+        limits.whole_run.see(times.library, times.reference, &label);
+        let row = Row {
+            kind: "64 steps",
+            case,
+            words,
+            times,
+            copy: copies,
+            beside: Some(full),
+        };
+        row.tell(&mut bench.page);
     }
 }
 
 /// The last columns are for what else a kind of row is compared with.
-fn print_columns(beside: &str) {
-    println!(
-        "\n{:<14} {:<6} {:>5} {:>5} {:>9} {:>9} {:>9} {:>9} {:>8} {:>8} {:>7} {:>9} {:>6} {:>6}",
+fn columns(page: &mut String, beside: Option<&str>) {
+    let beside = beside.map_or(String::new(), |name| format!(" {name:>8} {:>6}", "lib/it"));
+    say!(
+        page,
+        "\n    {:<13} {:<6} {:>4} {:>5} {:>8} {:>9} {:>9} {:>8} {:>8} {:>7}{beside}",
         "kind",
-        "on",
+        "dim",
         "run",
         "group",
         "words",
@@ -485,32 +770,40 @@ fn print_columns(beside: &str) {
         "reference",
         "copy",
         "lib/copy",
-        "ref/copy",
         "lib/ref",
-        beside,
-        "lib/it",
-        "ref/it",
     );
 }
 
-fn print_row(label: &str, case: &Case, words: usize, times: Times, copy: f64, beside: Option<f64>) {
-    let over = |base: Option<f64>, time: Option<f64>| base.and_then(|base| ratio(time, base));
-    let reference = Some(times.reference);
-    println!(
-        "{label:<14} {:<6} {:>5} {:>5} {words:>9} {} {} {} {} {} {} {} {} {}",
-        case.on,
-        case.run,
-        case.group,
-        shown(times.library, 9, 1),
-        shown(reference, 9, 1),
-        shown(Some(copy), 9, 1),
-        shown(ratio(times.library, copy), 8, 2),
-        shown(ratio(reference, copy), 8, 2),
-        shown(ratio(times.library, times.reference), 7, 2),
-        shown(beside, 9, 1),
-        shown(over(beside, times.library), 6, 2),
-        shown(over(beside, reference), 6, 2),
-    );
+/// One row of a table: a case under a name, the words that it writes and what it is timed at.
+struct Row<'a> {
+    kind: &'a str,
+    case: &'a Case,
+    words: usize,
+    times: Times,
+    copy: f64,
+    beside: Option<f64>,
+}
+
+impl Row<'_> {
+    fn tell(&self, page: &mut String) {
+        let library = self.times.library;
+        let beside = |time: f64| format!(" {time:>8.1} {}", shown(ratio(library, time), 6, 2));
+        say!(
+            page,
+            "    {:<13} {:<6} {:>4} {:>5} {:>8} {} {:>9.1} {:>8.1} {} {}{}",
+            self.kind,
+            self.case.on,
+            self.case.run,
+            self.case.group,
+            self.words,
+            shown(library, 9, 1),
+            self.times.reference,
+            self.copy,
+            shown(ratio(library, self.copy), 8, 2),
+            shown(ratio(library, self.times.reference), 7, 2),
+            self.beside.map_or(String::new(), beside),
+        );
+    }
 }
 
 fn ratio(time: Option<f64>, base: f64) -> Option<f64> {

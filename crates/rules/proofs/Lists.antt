@@ -347,27 +347,6 @@ unfolding without
 without-absent L U off = keep-all (λ c. not (mem c L)) U (λ c i. mem-not c L (off c i))
 
 -- distinct axes of a mesh are no more than its axes
-length-left-out : (a : ℕ) (L : List ℕ) → Distinct L → length L ≤ length (without L (a ∷ [])) + 1
-length-left-out a [] d = omega arith
-length-left-out a (b ∷ L) d = go (ℕ-discrete a b) (length-left-out a L (d .1))
-  where
-    go : Dec (a ≡ b) → length L ≤ length (without L (a ∷ [])) + 1 → length (b ∷ L) ≤ length (without (b ∷ L) (a ∷ [])) + 1
-    go (yes e) ih =
-        let w : without (b ∷ L) (b ∷ []) ≡ L =
-        without-same b L ∙ without-absent (b ∷ []) L (λ c j k. ⊎-elim (λ p. d .0 (subst (λ z. In z L) p j)) (λ k. absurd k) k) in
-        subst (λ c. length (b ∷ L) ≤ length (without (b ∷ L) (c ∷ [])) + 1) (sym e) (rw w (omega arith))
-    go (no n) ih = rw (without-other a b L n) (omega arith)
-
-pub distinct-few : (n : ℕ) (L : List ℕ) → Distinct L → ((a : ℕ) → In a L → a < n) → length L ≤ n
-distinct-few zero [] d h = omega arith
-distinct-few zero (a ∷ L) d h = absurd (omega (arith, h a (inl refl)))
-distinct-few (suc n) L d h =
-    let left : List ℕ = without L (n ∷ []) in
-    let few : length left ≤ n =
-    distinct-few n left (distinct-without (n ∷ []) L d)
-    (λ a i. let other : a ≢ n = λ e. not-in-without a (n ∷ []) L (inl e) i in omega (arith, h a (of-without a (n ∷ []) L i), other)) in
-    omega (arith, few, length-left-out n L d)
-
 -- ---- entries below sizes
 
 pub below-length : {xs ns : List ℕ} → Below xs ns → length xs ≡ length ns

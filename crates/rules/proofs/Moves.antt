@@ -31,7 +31,6 @@ use Rattle.rules.specs.Collectives.{
   sources,
   made,
 }
-use Rattle.rules.proofs.Lists.{distinct-few}
 use Rattle.rules.proofs.Positions.{pos-of-lt, position-lt}
 use Rattle.rules.proofs.Buffers.{tabulate-same}
 use Rattle.rules.proofs.Shapes.{Cut, cut, uncut, cut-lengths, piece-below}
@@ -201,10 +200,7 @@ pub record Moves (mesh sizes : List ℕ) (Gs Ss : List (List ℕ)) (shape new : 
   pub slices-once : Distinct (flat Ss)
   pub gathers-axes : (a : ℕ) → In a (flat Gs) → a < length mesh
   pub slices-axes : (a : ℕ) → In a (flat Ss) → a < length mesh
-  pub gathers-few : length (flat Gs) ≤ length mesh
-  pub slices-few : length (flat Ss) ≤ length mesh
   -- the new shape, by the kernel's own way to it
-  pub reshapes : Reshapes mesh Gs Ss shape new
   pub shape-is : grown mesh Gs (shardSizes mesh shape Ss) ≡ new
   -- the words of one shard, old and new
   pub words-pos : 0 < product shape
@@ -329,9 +325,6 @@ module _ (mesh sizes : List ℕ) (pos : (a : ℕ) → zero < getD mesh a 1) wher
         slices-once = slices-distinct t s h f;
         gathers-axes = gathers-below t s f;
         slices-axes = slices-below t s f;
-        gathers-few = distinct-few (length mesh) (flat (gathers t (rankOf s))) (gathers-distinct t s h f) (gathers-below t s f);
-        slices-few = distinct-few (length mesh) (flat (slices t (rankOf s))) (slices-distinct t s h f) (slices-below t s f);
-        reshapes = r;
         shape-is = moved-shape mesh pos (r .apart) (r .joins) (r .parts);
         words-pos = old .0;
         words-few = old .1;

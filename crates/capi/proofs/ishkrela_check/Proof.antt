@@ -16,7 +16,7 @@ enum-known-outcome c = search needs
 check-passed-requires : tie.Need-check-passed-requires
 check-passed-requires c κs =
     let k = c .before .before .before .check in
-    check-rank _ _ (sym (k .ensures .0) ∙ ap (λ (o : CheckOutcome). checkedBy o (k .result)) (c .before .outcome .given .1))
+    check-rank _ _ (sym (k .ensures .answers) ∙ ap (λ (o : CheckOutcome). checkedBy o (k .result)) (c .before .outcome .given .1))
 
 enum-known-outcome-2 : tie.Need-enum-known-outcome-2
 enum-known-outcome-2 c = search needs
@@ -28,13 +28,13 @@ returns : tie.Need-returns
 returns c =
     let k = c .before .before .before .before .check in
     let told = ap (λ (o : CheckOutcome). checkedBy o (k .result)) (c .before .before .outcome .given .1) in
-    c .check-passed .ensures ∙ ap checkReply (sym told ∙ k .ensures .0)
+    c .check-passed .ensures ∙ ap checkReply (sym told ∙ k .ensures .answers)
 
 returns-2 : tie.Need-returns-2
 returns-2 c =
     let k = c .before .before .before .before .check in
     let told = ap (λ (o : CheckOutcome). checkedBy o (k .result)) (c .before .before .outcome2 .given .1) in
-    c .check-refused .ensures ∙ ap checkReply (sym told ∙ k .ensures .0)
+    c .check-refused .ensures ∙ ap checkReply (sym told ∙ k .ensures .answers)
 
 pub ishkrela-check-spec : {M : Type 1} → statement M
 ishkrela-check-spec =

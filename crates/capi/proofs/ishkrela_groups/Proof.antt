@@ -23,7 +23,7 @@ same-length c = search needs
 returns : tie.Need-returns
 returns c =
     let g = c .before .before .before .before .groups .ensures in
-    (ap refusalCode (sym (ap groupsMeaning (c .enum-told .given .1)) ∙ g .0), g .1)
+    (ap refusalCode (sym (ap groupsMeaning (c .enum-told .given .1)) ∙ g .answers), g .leaves)
 
 same-length-2 : tie.Need-same-length-2
 same-length-2 c = search needs
@@ -31,7 +31,7 @@ same-length-2 c = search needs
 returns-2 : tie.Need-returns-2
 returns-2 c =
     let g = c .before .before .before .before .before .before .groups .ensures in
-    (c .code-of .ensures ∙ ap refusalCode (sym (ap groupsMeaning (c .before .before .outcome .given .1)) ∙ g .0), g .1)
+    (c .code-of .ensures ∙ ap refusalCode (sym (ap groupsMeaning (c .before .before .outcome .given .1)) ∙ g .answers), g .leaves)
 
 pub ishkrela-groups-spec : {M : Type 1} → statement M
 ishkrela-groups-spec =

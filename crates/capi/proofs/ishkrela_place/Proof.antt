@@ -16,7 +16,7 @@ enum-known-outcome c = search needs
 place-found-requires : tie.Need-place-found-requires
 place-found-requires c κs =
     let k = c .before .before .before .place in
-    place-rank _ _ _ _ (sym (k .ensures .0) ∙ ap (λ (o : PlaceOutcome). placedBy o (k .result)) (c .before .outcome .given .1))
+    place-rank _ _ _ _ (sym (k .ensures .answers) ∙ ap (λ (o : PlaceOutcome). placedBy o (k .result)) (c .before .outcome .given .1))
 
 enum-known-outcome-2 : tie.Need-enum-known-outcome-2
 enum-known-outcome-2 c = search needs
@@ -28,13 +28,13 @@ returns : tie.Need-returns
 returns c =
     let k = c .before .before .before .before .place in
     let told = ap (λ (o : PlaceOutcome). placedBy o (k .result)) (c .before .before .outcome .given .1) in
-    c .place-found .ensures ∙ ap placeReply (sym told ∙ k .ensures .0)
+    c .place-found .ensures ∙ ap placeReply (sym told ∙ k .ensures .answers)
 
 returns-2 : tie.Need-returns-2
 returns-2 c =
     let k = c .before .before .before .before .place in
     let told = ap (λ (o : PlaceOutcome). placedBy o (k .result)) (c .before .before .outcome2 .given .1) in
-    c .place-refused .ensures ∙ ap placeReply (sym told ∙ k .ensures .0)
+    c .place-refused .ensures ∙ ap placeReply (sym told ∙ k .ensures .answers)
 
 pub ishkrela-place-spec : {M : Type 1} → statement M
 ishkrela-place-spec =

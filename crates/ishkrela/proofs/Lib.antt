@@ -1,0 +1,2 @@
+-- The promises, from those of the crates below.
+pub mod Promises

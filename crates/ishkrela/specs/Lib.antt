@@ -1,0 +1,2 @@
+-- The promises of the library.
+pub mod Promises

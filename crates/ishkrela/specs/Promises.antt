@@ -1,0 +1,47 @@
+-- The promises of the library's four calls, on any input; then what the rules promise of themselves (`RulesPromise`; proofs/Promises.antt proves it).
+-- The run's promise is RunPromise, crates/run/specs/Promise.antt. Definitions are in crates/rules/specs. Assumes nothing.
+use Prim.Native.Nat.{ℕ}
+use mathlib.Core.Path.{_≡_}
+use mathlib.Core.List.{List}
+use lib.ListN.{take, drop}
+use Rattle.rules.specs.Lists.{All}
+use Rattle.rules.specs.Mesh.{devices, Rearrangement}
+use Rattle.rules.specs.Refusals.{accept, refuse}
+use Rattle.rules.specs.Calls.{checkOf, checkMeaning, placeOf, placeMeaning, groupsOf, groupsLeave, groupsMeaning}
+use Rattle.rules.specs.Demands.{WholePlan, Spreadable, Locality}
+use Rattle.rules.specs.Ledger.{Holds, ledger}
+use Rattle.rules.specs.Refused.{refusals}
+use Rattle.rules.specs.declared.Checked.{Checked}
+use Rattle.rules.specs.declared.Placed.{Placed}
+use Rattle.rules.specs.declared.GroupsOutcome.{GroupsOutcome}
+use Rattle.plan.specs.Parts.{Blank}
+use Rattle.place.specs.Placing.{Unplaced}
+
+-- The check: its answer is the definition's. Beside a refusal all axes are replicated and all sizes 0.
+pub record CheckPromise (file : List ℕ) (r : Checked) : Type 0 where
+  pub answers : checkMeaning r ≡ checkOf file
+  pub blank : (n k : ℕ) → checkOf file ≡ refuse n k → Blank (r .sharding) (r .shard)
+
+-- The placement: its answer is the definition's. Beside a refusal all axes are replicated and all sizes and indexes 0.
+pub record PlacePromise (file : List ℕ) (state device : ℕ) (r : Placed) : Type 0 where
+  pub answers : placeMeaning r ≡ placeOf file state device
+  pub blank : (n k : ℕ) → placeOf file state device ≡ refuse n k → Unplaced r
+
+-- The group listing: its answer and what it leaves are the definition's. "The D numbers are a rearrangement of 0 to D-1." "Entries after the first D
+-- stay." After a refusal all entries are as they were.
+pub record GroupsPromise (mesh axes out : List ℕ) (r : GroupsOutcome) (outAfter : List ℕ) : Type 0 where
+  pub answers : groupsMeaning r ≡ groupsOf mesh axes out
+  pub leaves : outAfter ≡ groupsLeave mesh axes out
+  pub all : (d : ℕ) → groupsMeaning r ≡ accept d → d ≡ devices mesh
+  pub rearranged : (d : ℕ) → groupsMeaning r ≡ accept d → Rearrangement d (take d outAfter)
+  pub stay : (d : ℕ) → groupsMeaning r ≡ accept d → drop d outAfter ≡ drop d out
+  pub refused : (n k : ℕ) → groupsMeaning r ≡ refuse n k → outAfter ≡ out
+
+-- What the rules promise of themselves: demand 3 for every plan that passes, and that it speaks of something; a step's locality; the ledger W1 to W10;
+-- a file for each refusal number.
+pub record RulesPromise : Type 1 where
+  pub whole-plan : WholePlan
+  pub spreadable : Spreadable
+  pub locality : Locality
+  pub worked : All Holds ledger
+  pub refused : All Holds refusals
