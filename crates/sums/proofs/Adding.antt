@@ -1,5 +1,5 @@
--- Laws of the loops of the reduction: one shard more in a group's sum (`add-more`, `add-step`), and one device more in the new buffer, added
--- (`sum-front`) or repeated (`repeat-step`, `repeat-front`). Assumes nothing.
+-- Laws of the loops of the reduction: one shard or three more in a group's sum (`add-step`, `add-three-step`), and one device more in the new
+-- buffer, added (`group-words`) or repeated (`repeat-step`, `repeat-front`). Assumes nothing.
 use Prim.Native.Nat.{ℕ, zero, suc, _+_, _*_, _-_, _%_, _^_, _≤_, _<_}
 use mathlib.Core.Path.{_≡_, refl, sym, ap, ap₂, _∙_}
 use mathlib.Core.List.{List, [], _∷_, _++_, append-assoc, append-nil}
@@ -40,6 +40,20 @@ add-more (suc (suc q)) f h =
     ∙ addWords-many (l ++ f (suc (suc q)) ∷ []) (omega (arith, length-append l (f (suc (suc q)) ∷ [])))
     ∙ ap (λ (s : ℕ). s % 2 ^ 32) (total-snoc l (f (suc (suc q)))))
 
+-- ---- three words more
+
+pub wrap-three : (n a b c : ℕ) → (((n + a) % 2 ^ 32 + b) % 2 ^ 32 + c) % 2 ^ 32 ≡ (n + a + b + c) % 2 ^ 32
+wrap-three n a b c = ap (λ (s : ℕ). (s + c) % 2 ^ 32) (mod-add-mod (n + a) (2 ^ 32) b) ∙ mod-add-mod (n + a + b) (2 ^ 32) c
+
+add-three-more : (q : ℕ) (f : ℕ → ℕ) → 0 < q → (addWords (tab q f) + f q + f (q + 1) + f (q + 2)) % 2 ^ 32 ≡ addWords (tab (q + 3) f)
+add-three-more q f h =
+    let two : q + 1 + 1 ≡ q + 2 = omega arith in
+    let three : q + 2 + 1 ≡ q + 3 = omega arith in
+    sym (wrap-three (addWords (tab q f)) (f q) (f (q + 1)) (f (q + 2)))
+    ∙ ap (λ (s : ℕ). ((s + f (q + 1)) % 2 ^ 32 + f (q + 2)) % 2 ^ 32) (add-more q f h)
+    ∙ ap (λ (s : ℕ). (s + f (q + 2)) % 2 ^ 32) (add-more (q + 1) f (omega arith) ∙ ap (λ (k : ℕ). addWords (tab k f)) two)
+    ∙ add-more (q + 2) f (omega arith) ∙ ap (λ (k : ℕ). addWords (tab k f)) three
+
 -- ---- one shard more: g o q is word o of the shard at position q
 
 pub add-step : (old : List ℕ) (m a q : ℕ) (g : ℕ → ℕ → ℕ) (to : List ℕ) → 0 < q
@@ -53,6 +67,18 @@ add-step old m a q g to h e v =
     let next : getD (take (a + m - a) (drop a old)) o 0 ≡ g o q =
     ap (λ (k : ℕ). getD (take k (drop a old)) o 0) (part-cut a m) ∙ getD-take m (drop a old) o 0 l ∙ getD-drop a old o 0 ∙ sym (v o) in
     ap₂ (λ (s w : ℕ). (s + w) % 2 ^ 32) sofar next ∙ add-more q (g o) h)
+
+-- three shards more
+pub add-three-step : (old : List ℕ) (m a b c q : ℕ) (g : ℕ → ℕ → ℕ) (to : List ℕ) → 0 < q → to ≡ tab m (λ o. addWords (tab q (g o)))
+    → ((o : ℕ) → g o q ≡ getD old (a + o) 0) → ((o : ℕ) → g o (q + 1) ≡ getD old (b + o) 0) → ((o : ℕ) → g o (q + 2) ≡ getD old (c + o) 0)
+    → tab (length to) (λ o. (getD to o 0 + getD old (a + o) 0 + getD old (b + o) 0 + getD old (c + o) 0) % 2 ^ 32)
+    ≡ tab m (λ o. addWords (tab (q + 3) (g o)))
+add-three-step old m a b c q g to h e u v w =
+    let n : length to ≡ m = ap length e ∙ length-tab m _ in
+    ap (λ (k : ℕ). tab k (λ o. (getD to o 0 + getD old (a + o) 0 + getD old (b + o) 0 + getD old (c + o) 0) % 2 ^ 32)) n
+    ∙ tab-cong m _ _ (λ o l.
+    let sofar : getD to o 0 ≡ addWords (tab q (g o)) = ap (λ (t : List ℕ). getD t o 0) e ∙ getD-tab m o _ 0 l in
+    rw (sofar, sym (u o), sym (v o), sym (w o)) (add-three-more q (g o) h))
 
 -- the sum of one shard is that shard
 pub first-shard : (old : List ℕ) (m a : ℕ) (g : ℕ → ℕ → ℕ) → a + m ≤ length old → ((o : ℕ) → g o 0 ≡ getD old (a + o) 0)

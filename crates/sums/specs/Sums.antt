@@ -12,6 +12,10 @@ use Rattle.rules.specs.Limits.{mostAxes, mostDevices, mostWords}
 use Rattle.strided.specs.Strided.{counted, offset, Spans}
 use Rattle.digits.specs.Digits.{mostRoom, strides, cleared, axisDigits, meshDigits}
 
+-- word o of the sum of the shards of the first q members, which begin at the shifts from `at` on
+abbrev pub partWord : (old shifts : List ℕ) → (at q o : ℕ) → ℕ
+partWord old shifts at q o = addWords (tab q (λ p. getD old (at + getD shifts p 0 + o) 0))
+
 -- word o of the sum of the shards that begin at the shifts from `at` on
 unfoldable pub groupWord : (old shifts : List ℕ) → ℕ → ℕ → ℕ
 unfolding addWords

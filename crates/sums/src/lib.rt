@@ -13,7 +13,7 @@ ghost use Rattle.rules.specs.Mesh.{span};
 ghost use Rattle.rules.specs.Types.{axesOf};
 ghost use Rattle.strided.specs.Strided.{offset};
 ghost use Rattle.digits.specs.Digits.{cleared, axisDigits, meshDigits};
-ghost use Rattle.sums.specs.Sums.{groupWord, reducedWord, reducedBuffer, firstWords, shiftWords};
+ghost use Rattle.sums.specs.Sums.{partWord, groupWord, reducedWord, reducedBuffer, firstWords, shiftWords};
 ghost use Rattle.sums.specs.Sums.{Offsets, Group, Repeat, Groups, Shifting, Placing, Tables, Reducing};
 
 // The numbers of the digits of a group's axes, or of all devices.
@@ -31,16 +31,52 @@ fn add_words(to: &mut [u32], from: &[u32])
     }
 }
 
-// The sum of the shards of one group.
-fn sum_group(to: &mut [u32], old: &[u32], shifts: &[usize], at: usize)
+// Adds the words of three shards of old, at a, b and c, to those of to, modulo 2^32.
+fn add_three(to: &mut [u32], old: &[u32], a: usize, b: usize, c: usize)
+    requires { ⌜ a + length (now to) ≤ length (now old) ⌝ }
+    requires { ⌜ b + length (now to) ≤ length (now old) ⌝ }
+    requires { ⌜ c + length (now to) ≤ length (now old) ⌝ }
+    ensures { λ _. ⌜ now (to .exit) ≡ tab (length (now (to .entry))) (λ o. (getD (now (to .entry)) o 0 + getD (now (old .entry)) (a + o) 0
+        + getD (now (old .entry)) (b + o) 0 + getD (now (old .entry)) (c + o) 0) % 2 ^ 32) ⌝ }
+{
+    let mut t: usize = 0;
+    while t < to.len() {
+        let one = std::num::wrapping_add_u32(to[t], old[a + t]);
+        let two = std::num::wrapping_add_u32(one, old[b + t]);
+        to[t] = std::num::wrapping_add_u32(two, old[c + t]);
+        t += 1;
+    }
+}
+
+// The sum of the shards of most members of a group: the first one's, and then three at a time, since that passes over the sum a third as often.
+// Answers how many members that is.
+fn sum_most(to: &mut [u32], old: &[u32], shifts: &[usize], at: usize) -> usize
     requires { ⌜ Group (now shifts) (length (now to)) at (length (now old)) ⌝ }
-    ensures { λ _. ⌜ now (to .exit) ≡ tab (length (now (to .entry))) (groupWord (now (old .entry)) (now (shifts .entry)) at) ⌝ }
+    ensures { λ r. ⌜ (0 < r) × (r ≤ length (now (shifts .entry))) ⌝ }
+    ensures { λ r. ⌜ now (to .exit) ≡ tab (length (now (to .entry))) (partWord (now (old .entry)) (now (shifts .entry)) at r) ⌝ }
 {
     let m = to.len();
     let first = at + shifts[0];
     let last = first + m;
     strided::copy_run(to, &old[first..last]);
     let mut q: usize = 1;
+    while q + 2 < shifts.len() {
+        let a = at + shifts[q];
+        let b = at + shifts[q + 1];
+        let c = at + shifts[q + 2];
+        add_three(to, old, a, b, c);
+        q += 3;
+    }
+    q
+}
+
+// The sum of the shards of one group.
+fn sum_group(to: &mut [u32], old: &[u32], shifts: &[usize], at: usize)
+    requires { ⌜ Group (now shifts) (length (now to)) at (length (now old)) ⌝ }
+    ensures { λ _. ⌜ now (to .exit) ≡ tab (length (now (to .entry))) (groupWord (now (old .entry)) (now (shifts .entry)) at) ⌝ }
+{
+    let m = to.len();
+    let mut q = sum_most(to, old, shifts, at);
     while q < shifts.len() {
         let from = at + shifts[q];
         let end = from + m;

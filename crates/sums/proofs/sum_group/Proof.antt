@@ -5,10 +5,9 @@ use mathlib.Core.List.{List}
 use lib.ListN.{length, getD}
 use denote.Ref.{now}
 use Rattle.rules.specs.Lists.{tab}
-use Rattle.rules.specs.Spread.{addWords}
 use Rattle.rules.proofs.Fronts.{part-length}
-use Rattle.sums.specs.Sums.{groupWord}
-use Rattle.sums.proofs.Adding.{first-shard, add-step}
+use Rattle.sums.specs.Sums.{partWord, groupWord}
+use Rattle.sums.proofs.Adding.{add-step}
 use Rattle.sums.proofs.sum_group.Statement.{statement}
 use Rattle.sums.proofs.sum_group.Tie as tie
 
@@ -17,54 +16,22 @@ abbrev word : List ℕ → List ℕ → ℕ → ℕ → ℕ → ℕ
 word old shifts at o q = getD old (at + getD shifts q 0 + o) 0
 
 abbrev Inv-loop : tie.InvT-loop
-Inv-loop to₀ old shifts at m first last q₀ to q = (1 ≤ q) × (q ≤ length shifts) × (to ≡ tab m (λ o. addWords (tab q (word old shifts at o))))
-    × (length to ≡ m)
+Inv-loop to₀ old shifts at m q₀ to q = (1 ≤ q) × (q ≤ length shifts) × (to ≡ tab m (partWord old shifts at q)) × (length to ≡ m)
 
 abbrev μ-loop : tie.MeasureT-loop
-μ-loop to₀ old shifts at m first last q₀ to q = length shifts - q
+μ-loop to₀ old shifts at m q₀ to q = length shifts - q
 
 inside : (s : tie.Start Inv-loop μ-loop) (q : ℕ) → q < length (now (s .args .shifts))
     → s .args .at + getD (now (s .args .shifts)) q 0 + length (now (s .args .to)) ≤ length (now (s .args .old))
 inside s q h = s .pre .inside q h
 
-shared-slice-read-first : tie.Need-shared-slice-read-first Inv-loop μ-loop
-shared-slice-read-first c = omega (arith, c .before .before .before .before .pre .some)
-
-add-first : tie.Need-add-first Inv-loop μ-loop
-add-first c = omega (arith, inside (c .before .before .before .before) 0 (c .before .before .before .before .pre .some))
-
-add-last : tie.Need-add-last Inv-loop μ-loop
-add-last c = omega (arith, inside (c .before .before .before .before) 0 (c .before .before .before .before .pre .some))
-
-mul-copy-run : tie.Need-mul-copy-run Inv-loop μ-loop
-mul-copy-run c = omega (arith, inside (c .before .before .before .before .before) 0 (c .before .before .before .before .before .pre .some))
-
-sub-copy-run : tie.Need-sub-copy-run Inv-loop μ-loop
-sub-copy-run c = omega arith
-
-part-copy-run-start : tie.Need-part-copy-run-start Inv-loop μ-loop
-part-copy-run-start c = omega arith
-
-part-copy-run-end : tie.Need-part-copy-run-end Inv-loop μ-loop
-part-copy-run-end c = omega (arith, inside (c .before .before .before .before .before) 0 (c .before .before .before .before .before .pre .some))
-
-copy-run-requires : tie.Need-copy-run-requires Inv-loop μ-loop
-copy-run-requires c κs =
-    let s = c .before .before .before .before .before .before in
-    sym (part-length (now (s .args .old)) (s .args .at + getD (now (s .args .shifts)) 0 0) (length (now (s .args .to))) (inside s 0 (s .pre .some)))
+sum-most-requires : tie.Need-sum-most-requires Inv-loop μ-loop
+sum-most-requires c κs = c .before .before .before .before .pre
 
 loop-holds : tie.Need-loop-holds Inv-loop μ-loop
 loop-holds c =
-    let s = c .before .before .before .before .before .before .before .before .before in
-    let shifts = now (s .args .shifts) in
-    let old = now (s .args .old) in (
-      omega arith,
-      omega (arith, s .pre .some),
-      c .before .before .copy-run .ensures
-          ∙ first-shard old (length (now (s .args .to))) (s .args .at + getD shifts 0 0) (word old shifts (s .args .at)) (inside s 0 (s .pre .some))
-          (λ o. refl),
-      c .before .before .copy-run .kept .0,
-    )
+    let r = c .before .before .sum-most in
+    (omega (arith, r .ensures .0 .0), r .ensures .0 .1, r .ensures .1, r .kept .0)
 
 mul-from : tie.Need-mul-from Inv-loop μ-loop
 mul-from c = omega arith
@@ -76,7 +43,7 @@ add-from : tie.Need-add-from Inv-loop μ-loop
 add-from c =
     omega (
       arith,
-      inside (c .before .before .before .before .before .before .before .before .before .before .before .before)
+      inside (c .before .before .before .before .before .before .before .before .before .before)
           (c .before .before .loop .q) (c .before .loop-test .taken),
     )
 
@@ -84,7 +51,7 @@ add-end : tie.Need-add-end Inv-loop μ-loop
 add-end c =
     omega (
       arith,
-      inside (c .before .before .before .before .before .before .before .before .before .before .before .before)
+      inside (c .before .before .before .before .before .before .before .before .before .before)
           (c .before .before .loop .q) (c .before .loop-test .taken),
     )
 
@@ -92,7 +59,7 @@ mul-add-words : tie.Need-mul-add-words Inv-loop μ-loop
 mul-add-words c =
     omega (
       arith,
-      inside (c .before .before .before .before .before .before .before .before .before .before .before .before .before)
+      inside (c .before .before .before .before .before .before .before .before .before .before .before)
           (c .before .before .before .loop .q) (c .before .before .loop-test .taken),
     )
 
@@ -106,13 +73,13 @@ part-add-words-end : tie.Need-part-add-words-end Inv-loop μ-loop
 part-add-words-end c =
     omega (
       arith,
-      inside (c .before .before .before .before .before .before .before .before .before .before .before .before .before)
+      inside (c .before .before .before .before .before .before .before .before .before .before .before)
           (c .before .before .before .loop .q) (c .before .before .loop-test .taken),
     )
 
 add-words-requires : tie.Need-add-words-requires Inv-loop μ-loop
 add-words-requires c κs =
-    let s = c .before .before .before .before .before .before .before .before .before .before .before .before .before .before in
+    let s = c .before .before .before .before .before .before .before .before .before .before .before .before in
     let l = c .before .before .before .before in
     l .loop .inv .3
     ∙ sym (part-length (now (s .args .old)) (s .args .at + getD (now (s .args .shifts)) (l .loop .q) 0) (length (now (s .args .to)))
@@ -126,7 +93,7 @@ loop-less c = omega arith
 
 loop-again : tie.Need-loop-again Inv-loop μ-loop
 loop-again c =
-    let s = c .before .before .before .before .before .before .before .before .before .before .before .before .before .before .before .before .before in
+    let s = c .before .before .before .before .before .before .before .before .before .before .before .before .before .before .before in
     let l = c .before .before .before .before .before .before .before in
     let old = now (s .args .old) in
     let shifts = now (s .args .shifts) in
@@ -145,7 +112,7 @@ returns : tie.Need-returns Inv-loop μ-loop
 unfolding groupWord
 returns c =
     let l = c .before in
-    let s = c .before .before .before .before .before .before .before .before .before .before .before in
+    let s = c .before .before .before .before .before .before .before .before .before in
     let e : l .loop .q ≡ length (now (s .args .shifts)) = omega arith in
     rw e at (l .loop .inv .2)
 
@@ -155,14 +122,7 @@ sum-group-spec =
     (tie.spec
     Inv-loop
     μ-loop
-    shared-slice-read-first
-    add-first
-    add-last
-    mul-copy-run
-    sub-copy-run
-    part-copy-run-start
-    part-copy-run-end
-    copy-run-requires
+    sum-most-requires
     loop-holds
     mul-from
     shared-slice-read-from
