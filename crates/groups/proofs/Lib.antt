@@ -2,4 +2,5 @@
 pub mod Lists
 pub mod Ordering
 pub mod Tests
+pub mod Writing
 pub mod Listing

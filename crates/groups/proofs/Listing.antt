@@ -1,7 +1,7 @@
 -- The whole call: what it answers and leaves where a test refuses (`RefusedHere`) and where all pass (`listed`), and that an accepted listing is a
 -- rearrangement (`lists-all`, specs/Promises.antt). Assumes nothing.
 use Prim.Native.Nat.{ℕ, _≤_}
-use mathlib.Core.Path.{_≡_, refl, sym, ap, _∙_}
+use mathlib.Core.Path.{_≡_, refl, sym, ap, ap₂, _∙_}
 use mathlib.Core.Bool.{Bool, false, _&&_}
 use mathlib.Core.List.{List, [], _++_}
 use native.Mathlib.Omega.{arith}
@@ -89,27 +89,26 @@ module _ (mesh axes out : List ℕ) where
     room-refused r d w e = refused-here r (rw (t .counted, t .sized, t .named, ← w, e) refl)
 
     pub order-ready : (order : List ℕ) (d : ℕ) → order ≡ orderOf (length mesh) axes → d ≡ devices mesh → need (leb d (length out)) 33 ≡ accept tt
-        → IsOrder mesh order d (length out)
+        → IsOrder mesh order (length out)
     order-ready order d eo w e =
         let f : Fits mesh = sizes-fit mesh (t .sized) in
         rw eo (record {
           fits = f;
           list = order-list list-ready;
           whole = order-span mesh axes f list-ready;
-          counted = w;
-          enough = leb→le d (length out) (need-true 0 (leb d (length out)) 33 e);
+          enough = rw w at (leb→le d (length out) (need-true 0 (leb d (length out)) 33 e));
         })
 
     -- "It writes D device numbers .. Entries after the first D stay."
     pub listed : (order : List ℕ) (d : ℕ) → order ≡ orderOf (length mesh) axes → d ≡ devices mesh → need (leb d (length out)) 33 ≡ accept tt
-        → (accept d ≡ groupsOf mesh axes out) × (tab d (along mesh order) ++ drop d out ≡ groupsLeave mesh axes out)
+        → (accept d ≡ groupsOf mesh axes out) × (tab (devices mesh) (along mesh order) ++ drop (devices mesh) out ≡ groupsLeave mesh axes out)
     unfolding groupsOf groupsLeave
     listed order d eo w e =
         let f : Fits mesh = sizes-fit mesh (t .sized) in
         let a : groupsOf mesh axes out ≡ accept d = rw (t .counted, t .sized, t .named, ← w, e) refl in
-        let front : tab d (along mesh order) ≡ listing mesh axes = rw (w, eo) (sym (listing-along mesh axes f list-ready)) in (
+        let front : tab (devices mesh) (along mesh order) ≡ listing mesh axes = rw eo (sym (listing-along mesh axes f list-ready)) in (
           sym a,
-          ap (λ (l : List ℕ). l ++ drop d out) front ∙ sym (ap (λ (m : Judged ℕ). groupsOut m mesh axes out) a),
+          ap₂ (λ (l : List ℕ) (k : ℕ). l ++ drop k out) front (sym w) ∙ sym (ap (λ (m : Judged ℕ). groupsOut m mesh axes out) a),
         )
 
 -- ---- the promise

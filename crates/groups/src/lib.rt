@@ -7,16 +7,17 @@ ghost use Prim.Native.Nat.{_≤_};
 ghost use lib.ListN.{length, drop};
 ghost use lib.Dec.{leb};
 ghost use Rattle.rules.specs.Lists.{tab, pick, without};
+ghost use Rattle.rules.specs.Mesh.{devices};
 ghost use Rattle.rules.specs.Limits.{mostAxes, mostDevices};
 ghost use Rattle.rules.specs.Refusals.{need};
 ghost use Rattle.rules.specs.PlanFile.{judgeSizes};
 ghost use Rattle.rules.specs.Types.{axesOf};
 ghost use Rattle.rules.specs.Calls.{groupsOf, groupsLeave, groupsMeaning};
 ghost use Rattle.start.specs.Start.{meaning};
-ghost use Rattle.groups.specs.Ordering.{orderOf, along, IsList, IsOrder};
+ghost use Rattle.groups.specs.Ordering.{orderOf, along, repeated, IsList, IsOrder, Repeats};
 use axes::is_in;
-use mesh::device_at;
 use mesh::product_from;
+use mesh::size_at;
 use rules::Axis;
 use rules::AxisList;
 use rules::Device;
@@ -135,16 +136,35 @@ fn order_of(list: AxisList, n: usize) -> AxisList
     extended(rest, list, none)
 }
 
-// The devices by place, at the front of the output.
-fn write_devices(mesh: &[u16], order: AxisList, count: usize, out: &mut [u16])
-    requires { ⌜ IsOrder (now mesh) (axesOf order) count (length (now out)) ⌝ }
-    ensures { λ _. ⌜ now (out .exit) ≡ tab count (along (now (mesh .entry)) (axesOf order)) ++ drop count (now (out .entry)) ⌝ }
+// The first entries of the output again and again up to an end, a stride further on each time.
+fn repeat_devices(out: &mut [u16], count: usize, end: usize, stride: usize)
+    requires { ⌜ Repeats (now out) count end stride ⌝ }
+    ensures { λ _. ⌜ now (out .exit) ≡ tab end (repeated (now (out .entry)) count stride) ++ drop end (now (out .entry)) ⌝ }
 {
-    let mut place: usize = 0;
-    while place < count {
-        let device = device_at(mesh, order, place);
-        out[place] = device.0;
+    let mut place = count;
+    while place < end {
+        let device = out[place - count] as usize + stride;
+        out[place] = device as u16;
         place += 1;
+    }
+}
+
+// The devices by place, at the front of the output: device 0, then those along one axis more, from the last axis on.
+fn write_devices(mesh: &[u16], order: AxisList, out: &mut [u16])
+    requires { ⌜ IsOrder (now mesh) (axesOf order) (length (now out)) ⌝ }
+    ensures { λ _. ⌜ now (out .exit) ≡ tab (devices (now (mesh .entry))) (along (now (mesh .entry)) (axesOf order)) ++ drop (devices
+        (now (mesh .entry))) (now (out .entry)) ⌝ }
+{
+    let mut count: usize = 1;
+    let mut i = order.len();
+    out[0] = 0;
+    while 0 < i {
+        i -= 1;
+        let axis = order.at(i);
+        let stride = product_from(mesh, axis.0 as usize + 1);
+        let end = size_at(mesh, axis) * count;
+        repeat_devices(out, count, end, stride);
+        count = end;
     }
 }
 
@@ -174,6 +194,6 @@ pub fn groups(mesh: &[u16], axes: &[u8], out: &mut [u16]) -> GroupsOutcome
     };
     let list = list_of(axes);
     let order = order_of(list, n);
-    write_devices(mesh, order, devices, out);
+    write_devices(mesh, order, out);
     GroupsOutcome::Listed(devices)
 }

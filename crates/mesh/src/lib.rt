@@ -3,9 +3,9 @@
 ghost use mathlib.Core.Path.{_≡_};
 ghost use lib.ListN.{getD, drop};
 ghost use Rattle.rules.specs.Lists.{product as productOf};
-ghost use Rattle.rules.specs.Mesh.{deviceNumber, deviceCoords, position, member};
+ghost use Rattle.rules.specs.Mesh.{deviceCoords, position};
 ghost use Rattle.rules.specs.Types.{axesOf};
-ghost use Rattle.mesh.specs.Fitting.{Sizes, IsDevice, IsPosition};
+ghost use Rattle.mesh.specs.Fitting.{Sizes, IsDevice};
 use rules::Axis;
 use rules::AxisList;
 use rules::Device;
@@ -59,23 +59,4 @@ pub fn position_of(mesh: &[u16], list: AxisList, device: Device) -> usize
         i += 1;
     }
     place
-}
-
-// The device at a position of device 0's group along a list.
-pub fn device_at(mesh: &[u16], list: AxisList, place: usize) -> Device
-    requires { ⌜ IsPosition (now mesh) (axesOf list) place ⌝ }
-    ensures { λ r. ⌜ r .0 ≡ deviceNumber (now (mesh .entry)) (member (now (mesh .entry)) (axesOf list) place (deviceCoords (now (mesh .entry)) 0)) ⌝ }
-{
-    let mut number: usize = 0;
-    let mut left = place;
-    let mut i = list.len();
-    while 0 < i {
-        i -= 1;
-        let axis = list.at(i);
-        let size = size_at(mesh, axis);
-        let stride = product_from(mesh, axis.0 as usize + 1);
-        number = number + left % size * stride;
-        left = left / size;
-    }
-    Device(number as u16)
 }

@@ -5,7 +5,8 @@ use mathlib.Core.Path.{_≡_, refl, sym, ap, ap₂, _∙_, subst, fun-ext}
 use mathlib.Core.List.{List, [], _∷_, _++_, append-assoc, append-nil}
 use native.Mathlib.Omega.{arith}
 use native.Mathlib.Numerals.{add-one}
-use lib.ListN.{length, getD, length-append}
+use native.Mathlib.Decide.{decLt}
+use lib.ListN.{length, getD, take, length-append}
 use lib.Seq.{take-append-le, take-all}
 use Rattle.rules.specs.Lists.{tab, inTurn, product, largest}
 use Rattle.rules.specs.Sharding.{Sharding, shardSizes, IsSharding}
@@ -59,28 +60,31 @@ module _ (mesh sizes file : List ℕ) where
       subst (λ (m : Read Move). judgeStep mesh sizes k (m .value .step) s ≡ accept (m .value .sharding)) (accept-inj (q .2)) (q .1)
 
   -- after k of the steps, which begin at `from` with the sharding s₀
-  pub record Walking (count from : ℕ) (s₀ : Sharding) (k at : ℕ) (s : Sharding) (most : ℕ) : Type 0 where
+  pub record Walking (state count from : ℕ) (s₀ : Sharding) (k at : ℕ) (s kept : Sharding) (most : ℕ) : Type 0 where
     pub done : List Step
     pub many : length done ≡ k
     pub few : k ≤ count
     pub here : s ≡ inTurn after done s₀
+    pub kept-is : kept ≡ inTurn after (take state done) s₀
     pub sound : IsSharding mesh sizes s
     pub same : stepsAt mesh sizes 1 count file from s₀ ≡ before done (stepsAt mesh sizes (k + 1) (count - k) file at s)
     pub most-is : most ≡ largest (tab (k + 1) (wordsAfter mesh sizes s₀ done))
 
-  pub walking : (count from : ℕ) (s₀ : Sharding) (most : ℕ) → IsSharding mesh sizes s₀ → most ≡ product (shardSizes mesh sizes (s₀ .dims)) → Walking count from s₀ 0 from s₀ most
-  walking count from s₀ most h e = record {
+  pub walking : (state count from : ℕ) (s₀ : Sharding) (most : ℕ) → IsSharding mesh sizes s₀ → most ≡ product (shardSizes mesh sizes (s₀ .dims))
+      → Walking state count from s₀ 0 from s₀ s₀ most
+  walking state count from s₀ most h e = record {
     done = [];
     many = refl;
     few = omega arith;
     here = refl;
+    kept-is = sym (ap (λ (ts : List Step). inTurn after ts s₀) (take-all state [] (omega arith)));
     sound = h;
     same = before-none (stepsAt mesh sizes 1 count file from s₀) ∙ ap (λ (n : ℕ). before [] (stepsAt mesh sizes 1 n file from s₀)) (omega arith);
     most-is = e ∙ omega arith;
   }
 
-  module _ {count from : ℕ} {s₀ : Sharding} {k at : ℕ} {s : Sharding} {most : ℕ} (g : Walking count from s₀ k at s most) where
-    pub halted : {a b : ℕ} → k < count → takeStep mesh sizes (k + 1) file at s ≡ refuse a b → walkAt mesh sizes count file from s₀ ≡ refuse a b
+  module _ {state count from : ℕ} {s₀ : Sharding} {k at : ℕ} {s kept : Sharding} {most : ℕ} (g : Walking state count from s₀ k at s kept most) where
+    pub halted : {a b : ℕ} → k < count → takeStep mesh sizes (k + 1) file at s ≡ refuse a b → walkAt mesh sizes state count file from s₀ ≡ refuse a b
     unfolding walkAt
     halted h e =
         let c : count - k ≡ suc (count - (k + 1)) = omega arith in
@@ -89,14 +93,15 @@ module _ (mesh sizes file : List ℕ) where
         ∙ ap (before (g .done)) (steps-take (k + 1) (count - (k + 1)) at s ∙ ap (λ (j : Judged (Read Move)). _>>=_ j (further (k + 1) (count - (k + 1)))) e) in
         rw w refl
 
-    pub arrived : count ≤ k → walkAt mesh sizes count file from s₀ ≡ accept (record { value = record { sharding = s; most = most }; next = at })
+    pub arrived : count ≤ k
+        → walkAt mesh sizes state count file from s₀ ≡ accept (record { value = record { sharding = s; kept = kept; most = most }; next = at })
     unfolding walkAt stepsAt
     arrived h =
         let c : count - k ≡ 0 = omega (arith, g .few) in
         let w : stepsAt mesh sizes 1 count file from s₀ ≡ accept (record { value = g .done; next = at }) =
         g .same ∙ ap (λ (n : ℕ). before (g .done) (stepsAt mesh sizes (k + 1) n file at s)) c
         ∙ ap (λ (l : List Step). accept (record { value = l; next = at })) (append-nil (g .done)) in
-        rw (w, g .many, ← (g .here), ← (g .most-is)) refl
+        rw (w, g .many, ← (g .here), ← (g .kept-is), ← (g .most-is)) refl
 
     module _ (pos : (a : ℕ) → 0 < getD mesh a 1) {m : Read Move} (h : k < count) (e : takeStep mesh sizes (k + 1) file at s ≡ accept m) where
       taken : Step
@@ -116,16 +121,35 @@ module _ (mesh sizes file : List ℕ) where
           (ap (λ (ts : List Step). inTurn after ts s₀) (take-all (k + 1) (g .done ++ taken ∷ []) (omega (arith, length-append (g .done) (taken ∷ []), g .many)))
           ∙ in-turn-snoc (g .done) taken s₀ ∙ ap (after taken) (sym (g .here)) ∙ sym is-after)
 
-      pub onward : (next : ℕ) → next ≡ max most (product (shardSizes mesh sizes (m .value .sharding .dims)))
-          → Walking count from s₀ (k + 1) (m .next) (m .value .sharding) next
+      here-after : m .value .sharding ≡ inTurn after (g .done ++ taken ∷ []) s₀
+      here-after = is-after ∙ ap (after taken) (g .here) ∙ sym (in-turn-snoc (g .done) taken s₀)
+
+      kept-after : (keep : Sharding) → (k < state → keep ≡ m .value .sharding) → (state ≤ k → keep ≡ kept)
+          → keep ≡ inTurn after (take state (g .done ++ taken ∷ [])) s₀
+      kept-after keep a b = go (decLt k state)
+        where
+          go : Dec (k < state) → keep ≡ inTurn after (take state (g .done ++ taken ∷ [])) s₀
+          go (yes l) =
+              a l ∙ here-after
+              ∙ ap (λ (ts : List Step). inTurn after ts s₀)
+              (sym (take-all state (g .done ++ taken ∷ []) (omega (arith, length-append (g .done) (taken ∷ []), g .many))))
+          go (no n) =
+              let l : state ≤ k = omega (arith, n) in
+              b l ∙ g .kept-is
+              ∙ ap (λ (ts : List Step). inTurn after ts s₀) (sym (take-append-le state (g .done) (taken ∷ []) (omega (arith, g .many))))
+
+      pub onward : (keep : Sharding) (next : ℕ) → (k < state → keep ≡ m .value .sharding) → (state ≤ k → keep ≡ kept)
+          → next ≡ max most (product (shardSizes mesh sizes (m .value .sharding .dims)))
+          → Walking state count from s₀ (k + 1) (m .next) (m .value .sharding) keep next
       unfolding taken
-      onward next w =
+      onward keep next a b w =
           let c : count - k ≡ suc (count - (k + 1)) = omega arith in
           record {
             done = g .done ++ taken ∷ [];
             many = length-append (g .done) (taken ∷ []) ∙ omega (arith, g .many);
             few = omega arith;
-            here = is-after ∙ ap (after taken) (g .here) ∙ sym (in-turn-snoc (g .done) taken s₀);
+            here = here-after;
+            kept-is = kept-after keep a b;
             sound = subst (IsSharding mesh sizes) (sym is-after)
                 (after-sharding mesh sizes pos taken s (g .sound) (facts mesh sizes (k + 1) taken s (m .value .sharding) (take-judged (k + 1) at s m e) .0));
             same = g .same ∙ ap (λ (n : ℕ). before (g .done) (stepsAt mesh sizes (k + 1) n file at s)) c

@@ -98,28 +98,34 @@ takenRead rank r = reading (r .next) (record { step = stepOf rank (r .step); sha
 
 -- ---- steps in turn
 
--- the sharding after the steps, and the most words that a shard has on the way, start included
+-- the sharding after the steps, the one after those up to a state, and the most words that a shard has on the way, start included
 pub record Walked : Type 0 where
   pub sharding : Sharding
+  pub kept : Sharding
   pub most : ℕ
 
 abbrev pub wordsAfter : (mesh sizes : List ℕ) → Sharding → List Step → ℕ → ℕ
 wordsAfter mesh sizes s ts k = product (shardSizes mesh sizes (inTurn after (take k ts) s .dims))
 
-unfoldable pub walkAt : (mesh sizes : List ℕ) → ℕ → List ℕ → ℕ → Sharding → Judged (Read Walked)
+unfoldable pub walkAt : (mesh sizes : List ℕ) → (state count : ℕ) → List ℕ → ℕ → Sharding → Judged (Read Walked)
 unfolding stepsAt after
-walkAt mesh sizes count file at s = do
+walkAt mesh sizes state count file at s = do
   ts ← stepsAt mesh sizes 1 count file at s
   accept (record {
     value = record {
       sharding = inTurn after (ts .value) s;
+      kept = inTurn after (take state (ts .value)) s;
       most = largest (tab (length (ts .value) + 1) (wordsAfter mesh sizes s (ts .value)));
     };
     next = ts .next;
   })
 
 abbrev pub walkRead : ℕ → Walk → Judged (Read Walked)
-walkRead rank r = reading (r .next) (record { sharding = shardingOf rank (r .sharding); most = r .most })
+walkRead rank r = reading (r .next) (record {
+  sharding = shardingOf rank (r .sharding);
+  kept = shardingOf rank (r .kept);
+  most = r .most;
+})
 
 -- ---- the whole file
 
@@ -142,6 +148,10 @@ judgesBy (next.Refused r) file w = judge file ≡ refusedBy r
 
 abbrev pub Judges : List ℕ → Whole → Type 0
 Judges file w = judgesBy (w .next) file w
+
+-- w keeps the sharding that the plan announces after so many steps
+abbrev pub Keeps : List ℕ → ℕ → Whole → Type 0
+Keeps file state w = (p : Plan) → judge file ≡ accept p → announced p state ≡ shardingOf (w .table .rank) (w .kept)
 
 -- what the check answers of it, where its numbers are within their limits
 abbrev pub answerOf : Whole → CheckAnswer

@@ -13,7 +13,7 @@ ghost use Rattle.reader.specs.Reading.{headerOf};
 ghost use Rattle.axes.specs.Mesh.{meshOf};
 ghost use Rattle.dims.specs.Dims.{sizesOf};
 ghost use Rattle.judge.specs.Step.{Ready};
-ghost use Rattle.plan.specs.Parts.{shapeAt, shapeRead, openRead, Counts, Opens, Counted, takeStep, takenRead, walkAt, walkRead, Judges, Bounded, answerOf, Blank, stateOf, stateMeaning, Shaped};
+ghost use Rattle.plan.specs.Parts.{shapeAt, shapeRead, openRead, Counts, Opens, Counted, takeStep, takenRead, walkAt, walkRead, Judges, Keeps, Bounded, answerOf, Blank, stateOf, stateMeaning, Shaped};
 use axes::Mesh;
 use dims::shard_of;
 use dims::words;
@@ -68,11 +68,12 @@ pub struct Taken {
     pub sharding: Sharding,
 }
 
-// The sharding after some steps, the most words that a shard had on the way, and where the next byte is.
+// The sharding after some steps, the one that was kept on the way, the most words that a shard had, and where the next byte is.
 pub struct Walk {
     pub next: Next,
     pub most: usize,
     pub sharding: Sharding,
+    pub kept: Sharding,
 }
 
 impl Shape {
@@ -286,23 +287,33 @@ impl Walk {
             next: Next::Refused(refusal),
             most: 0,
             sharding,
+            kept: sharding,
         }
     }
 }
 
-// So many steps in turn, from the start.
-pub fn walk_steps(
+// The sharding to keep after one step more than k: the later one until the state is passed.
+fn kept_until(state: usize, k: usize, earlier: Sharding, later: Sharding) -> Sharding
+    ensures { λ r. ⌜ (k < state → r ≡ later) × (state ≤ k → r ≡ earlier) ⌝ }
+{
+    if k < state { later } else { earlier }
+}
+
+// So many steps in turn, from the start; the sharding after a state's steps is kept, or the last one where there are fewer.
+fn walk_steps(
     file: &[u8],
     at: usize,
     count: usize,
+    state: usize,
     mesh: Mesh,
     table: Table,
     start: Sharding,
 ) -> Walk
     requires { ⌜ Ready mesh table start × (count ≤ mostSteps) ⌝ }
-    ensures { λ r. ⌜ walkRead (table .rank) r ≡ walkAt (meshOf mesh) (sizesOf table) count (now (file .entry)) at (shardingOf (table .rank) start) ⌝ }
+    ensures { λ r. ⌜ walkRead (table .rank) r ≡ walkAt (meshOf mesh) (sizesOf table) state count (now (file .entry)) at (shardingOf (table .rank) start) ⌝ }
 {
     let mut sharding = start;
+    let mut kept = start;
     let mut most = words(shard_of(table, start, mesh));
     let mut place = at;
     let mut k: usize = 0;
@@ -313,6 +324,7 @@ pub fn walk_steps(
             return Walk::refused(next.refusal(), start);
         };
         sharding = taken.sharding;
+        kept = kept_until(state, k, kept, sharding);
         most = larger(most, words(shard_of(table, sharding, mesh)));
         place = end;
         k += 1;
@@ -321,10 +333,12 @@ pub fn walk_steps(
         next: Next::At(place),
         most,
         sharding,
+        kept,
     }
 }
 
-// A file that was judged whole: what stands before its steps, where these begin, the most words of a shard, and the last sharding.
+// A file that was judged whole: what stands before its steps, where these begin, the most words of a shard, the last sharding, and the one that
+// was kept on the way.
 pub struct Whole {
     pub next: Next,
     pub devices: usize,
@@ -334,6 +348,7 @@ pub struct Whole {
     pub table: Table,
     pub start: Sharding,
     pub last: Sharding,
+    pub kept: Sharding,
 }
 
 impl Whole {
@@ -353,13 +368,15 @@ impl Whole {
             table,
             start,
             last: start,
+            kept: start,
         }
     }
 }
 
-// The whole file.
-pub fn judge_file(file: &[u8]) -> Whole
+// The whole file; the sharding after a state's steps is kept.
+fn judge_keeping(file: &[u8], state: usize) -> Whole
     ensures { λ r. ⌜ Judges (now (file .entry)) r ⌝ }
+    ensures { λ r. ⌜ Keeps (now (file .entry)) state r ⌝ }
 {
     let opening = open(file);
     let next = opening.next;
@@ -371,7 +388,7 @@ pub fn judge_file(file: &[u8]) -> Whole
     let mesh = opening.mesh;
     let table = opening.table;
     let start = opening.start;
-    let walk = walk_steps(file, at, steps, mesh, table, start);
+    let walk = walk_steps(file, at, steps, state, mesh, table, start);
     let end = walk.next;
     let Next::At(place) = end else {
         return Whole::refused(end.refusal());
@@ -384,6 +401,7 @@ pub fn judge_file(file: &[u8]) -> Whole
     }
     let most = walk.most;
     let last = walk.sharding;
+    let kept = walk.kept;
     Whole {
         next: Next::At(at),
         devices,
@@ -393,7 +411,15 @@ pub fn judge_file(file: &[u8]) -> Whole
         table,
         start,
         last,
+        kept,
     }
+}
+
+// The whole file.
+pub fn judge_file(file: &[u8]) -> Whole
+    ensures { λ r. ⌜ Judges (now (file .entry)) r ⌝ }
+{
+    judge_keeping(file, 0)
 }
 
 // No lists and no sizes, beside a refusal.
@@ -478,9 +504,9 @@ impl State {
 pub fn state_after(file: &[u8], state: usize) -> State
     ensures { λ r. ⌜ (stateMeaning r ≡ stateOf (now (file .entry)) state) × Shaped r ⌝ }
 {
-    let whole = judge_file(file);
+    let whole = judge_keeping(file, state);
     let next = whole.next;
-    let Next::At(at) = next else {
+    let Next::At(first) = next else {
         return State::refused(next.refusal());
     };
     if whole.steps < state {
@@ -489,11 +515,10 @@ pub fn state_after(file: &[u8], state: usize) -> State
     }
     let mesh = whole.mesh;
     let table = whole.table;
-    let walk = walk_steps(file, at, state, mesh, table, whole.start);
-    let sharding = walk.sharding;
+    let sharding = whole.kept;
     let shard = shard_of(table, sharding, mesh);
     State {
-        next,
+        next: Next::At(first),
         devices: whole.devices,
         mesh,
         table,

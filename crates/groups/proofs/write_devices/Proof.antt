@@ -1,59 +1,85 @@
 use borrow.Author.Needs.{needs}
-use Prim.Native.Nat.{ℕ, _-_, _≤_}
-use mathlib.Core.Path.{_≡_, refl, ap, _∙_}
-use mathlib.Core.List.{_++_}
+use mathlib.Core.Path.{_∙_}
 use native.Mathlib.Omega.{arith}
+use lib.ListN.{set, length-set}
 use denote.Ref.{now}
-use lib.ListN.{drop}
-use Rattle.rules.specs.Lists.{tab}
 use Rattle.rules.specs.Types.{axesOf}
-use Rattle.groups.specs.Ordering.{along}
-use Rattle.groups.proofs.Lists.{Filling, filled}
+use Rattle.mesh.proofs.Sizes.{fit-sizes}
+use Rattle.groups.proofs.Writing.{Writing, Turn, writing, turn, all-written}
 use Rattle.groups.proofs.write_devices.Statement.{statement}
 use Rattle.groups.proofs.write_devices.Tie as tie
 
 abbrev Inv-loop : tie.InvT-loop
-Inv-loop mesh order count out₀ place₀ out place = Filling (along mesh (axesOf order)) out₀ out place × (place ≤ count)
+Inv-loop mesh order out₀ count₀ i₀ out count i = Writing mesh (axesOf order) out₀ out count i
 
 abbrev μ-loop : tie.MeasureT-loop
-μ-loop mesh order count out₀ place₀ out place = count - place
+μ-loop mesh order out₀ count₀ i₀ out count i = i
 
-loop-holds : tie.Need-loop-holds Inv-loop μ-loop
-loop-holds c = (record { same = refl; long = refl }, omega arith)
-
-device-at-requires : tie.Need-device-at-requires Inv-loop μ-loop
-device-at-requires c κs =
-    let p = c .before .before .before .before .pre in
-    record { fits = p .fits; of-mesh = p .list .below; once = p .list .once; below = omega (arith, p .whole, p .counted) }
-
-mul-out : tie.Need-mul-out Inv-loop μ-loop
-mul-out c = search needs
+len-requires : tie.Need-len-requires Inv-loop μ-loop
+len-requires c κs = search needs
 
 slice-write-out : tie.Need-slice-write-out Inv-loop μ-loop
-slice-write-out c =
-    let l = c .before .before in
-    omega (arith, l .loop .inv .0 .long, l .before .before .before .pre .enough)
+slice-write-out c = let p = c .before .before .before .pre in omega (arith, p .fits .some, p .enough)
 
-add-place : tie.Need-add-place Inv-loop μ-loop
-add-place c = search needs
+loop-holds : tie.Need-loop-holds Inv-loop μ-loop
+loop-holds c =
+    let a = c .before .before .before in
+    writing (now (a .args .mesh)) (axesOf (a .args .order)) (now (a .args .out)) (a .pre) _ (c .len .ensures)
+
+sub-i : tie.Need-sub-i Inv-loop μ-loop
+sub-i c = search needs
+
+at-requires : tie.Need-at-requires Inv-loop μ-loop
+at-requires c κs = search needs
+
+cast-product-from : tie.Need-cast-product-from Inv-loop μ-loop
+cast-product-from c = search needs
+
+add-product-from : tie.Need-add-product-from Inv-loop μ-loop
+add-product-from c = search needs
+
+product-from-requires : tie.Need-product-from-requires Inv-loop μ-loop
+product-from-requires c κs = fit-sizes (c .before .before .before .before .before .before .before .pre .fits)
+
+size-at-requires : tie.Need-size-at-requires Inv-loop μ-loop
+size-at-requires c κs = search needs
+
+-- one turn of the loop
+turned : (c : tie.After-size-at Inv-loop μ-loop)
+    → (let l = c .before .before .before .before .before in
+    let a = l .before .before .before .before .args in
+    Turn (now (a .mesh)) (axesOf (a .order)) (set (now (a .out)) 0 0) (l .loop .out) (l .loop .count) (l .loop .i) (c .size-at .result)
+    (c .before .product-from .result))
+turned c =
+    let t = c .before .before .before in
+    let l = t .before .before in
+    let s = l .before .before .before .before in
+    turn (now (s .args .mesh)) (axesOf (s .args .order)) (now (s .args .out)) (s .pre) (l .loop .inv) (t .before .loop-test .taken) _ _ _
+    (t .at .ensures) (c .size-at .ensures) (c .before .product-from .ensures)
+
+mul-end : tie.Need-mul-end Inv-loop μ-loop
+mul-end c =
+    omega (arith, turned c .few, c .before .before .before .before .before .before .before .before .before .pre .fits .few)
+
+repeat-devices-requires : tie.Need-repeat-devices-requires Inv-loop μ-loop
+repeat-devices-requires c κs = turned (c .before) .repeats
 
 loop-less : tie.Need-loop-less Inv-loop μ-loop
 loop-less c = search needs
 
 loop-again : tie.Need-loop-again Inv-loop μ-loop
-loop-again c =
-    let l = c .before .before in
-    (filled (l .loop .inv .0) (omega (arith, l .before .before .before .pre .enough)) _ (c .device-at .ensures), omega arith)
+loop-again c = let r = c .before .before in turned (r .before .before) .next _ (r .repeat-devices .ensures)
 
 same-length : tie.Need-same-length Inv-loop μ-loop
-same-length c = c .before .loop .inv .0 .long
+same-length c =
+    let l = c .before in
+    l .loop .inv .written .long ∙ length-set (now (l .before .before .before .before .args .out)) 0 0
 
 returns : tie.Need-returns Inv-loop μ-loop
 returns c =
     let l = c .before in
-    let a = l .before .before .before .args in
-    let all : l .loop .place ≡ a .count = omega arith in
-    l .loop .inv .0 .same ∙ ap (λ (k : ℕ). tab k (along (now (a .mesh)) (axesOf (a .order))) ++ drop k (now (a .out))) all
+    let s = l .before .before .before .before in
+    all-written (now (s .args .mesh)) (axesOf (s .args .order)) (now (s .args .out)) (s .pre) (l .loop .inv) (c .loop-test .left)
 
 pub write-devices-spec : {M : Type 1} → statement M
 write-devices-spec =
@@ -61,11 +87,17 @@ write-devices-spec =
     (tie.spec
     Inv-loop
     μ-loop
-    loop-holds
-    device-at-requires
-    mul-out
+    len-requires
     slice-write-out
-    add-place
+    loop-holds
+    sub-i
+    at-requires
+    cast-product-from
+    add-product-from
+    product-from-requires
+    size-at-requires
+    mul-end
+    repeat-devices-requires
     loop-less
     loop-again
     same-length

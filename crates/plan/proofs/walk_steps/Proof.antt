@@ -12,11 +12,12 @@ use Rattle.plan.proofs.walk_steps.Statement.{statement}
 use Rattle.plan.proofs.walk_steps.Tie as tie
 
 abbrev Inv-loop : tie.InvT-loop
-Inv-loop file at count mesh table start sharding₀ most₀ place₀ k₀ sharding most place k =
-    Walking (meshOf mesh) (sizesOf table) file count at (shardingOf (table .rank) start) k place (shardingOf (table .rank) sharding) most
+Inv-loop file at count state mesh table start sharding₀ kept₀ most₀ place₀ k₀ sharding kept most place k =
+    Walking (meshOf mesh) (sizesOf table) file state count at (shardingOf (table .rank) start) k place (shardingOf (table .rank) sharding)
+    (shardingOf (table .rank) kept) most
 
 abbrev μ-loop : tie.MeasureT-loop
-μ-loop file at count mesh table start sharding₀ most₀ place₀ k₀ sharding most place k = count - k
+μ-loop file at count state mesh table start sharding₀ kept₀ most₀ place₀ k₀ sharding kept most place k = count - k
 
 shard-of-requires : tie.Need-shard-of-requires Inv-loop μ-loop
 shard-of-requires c κs = let f = c .before .pre .0 .fits in (f .rank, f .sized)
@@ -27,7 +28,7 @@ words-requires c κs = let f = c .before .before .pre .0 .fits in omega (arith, 
 loop-holds : tie.Need-loop-holds Inv-loop μ-loop
 loop-holds c =
     let p = c .before .before .before .pre .0 in
-    walking _ _ _ _ _ _ _ (p .sound) (c .words .ensures ∙ ap product (c .before .shard-of .ensures .1))
+    walking _ _ _ _ _ _ _ _ (p .sound) (c .words .ensures ∙ ap product (c .before .shard-of .ensures .1))
 
 add-take-step : tie.Need-add-take-step Inv-loop μ-loop
 add-take-step c = omega arith
@@ -59,34 +60,41 @@ returns c =
     let stop = read-stopped _ (t .take-step .ensures) (c .before .before .enum-told .given .1) (c .before .refusal .ensures) in
     c .refused .ensures (a .table .rank) ∙ sym (halted _ _ _ (l .loop .inv) (t .before .loop-test .taken) stop)
 
+kept-until-requires : tie.Need-kept-until-requires Inv-loop μ-loop
+kept-until-requires c κs = search needs
+
 shard-of-requires-2 : tie.Need-shard-of-requires-2 Inv-loop μ-loop
 shard-of-requires-2 c κs =
-    let f = c .before .before .before .before .before .before .before .before .before .before .pre .0 .fits in
+    let f = c .before .before .before .before .before .before .before .before .before .before .before .pre .0 .fits in
     (f .rank, f .sized)
 
 words-requires-2 : tie.Need-words-requires-2 Inv-loop μ-loop
 words-requires-2 c κs =
-    let f = c .before .before .before .before .before .before .before .before .before .before .before .pre .0 .fits in
+    let f = c .before .before .before .before .before .before .before .before .before .before .before .before .pre .0 .fits in
     omega (arith, f .rank, c .shard-of2 .ensures .0)
 
 larger-requires : tie.Need-larger-requires Inv-loop μ-loop
 larger-requires c κs = search needs
 
 add-k : tie.Need-add-k Inv-loop μ-loop
-add-k c = omega arith
+add-k c = let l = c .before .before .before .before .before .before .before .before .before .before .before .before .before .before .pre .1 in omega arith
 
 loop-less : tie.Need-loop-less Inv-loop μ-loop
 loop-less c = omega arith
 
 loop-again : tie.Need-loop-again Inv-loop μ-loop
 loop-again c =
-    let n = c .before .before .before .before .before in
+    let u = c .before .before .before in
+    let n = u .before .before .before in
     let t = n .before .before in
     let l = t .before .before in
-    let f = l .before .before .before .before .pre .0 .fits in
+    let s = l .before .before .before .before in
     let m = read-on _ (t .take-step .ensures) (n .next .given .1) in
     let words = c .before .words2 .ensures ∙ ap product (c .before .before .shard-of2 .ensures .1) in
-    onward _ _ _ (l .loop .inv) (f .sized .least) (t .before .loop-test .taken) m _ (c .larger .ensures ∙ ap (max _) words)
+    let rank = s .args .table .rank in
+    onward _ _ _ (l .loop .inv) (s .pre .0 .fits .sized .least) (t .before .loop-test .taken) m _ _
+    (λ h. ap (shardingOf rank) (u .kept-until .ensures .0 h)) (λ h. ap (shardingOf rank) (u .kept-until .ensures .1 h))
+    (c .larger .ensures ∙ ap (max _) words)
 
 returns-2 : tie.Need-returns-2 Inv-loop μ-loop
 returns-2 c = sym (arrived _ _ _ (c .before .loop .inv) (c .loop-test .left))
@@ -108,6 +116,7 @@ walk-steps-spec =
     refusal-requires
     refused-requires
     returns
+    kept-until-requires
     shard-of-requires-2
     words-requires-2
     larger-requires

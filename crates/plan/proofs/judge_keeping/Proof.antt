@@ -1,8 +1,8 @@
 use borrow.Author.Needs.{needs}
 use Rattle.reader.proofs.Answers.{read-on, read-stopped}
 use Rattle.plan.proofs.Wholes.{open-on, open-stopped, judges-refused, ready, front-stops, walk-stops, bytes-left, judges-plan}
-use Rattle.plan.proofs.judge_file.Statement.{statement}
-use Rattle.plan.proofs.judge_file.Tie as tie
+use Rattle.plan.proofs.judge_keeping.Statement.{statement}
+use Rattle.plan.proofs.judge_keeping.Tie as tie
 
 open-requires : tie.Need-open-requires
 open-requires c κs = search needs
@@ -22,7 +22,7 @@ refused-requires c κs = search needs
 returns : tie.Need-returns
 returns c =
     let o = c .before .before .before .before .«open» .ensures in
-    judges-refused _ _ (c .refused .ensures) (front-stops _ (open-stopped _ (o .0) (c .before .before .enum-told .given .1) (c .before .refusal .ensures)))
+    judges-refused _ _ _ (c .refused .ensures) (front-stops _ (open-stopped _ (o .0) (c .before .before .enum-told .given .1) (c .before .refusal .ensures)))
 
 walk-steps-requires : tie.Need-walk-steps-requires
 walk-steps-requires c κs =
@@ -49,7 +49,7 @@ returns-2 c =
     let o = n .before .before .«open» .ensures in
     let f = open-on _ (o .0) (n .next .given .1) in
     let stop = read-stopped _ (w .walk-steps .ensures) (c .before .before .enum-told2 .given .1) (c .before .refusal2 .ensures) in
-    judges-refused _ _ (c .refused2 .ensures) (walk-stops _ f (o .1 .steps-are _ f) stop)
+    judges-refused _ _ _ (c .refused2 .ensures) (walk-stops _ f (o .1 .steps-are _ f) _ stop)
 
 refused-requires-3 : tie.Need-refused-requires-3
 refused-requires-3 c κs = search needs
@@ -62,18 +62,18 @@ returns-3 c =
     let o = n .before .before .«open» .ensures in
     let f = open-on _ (o .0) (n .next .given .1) in
     let q = read-on _ (w .walk-steps .ensures) (e .end .given .1) in
-    judges-refused _ _ (c .refused3 .ensures) (bytes-left _ f (o .1 .steps-are _ f) q (c .before .if1 .taken))
+    judges-refused _ _ _ (c .refused3 .ensures) (bytes-left _ f (o .1 .steps-are _ f) _ q (c .before .if1 .taken))
 
 returns-4 : tie.Need-returns-4
 returns-4 c =
-    let e = c .before .before .before in
+    let e = c .before .before .before .before in
     let w = e .before .before in
     let n = w .before .before .before .before .before in
     let o = n .before .before .«open» .ensures in
-    judges-plan _ _ _ (o .0) (o .1) (n .next .given .1) (w .walk-steps .ensures) (e .end .given .1) (c .before .if1 .left)
+    judges-plan _ _ _ _ (o .0) (o .1) (n .next .given .1) (w .walk-steps .ensures) (e .end .given .1) (c .before .before .if1 .left)
 
-pub judge-file-spec : {M : Type 1} → statement M
-judge-file-spec =
+pub judge-keeping-spec : {M : Type 1} → statement M
+judge-keeping-spec =
     tie.close
     (tie.spec
     open-requires

@@ -1,0 +1,107 @@
+use borrow.Author.Needs.{needs}
+use Prim.Native.Nat.{ℕ, _+_, _-_, _<_, _≤_}
+use mathlib.Core.Path.{_≡_, ap, _∙_}
+use mathlib.Core.List.{_++_}
+use native.Mathlib.Omega.{arith}
+use denote.Ref.{now}
+use lib.ListN.{getD, drop}
+use Rattle.rules.specs.Lists.{tab}
+use Rattle.rules.specs.Limits.{mostDevices}
+use Rattle.groups.specs.Ordering.{repeated}
+use Rattle.groups.proofs.Lists.{Filling, filled}
+use Rattle.groups.proofs.Writing.{repeating, repeated-next}
+use Rattle.groups.proofs.repeat_devices.Statement.{statement}
+use Rattle.groups.proofs.repeat_devices.Tie as tie
+
+abbrev Inv-loop : tie.InvT-loop
+Inv-loop out₀ count end stride place₀ out place = Filling (repeated out₀ count stride) out₀ out place × (count ≤ place) × (place ≤ end)
+
+abbrev μ-loop : tie.MeasureT-loop
+μ-loop out₀ count end stride place₀ out place = end - place
+
+loop-holds : tie.Need-loop-holds Inv-loop μ-loop
+loop-holds c =
+    let p = c .pre in
+    (repeating (now (c .args .out)) (c .args .count) (c .args .stride) (omega (arith, p .more, p .room)), omega arith, omega (arith, p .more))
+
+sub-device : tie.Need-sub-device Inv-loop μ-loop
+sub-device c = search needs
+
+mul-device : tie.Need-mul-device Inv-loop μ-loop
+mul-device c = search needs
+
+slice-read-device : tie.Need-slice-read-device Inv-loop μ-loop
+slice-read-device c = search needs
+
+-- the device that is written
+next : (c : tie.After-slice-known Inv-loop μ-loop)
+    → (let l = c .before .before in
+    let a = l .before .args in
+    getD (l .loop .out) (l .loop .place - a .count) 0 + a .stride ≡ repeated (now (a .out)) (a .count) (a .stride) (l .loop .place))
+next c =
+    let l = c .before .before in
+    let a = l .before .args in
+    repeated-next (now (a .out)) (a .count) (a .stride) (l .loop .inv .0) (l .before .pre .some) (l .loop .inv .1)
+
+few : (c : tie.After-slice-known Inv-loop μ-loop)
+    → (let l = c .before .before in
+    let a = l .before .args in
+    getD (l .loop .out) (l .loop .place - a .count) 0 + a .stride < mostDevices)
+few c = rw (next c) (c .before .before .before .pre .few (c .before .before .loop .place) (c .before .loop-test .taken))
+
+cast-device : tie.Need-cast-device Inv-loop μ-loop
+cast-device c = omega (arith, few c)
+
+add-device : tie.Need-add-device Inv-loop μ-loop
+add-device c = omega (arith, few c)
+
+cast-out : tie.Need-cast-out Inv-loop μ-loop
+cast-out c = omega (arith, few c)
+
+mul-out : tie.Need-mul-out Inv-loop μ-loop
+mul-out c = search needs
+
+slice-write-out : tie.Need-slice-write-out Inv-loop μ-loop
+slice-write-out c = search needs
+
+add-place : tie.Need-add-place Inv-loop μ-loop
+add-place c = search needs
+
+loop-less : tie.Need-loop-less Inv-loop μ-loop
+loop-less c = search needs
+
+loop-again : tie.Need-loop-again Inv-loop μ-loop
+loop-again c =
+    let l = c .before .before in
+    (filled (l .loop .inv .0) (omega (arith, l .before .pre .room)) _ (next c), omega arith, omega arith)
+
+same-length : tie.Need-same-length Inv-loop μ-loop
+same-length c = search needs
+
+returns : tie.Need-returns Inv-loop μ-loop
+returns c =
+    let l = c .before in
+    let a = l .before .args in
+    let all : l .loop .place ≡ a .end = omega arith in
+    l .loop .inv .0 .same ∙ ap (λ (k : ℕ). tab k (repeated (now (a .out)) (a .count) (a .stride)) ++ drop k (now (a .out))) all
+
+pub repeat-devices-spec : {M : Type 1} → statement M
+repeat-devices-spec =
+    tie.close
+    (tie.spec
+    Inv-loop
+    μ-loop
+    loop-holds
+    sub-device
+    mul-device
+    slice-read-device
+    cast-device
+    add-device
+    cast-out
+    mul-out
+    slice-write-out
+    add-place
+    loop-less
+    loop-again
+    same-length
+    returns)
