@@ -180,7 +180,7 @@ pub fn cut_tail(list: AxisList, tail: AxisList) -> AxisList
     if have < want {
         front.count = 0;
     } else {
-        front.count = have - want;
+        front.count = (have - want) as u16;
     }
     front
 }

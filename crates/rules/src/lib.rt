@@ -50,9 +50,9 @@ impl Device {
     }
 }
 
-// A list of axes: the first `count` places.
+// A list of axes: the first `count` places. Eight bytes in all, so that lists are cheap to hand on.
 pub struct AxisList {
-    pub count: usize,
+    pub count: u16,
     pub axes: [Axis; Axis::MOST],
 }
 
@@ -271,10 +271,11 @@ impl AxisList {
     pub fn len(self) -> usize
         ensures { λ r. ⌜ r ≡ length (axesOf self) ⌝ }
     {
-        if Axis::MOST < self.count {
+        let count = self.count as usize;
+        if Axis::MOST < count {
             Axis::MOST
         } else {
-            self.count
+            count
         }
     }
 
@@ -294,10 +295,10 @@ impl AxisList {
         requires { ⌜ length (axesOf self) < mostAxes ⌝ }
         ensures { λ r. ⌜ axesOf r ≡ axesOf self ++ (a .0 ∷ []) ⌝ }
     {
-        let at = self.count;
+        let at = self.count as usize;
         let mut next = self;
         next.axes[at] = a;
-        next.count = at + 1;
+        next.count = (at + 1) as u16;
         next
     }
 }

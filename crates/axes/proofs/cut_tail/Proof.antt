@@ -1,7 +1,9 @@
 use borrow.Author.Needs.{needs}
 use native.Mathlib.Omega.{arith}
 use mathlib.Core.Path.{refl}
+use lib.ListN.{length-map}
 use Rattle.rules.specs.Types.{axesOf}
+use Rattle.rules.proofs.Types.{axes-length}
 use Rattle.axes.proofs.Lists.{cut-counted}
 use Rattle.axes.proofs.cut_tail.Statement.{statement}
 use Rattle.axes.proofs.cut_tail.Tie as tie
@@ -15,6 +17,11 @@ len-requires c κs = search needs
 len-requires-2 : tie.Need-len-requires-2
 len-requires-2 c κs = search needs
 
+cast-front : tie.Need-cast-front
+cast-front c =
+    let s = c .before .before .before in
+    omega (arith, axes-length (s .args .list) (simp length-map at (s .good .0 .1 .1 .1 .0 .1 .0 .1)), c .before .before .len .ensures)
+
 returns : tie.Need-returns
 returns c =
     let c3 = c .before .before .before in
@@ -26,4 +33,4 @@ returns-2 c =
     let a = c3 .args in cut-counted (a .list) (axesOf (a .tail)) _ _ _ (c .before .before .len .ensures) (c .before .len2 .ensures) refl
 
 pub cut-tail-spec : {M : Type 1} → statement M
-cut-tail-spec = tie.close (tie.spec len-requires len-requires-2 returns returns-2)
+cut-tail-spec = tie.close (tie.spec len-requires len-requires-2 cast-front returns returns-2)
