@@ -1,5 +1,5 @@
 -- The promises of the library's four calls, on any input; then what the rules promise of themselves (`RulesPromise`; proofs/Promises.antt proves it).
--- The run's promise is RunPromise, crates/run/specs/Promise.antt. Definitions are in crates/rules/specs. Assumes nothing.
+-- Definitions are in crates/rules/specs. Assumes nothing.
 use Prim.Native.Nat.{ℕ}
 use mathlib.Core.Path.{_≡_}
 use mathlib.Core.List.{List}
@@ -14,8 +14,10 @@ use Rattle.rules.specs.Refused.{refusals}
 use Rattle.rules.specs.declared.Checked.{Checked}
 use Rattle.rules.specs.declared.Placed.{Placed}
 use Rattle.rules.specs.declared.GroupsOutcome.{GroupsOutcome}
+use Rattle.rules.specs.declared.RunOutcome.{RunOutcome}
 use Rattle.plan.specs.Parts.{Blank}
 use Rattle.place.specs.Placing.{Unplaced}
+use Rattle.run.specs.Promise as run
 
 -- The check: its answer is the definition's. Beside a refusal all axes are replicated and all sizes 0.
 pub record CheckPromise (file : List ℕ) (r : Checked) : Type 0 where
@@ -36,6 +38,12 @@ pub record GroupsPromise (mesh axes out : List ℕ) (r : GroupsOutcome) (outAfte
   pub rearranged : (d : ℕ) → groupsMeaning r ≡ accept d → Rearrangement d (take d outAfter)
   pub stay : (d : ℕ) → groupsMeaning r ≡ accept d → drop d outAfter ≡ drop d out
   pub refused : (n k : ℕ) → groupsMeaning r ≡ refuse n k → outAfter ≡ out
+
+-- The run: its answer and both buffers after it are the definition's, word for word, refused or not; it ends exactly when the check passes and neither
+-- buffer is shorter than the room; and demand 3 over the whole list of steps. The fields, with the sentence that each renders, are in
+-- crates/run/specs/Promise.antt.
+abbrev pub RunPromise : (file work spare : List ℕ) → RunOutcome → (workAfter spareAfter : List ℕ) → Type 0
+RunPromise file work spare r workAfter spareAfter = run.RunPromise file work spare r workAfter spareAfter
 
 -- What the rules promise of themselves: demand 3 for every plan that passes, and that it speaks of something; a step's locality; the ledger W1 to W10;
 -- a file for each refusal number.
