@@ -20,11 +20,6 @@ pub struct Mesh {
     pub sizes: [u16; Axis::MOST],
 }
 
-// Marks of named axes: a place for each axis.
-pub struct Marks {
-    pub places: [bool; Axis::MOST],
-}
-
 impl Mesh {
     // The size of an axis, 1 past the last.
     pub fn size(self, a: Axis) -> usize
@@ -201,52 +196,33 @@ pub fn join(list: AxisList, tail: AxisList) -> AxisList
     whole
 }
 
-impl Marks {
-    // No axis named.
-    pub fn none() -> Marks
-        ensures { λ r. ⌜ StandFor r [] ⌝ }
-    {
-        Marks {
-            places: [false; Axis::MOST],
-        }
-    }
+// Whether an axis is marked as named; one past the last place has no mark.
+pub fn is_marked(marks: &[bool], a: Axis) -> bool
+    ensures { λ r. ⌜ ((named : List ℕ) → StandFor (now (marks .entry)) named → a .0 < mostAxes → r ≡ mem (a .0) named) ⌝ }
+{
+    let i = a.0 as usize;
+    if i < marks.len() { marks[i] } else { false }
+}
 
-    // Whether an axis is named; one past the last place has no mark.
-    pub fn has(self, a: Axis) -> bool
-        ensures { λ r. ⌜ ((named : List ℕ) → StandFor self named → a .0 < mostAxes → r ≡ mem (a .0) named) ⌝ }
-    {
-        let i = a.0 as usize;
-        if i < Axis::MOST {
-            self.places[i]
-        } else {
-            false
-        }
+// Marks one axis more. Marks are lent: handed on by value they would be copied for each axis.
+pub fn mark(marks: &mut [bool], a: Axis)
+    ensures { λ _. ⌜ ((named : List ℕ) → StandFor (now (marks .entry)) named → StandFor (now (marks .exit)) (named ++ (a .0 ∷ []))) ⌝ }
+{
+    let i = a.0 as usize;
+    if i < marks.len() {
+        marks[i] = true;
     }
+}
 
-    // The marks with one axis more.
-    pub fn with(self, a: Axis) -> Marks
-        ensures { λ r. ⌜ ((named : List ℕ) → StandFor self named → StandFor r (named ++ (a .0 ∷ []))) ⌝ }
-    {
-        let i = a.0 as usize;
-        let mut next = self;
-        if i < Axis::MOST {
-            next.places[i] = true;
-        }
-        next
-    }
-
-    // The marks with the axes of a list.
-    pub fn with_list(self, list: AxisList) -> Marks
-        ensures { λ r. ⌜ ((named : List ℕ) → StandFor self named → StandFor r (named ++ axesOf list)) ⌝ }
-    {
-        let count = list.len();
-        let mut next = self;
-        let mut i: usize = 0;
-        while i < count {
-            let axis = list.at(i);
-            next = next.with(axis);
-            i += 1;
-        }
-        next
+// Marks the axes of a list.
+pub fn mark_list(marks: &mut [bool], list: AxisList)
+    ensures { λ _. ⌜ ((named : List ℕ) → StandFor (now (marks .entry)) named → StandFor (now (marks .exit)) (named ++ axesOf list)) ⌝ }
+{
+    let count = list.len();
+    let mut i: usize = 0;
+    while i < count {
+        let axis = list.at(i);
+        mark(marks, axis);
+        i += 1;
     }
 }

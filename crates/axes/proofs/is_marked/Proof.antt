@@ -1,0 +1,19 @@
+use borrow.Author.Needs.{needs}
+use native.Mathlib.Omega.{arith}
+use Rattle.axes.proofs.is_marked.Statement.{statement}
+use Rattle.axes.proofs.is_marked.Tie as tie
+
+cast-i : tie.Need-cast-i
+cast-i c = search needs
+
+shared-slice-read-result : tie.Need-shared-slice-read-result
+shared-slice-read-result c = search needs
+
+returns : tie.Need-returns
+returns c = λ named s h. s .1 _ h
+
+returns-2 : tie.Need-returns-2
+returns-2 c = λ named s h. absurd (omega (arith, s .0))
+
+pub is-marked-spec : {M : Type 1} → statement M
+is-marked-spec = tie.close (tie.spec cast-i shared-slice-read-result returns returns-2)
