@@ -13,12 +13,12 @@ ghost use Rattle.rules.specs.Types.{dimsOf, shardingOf};
 ghost use Rattle.axes.specs.Mesh.{meshOf, Sized};
 ghost use Rattle.axes.specs.Marks.{StandFor};
 ghost use Rattle.dims.specs.Dims.{sizesOf, Room};
-use axes::Marks;
 use axes::Mesh;
 use axes::all_below;
 use axes::cut_tail;
 use axes::is_tail;
 use axes::join;
+use axes::mark_list;
 use axes::span;
 use rules::AxisList;
 use rules::Dim;
@@ -57,19 +57,18 @@ pub fn names_below(lists: Sharding, rank: usize, n: usize) -> bool
     true
 }
 
-// The marks with the axes of the lists.
-pub fn mark_dims(lists: Sharding, rank: usize, marks: Marks) -> Marks
+// Marks the axes of the lists.
+pub fn mark_dims(lists: Sharding, rank: usize, marks: &mut [bool])
     requires { ⌜ rank ≤ mostDims ⌝ }
-    ensures { λ r. ⌜ ((named : List ℕ) → StandFor marks named → StandFor r (named ++ flat (take rank (dimsOf lists)))) ⌝ }
+    ensures { λ _. ⌜ ((named : List ℕ) → StandFor (now (marks .entry)) named
+        → StandFor (now (marks .exit)) (named ++ flat (take rank (dimsOf lists)))) ⌝ }
 {
-    let mut next = marks;
     let mut d: usize = 0;
     while d < rank {
         let list = lists.list(Dim(d as u8));
-        next = next.with_list(list);
+        mark_list(marks, list);
         d += 1;
     }
-    next
 }
 
 // Whether each list is the tail of its dimension's list.

@@ -2,7 +2,7 @@ use borrow.Author.Needs.{needs}
 use native.Mathlib.Omega.{arith}
 use Prim.Native.Nat.{ℕ, _-_}
 use mathlib.Core.List.{List, _++_, append-nil}
-use mathlib.Core.Path.{_≡_}
+use mathlib.Core.Path.{_≡_, refl, _∙_}
 use lib.ListN.{length, length-map, take}
 use lib.Seq.{take-all}
 use Rattle.rules.specs.Lists.{flat}
@@ -13,57 +13,66 @@ use Rattle.dims.proofs.mark_dims.Statement.{statement}
 use Rattle.dims.proofs.mark_dims.Tie as tie
 use Rattle.dims.proofs.mark_dims.Reads as reads
 use Rattle.dims.proofs.mark_dims.Lts as lts
-use Rattle.axes.proofs.Marks.with_list.Reads as with-list-reads
+use Rattle.axes.proofs.mark_list.Reads as mark-list-reads
 use Rattle.rules.proofs.Sharding.list.Reads as list-reads
 
 abbrev Inv-loop : tie.InvT-loop
-Inv-loop lists rank next₀ d₀ next d =
-    (length (take rank (dimsOf lists)) ≡ rank)
-    × ((named : List ℕ) → StandFor next₀ named → StandFor next (named ++ flat (take d (take rank (dimsOf lists)))))
+Inv-loop lists rank marks₀ d₀ marks d = (length (take rank (dimsOf lists)) ≡ rank) × (length marks ≡ length marks₀) × ((named : List ℕ) → StandFor marks₀ named → StandFor marks (named ++ flat (take d (take rank (dimsOf lists)))))
 
 abbrev μ-loop : tie.MeasureT-loop
-μ-loop lists rank next₀ d₀ next d = rank - d
+μ-loop lists rank marks₀ d₀ marks d = rank - d
 
+-- src/lib.rt:67:5
 loop-holds : tie.Need-loop-holds Inv-loop μ-loop
 loop-holds c = (
-  dims-length (c .args .lists) (c .args .rank) (simp length-map at (c .good .0 .1 .1 .0 .1 .0 .1)) (omega arith),
+  dims-length (c .before .args .lists) (c .before .args .rank) (simp length-map at (c .before .good .0 .1 .1 .0 .1 .0 .1)) (omega arith),
+  refl,
   λ named s. rw (append-nil named) s,
 )
 
-cast-t8 : tie.Need-cast-t8 Inv-loop μ-loop
-cast-t8 c = search needs
+-- src/lib.rt:68:35
+cast-t7 : tie.Need-cast-t7 Inv-loop μ-loop
+cast-t7 c = search needs
 
+-- src/lib.rt:68:13
 list-requires : tie.Need-list-requires Inv-loop μ-loop
 list-requires c κs = search needs
 
-with-list-requires : tie.Need-with-list-requires Inv-loop μ-loop
-with-list-requires c κs = search needs
+-- src/lib.rt:69:9
+mark-list-requires : tie.Need-mark-list-requires Inv-loop μ-loop
+mark-list-requires c κs = search needs
 
+-- src/lib.rt:70:9
 add-d : tie.Need-add-d Inv-loop μ-loop
 add-d c = search needs
 
+-- src/lib.rt:67:5
 loop-less : tie.Need-loop-less Inv-loop μ-loop
 loop-less c = search needs
 
+-- src/lib.rt:67:5
 loop-again : tie.Need-loop-again Inv-loop μ-loop
 loop-again c =
-    let c3 = c .before .before .before in
-    let c4 = c3 .before in
-    let a = c4 .args in
-    let i = c3 .loop .inv in
-    let h = c .before .before .loop-test .taken in
-    let l = axesOf (c .before .list .result) in
-    let e = list-at (a .lists) (a .rank) (c3 .loop .d) l h (c .before .list .ensures) in (
+    let a = c .before .before .before .before .before .before .before .before .args in
+    let d = c .before .before .before .before .before .before .loop .d in
+    let i = c .before .before .before .before .before .before .loop .inv in
+    let l = axesOf (c .before .before .before .before .list .result) in
+    let e = list-at (a .lists) (a .rank) d l (c .before .before .before .before .before .loop-test .taken) (c .before .before .before .before .list .ensures) in (
       i .0,
-      λ named s. rw (← (named-more named (take (a .rank) (dimsOf (a .lists))) (c3 .loop .d) l (omega (arith, i .0)) e))
-          (c .with-list .ensures _ (i .1 named s)),
+      c .before .before .mark-list .kept .0 ∙ i .1,
+      λ named s. rw (← (named-more named (take (a .rank) (dimsOf (a .lists))) d l (omega (arith, i .0)) e)) (c .before .before .mark-list .ensures _ (i .2 named s)),
     )
 
+-- src/lib.rt:61:1
+same-length : tie.Need-same-length Inv-loop μ-loop
+same-length c = c .before .loop .inv .1
+
+-- src/lib.rt:61:1
 returns : tie.Need-returns Inv-loop μ-loop
 returns c =
-    let a = c .before .before .args in
+    let a = c .before .before .before .args in
     let i = c .before .loop .inv in
-    λ named s. rw (← (take-all (c .before .loop .d) (take (a .rank) (dimsOf (a .lists))) (omega (arith, i .0, c .loop-test .left)))) (i .1 named s)
+    λ named s. rw (← (take-all (c .before .loop .d) (take (a .rank) (dimsOf (a .lists))) (omega (arith, i .0, c .loop-test .left)))) (i .2 named s)
 
 pub mark-dims-spec : {M : Type 1} → statement M
 mark-dims-spec =
@@ -72,10 +81,11 @@ mark-dims-spec =
     Inv-loop
     μ-loop
     loop-holds
-    cast-t8
+    cast-t7
     list-requires
-    with-list-requires
+    mark-list-requires
     add-d
     loop-less
     loop-again
+    same-length
     returns)
