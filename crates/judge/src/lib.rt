@@ -15,11 +15,11 @@ ghost use Rattle.axes.specs.Mesh.{meshOf};
 ghost use Rattle.dims.specs.Dims.{sizesOf, Room};
 ghost use Rattle.start.specs.Start.{meaning, Fits};
 ghost use Rattle.judge.specs.Step.{meaningAfter, judgeNamed, Ready};
-use axes::Marks;
 use axes::Mesh;
 use axes::all_below;
 use axes::all_in;
 use axes::increasing;
+use axes::mark_list;
 use axes::without;
 use dims::divisible;
 use dims::gathered;
@@ -29,6 +29,7 @@ use dims::names_below;
 use dims::shard_of;
 use dims::sliced;
 use dims::tails;
+use rules::Axis;
 use rules::AxisList;
 use rules::Dim;
 use rules::Kind;
@@ -138,10 +139,11 @@ pub fn judge_slice(lists: Sharding, k: u16, sharding: Sharding, mesh: Mesh, tabl
     ensures { λ r. ⌜ meaningAfter (table .rank) r
         ≡ judgeKind (meshOf mesh) (sizesOf table) k (allSlice (take (table .rank) (dimsOf lists))) (shardingOf (table .rank) sharding) ⌝ }
 {
-    let sharded = mark_dims(sharding, table.rank, Marks::none());
+    let mut marks = [false; Axis::MOST];
+    mark_dims(sharding, table.rank, &mut marks);
     let unreduced = sharding.unreduced;
-    let named = sharded.with_list(unreduced);
-    let fresh = judge_dims(lists, table.rank, mesh.n, named);
+    mark_list(&mut marks, unreduced);
+    let fresh = judge_dims(lists, table.rank, mesh.n, &mut marks);
     let Verdict::Fine = fresh else {
         return refused_step(Reason::NotReplicated, k, sharding);
     };

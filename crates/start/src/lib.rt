@@ -1,7 +1,7 @@
 // The judgement of axes in turn and of a starting sharding. Order and numbers are those of Rattle.rules.specs.PlanFile.
 ghost use mathlib.Core.Path.{_≡_};
 ghost use mathlib.Core.Bool.{false};
-ghost use mathlib.Core.List.{List, []};
+ghost use mathlib.Core.List.{List, [], _++_};
 ghost use Prim.Native.Nat.{ℕ, _+_, _≤_};
 ghost use lib.ListN.{take};
 ghost use Rattle.rules.specs.Lists.{flat, pick};
@@ -13,10 +13,10 @@ ghost use Rattle.axes.specs.Mesh.{meshOf};
 ghost use Rattle.axes.specs.Marks.{StandFor};
 ghost use Rattle.dims.specs.Dims.{sizesOf};
 ghost use Rattle.start.specs.Start.{meaning, refusalOf, judgeAxis, Fits};
-use axes::Marks;
 use axes::Mesh;
+use axes::is_marked;
+use axes::mark;
 use dims::divisible;
-use dims::mark_dims;
 use rules::Axis;
 use rules::AxisList;
 use rules::Dim;
@@ -51,13 +51,13 @@ pub fn refusal_of(verdict: Verdict) -> Refusal
 }
 
 // One axis of a starting sharding: 14, 15, 16.
-fn judge_axis(a: Axis, n: usize, low: usize, marks: Marks) -> Verdict
+fn judge_axis(a: Axis, n: usize, low: usize, marks: &[bool]) -> Verdict
     requires { ⌜ n ≤ mostAxes ⌝ }
-    ensures { λ r. ⌜ ((before : List ℕ) → StandFor marks before → meaning r ≡ judgeAxis n low before (a .0)) ⌝ }
+    ensures { λ r. ⌜ ((before : List ℕ) → StandFor (now (marks .entry)) before → meaning r ≡ judgeAxis n low before (a .0)) ⌝ }
 {
     let i = a.0 as usize;
     let past = n <= i;
-    let again = marks.has(a);
+    let again = is_marked(marks, a);
     if past {
         return refused(Reason::StartAxisTooLarge, 0);
     }
@@ -76,22 +76,23 @@ fn next_low(increasing: bool, a: Axis) -> usize
     if increasing { a.0 as usize + 1 } else { 0 }
 }
 
-// The axes of a list in turn, after the marked ones.
-pub fn judge_list(list: AxisList, n: usize, increasing: bool, marks: Marks) -> Verdict
+// The axes of a list in turn, after the marked ones; where all are fine they are marked too.
+pub fn judge_list(list: AxisList, n: usize, increasing: bool, marks: &mut [bool]) -> Verdict
     requires { ⌜ n ≤ mostAxes ⌝ }
-    ensures { λ r. ⌜ ((before : List ℕ) → StandFor marks before → meaning r ≡ judgeAxes n increasing 0 before (axesOf list)) ⌝ }
+    ensures { λ r. ⌜ ((before : List ℕ) → StandFor (now (marks .entry)) before → meaning r ≡ judgeAxes n increasing 0 before (axesOf list)) ⌝ }
+    ensures { λ r. ⌜ ((before : List ℕ) → StandFor (now (marks .entry)) before → r ≡ Verdict.Fine
+        → StandFor (now (marks .exit)) (before ++ axesOf list)) ⌝ }
 {
     let count = list.len();
-    let mut named = marks;
     let mut low: usize = 0;
     let mut i: usize = 0;
     while i < count {
         let axis = list.at(i);
-        let verdict = judge_axis(axis, n, low, named);
+        let verdict = judge_axis(axis, n, low, marks);
         let Verdict::Fine = verdict else {
             return verdict;
         };
-        named = named.with(axis);
+        mark(marks, axis);
         low = next_low(increasing, axis);
         i += 1;
     }
@@ -103,34 +104,35 @@ pub fn judge_axes(axes: &[u8], n: usize) -> Verdict
     requires { ⌜ n ≤ mostAxes ⌝ }
     ensures { λ r. ⌜ meaning r ≡ judgeAxes n false 0 [] (now (axes .entry)) ⌝ }
 {
-    let mut named = Marks::none();
+    let mut marks = [false; Axis::MOST];
     let mut i: usize = 0;
     while i < axes.len() {
         let axis = Axis(axes[i]);
-        let verdict = judge_axis(axis, n, 0, named);
+        let verdict = judge_axis(axis, n, 0, &marks);
         let Verdict::Fine = verdict else {
             return verdict;
         };
-        named = named.with(axis);
+        mark(&mut marks, axis);
         i += 1;
     }
     Verdict::Fine
 }
 
-// The axes of the dimensions' lists in turn, after the marked ones.
-pub fn judge_dims(lists: Sharding, rank: usize, n: usize, marks: Marks) -> Verdict
+// The axes of the dimensions' lists in turn, after the marked ones; where all are fine they are marked too.
+pub fn judge_dims(lists: Sharding, rank: usize, n: usize, marks: &mut [bool]) -> Verdict
     requires { ⌜ (rank ≤ mostDims) × (n ≤ mostAxes) ⌝ }
-    ensures { λ r. ⌜ ((before : List ℕ) → StandFor marks before → meaning r ≡ judgeAxes n false 0 before (flat (take rank (dimsOf lists)))) ⌝ }
+    ensures { λ r. ⌜ ((before : List ℕ) → StandFor (now (marks .entry)) before
+        → meaning r ≡ judgeAxes n false 0 before (flat (take rank (dimsOf lists)))) ⌝ }
+    ensures { λ r. ⌜ ((before : List ℕ) → StandFor (now (marks .entry)) before → r ≡ Verdict.Fine
+        → StandFor (now (marks .exit)) (before ++ flat (take rank (dimsOf lists)))) ⌝ }
 {
-    let mut named = marks;
     let mut d: usize = 0;
     while d < rank {
         let list = lists.list(Dim(d as u8));
-        let verdict = judge_list(list, n, false, named);
+        let verdict = judge_list(list, n, false, marks);
         let Verdict::Fine = verdict else {
             return verdict;
         };
-        named = named.with_list(list);
         d += 1;
     }
     Verdict::Fine
@@ -141,14 +143,13 @@ pub fn judge_start(sharding: Sharding, mesh: Mesh, table: Table) -> Verdict
     requires { ⌜ Fits mesh table ⌝ }
     ensures { λ r. ⌜ meaning r ≡ judgeStart (meshOf mesh) (sizesOf table) (shardingOf (table .rank) sharding) ⌝ }
 {
-    let none = Marks::none();
-    let dims = judge_dims(sharding, table.rank, mesh.n, none);
+    let mut marks = [false; Axis::MOST];
+    let dims = judge_dims(sharding, table.rank, mesh.n, &mut marks);
     let Verdict::Fine = dims else {
         return dims;
     };
-    let sharded = mark_dims(sharding, table.rank, none);
     let unreduced = sharding.unreduced;
-    let last = judge_list(unreduced, mesh.n, true, sharded);
+    let last = judge_list(unreduced, mesh.n, true, &mut marks);
     let Verdict::Fine = last else {
         return last;
     };

@@ -7,26 +7,22 @@ use lib.ListN.{length}
 use Rattle.start.proofs.Turn.{Turning, turning, turn-stops, turn-passes, turn-ends}
 use Rattle.start.proofs.judge_axes.Statement.{statement}
 use Rattle.start.proofs.judge_axes.Tie as tie
-use Rattle.start.proofs.judge_axes.Reads as reads
-use Rattle.start.proofs.judge_axes.Lts as lts
-use Rattle.axes.proofs.Marks.none.Reads as none-reads
-use Rattle.axes.proofs.Marks.with.Reads as with-reads
-use Rattle.start.proofs.judge_axis.Reads as judge-axis-reads
+use Rattle.axes.proofs.Naming.{none-marked}
 
 abbrev Inv-loop : tie.InvT-loop
-Inv-loop axes n named₀ i₀ named i = Turning n false [] axes named 0 (length axes) i
+Inv-loop axes n marks₀ i₀ marks i = Turning n false [] axes marks 0 (length axes) i
 
 abbrev μ-loop : tie.MeasureT-loop
-μ-loop axes n named₀ i₀ named i = length axes - i
-
-none-requires : tie.Need-none-requires Inv-loop μ-loop
-none-requires c κs = search needs
+μ-loop axes n marks₀ i₀ marks i = length axes - i
 
 loop-holds : tie.Need-loop-holds Inv-loop μ-loop
-loop-holds c = turning _ _ [] _ _ _ refl (c .none .ensures)
+loop-holds c = turning _ _ [] _ _ _ refl none-marked
 
 shared-slice-read-t10 : tie.Need-shared-slice-read-t10 Inv-loop μ-loop
 shared-slice-read-t10 c = search needs
+
+slice-aggregate-judge-axis : tie.Need-slice-aggregate-judge-axis Inv-loop μ-loop
+slice-aggregate-judge-axis c = search (needs, c .before .before .before .loop .inv .marks .0)
 
 judge-axis-requires : tie.Need-judge-axis-requires Inv-loop μ-loop
 judge-axis-requires c κs = search needs
@@ -39,13 +35,14 @@ enum-told-2 c = search needs
 
 returns : tie.Need-returns Inv-loop μ-loop
 returns c =
-    let c4 = c .before .before .before .before in
-    let c5 = c4 .before in
-    let g = c5 .loop .inv in
-    turn-stops g (c4 .loop-test .taken) _ refl _ (c .before .before .judge-axis .ensures _ (g .marks)) _ (c .enum-told2 .given .1)
+    let g = c .before .before .before .before .before .before .loop .inv in
+    turn-stops g (c .before .before .before .before .before .loop-test .taken) _ refl _ (c .before .before .judge-axis .ensures _ (g .marks)) _ (c .enum-told2 .given .1)
 
-with-requires : tie.Need-with-requires Inv-loop μ-loop
-with-requires c κs = search needs
+slice-aggregate-mark : tie.Need-slice-aggregate-mark Inv-loop μ-loop
+slice-aggregate-mark c = search (needs, c .before .before .before .before .before .before .before .loop .inv .marks .0)
+
+mark-requires : tie.Need-mark-requires Inv-loop μ-loop
+mark-requires c κs = search needs
 
 add-i : tie.Need-add-i Inv-loop μ-loop
 add-i c = search needs
@@ -55,11 +52,8 @@ loop-less c = search needs
 
 loop-again : tie.Need-loop-again Inv-loop μ-loop
 loop-again c =
-    let c3 = c .before .before .before in
-    let c5 = c3 .before .before in
-    let c6 = c5 .before in
-    let g = c6 .loop .inv in
-    turn-passes g (c5 .loop-test .taken) _ refl _ (c3 .judge-axis .ensures _ (g .marks)) (c .before .enum-told .given .1) _ (c .with .ensures) 0 refl
+    let g = c .before .before .before .before .before .before .before .before .before .loop .inv in
+    turn-passes g (c .before .before .before .before .before .before .before .before .loop-test .taken) _ refl _ (c .before .before .before .before .before .judge-axis .ensures _ (g .marks)) (c .before .before .before .enum-told .given .1) _ (c .before .mark .ensures) 0 refl
 
 returns-2 : tie.Need-returns-2 Inv-loop μ-loop
 returns-2 c = sym (turn-ends (c .before .loop .inv) (c .loop-test .left))
@@ -70,14 +64,15 @@ judge-axes-spec =
     (tie.spec
     Inv-loop
     μ-loop
-    none-requires
     loop-holds
     shared-slice-read-t10
+    slice-aggregate-judge-axis
     judge-axis-requires
     enum-told
     enum-told-2
     returns
-    with-requires
+    slice-aggregate-mark
+    mark-requires
     add-i
     loop-less
     loop-again

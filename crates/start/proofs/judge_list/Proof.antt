@@ -1,32 +1,30 @@
 use borrow.Author.Needs.{needs}
 use Prim.Native.Nat.{ℕ, _-_}
 use mathlib.Core.List.{List}
-use mathlib.Core.Path.{sym}
+use native.Mathlib.Omega.{arith}
+use mathlib.Core.Path.{_≡_, refl, sym, _∙_}
+use lib.ListN.{length}
+use lib.Seq.{take-all}
 use Rattle.rules.specs.Types.{axesOf}
 use Rattle.axes.specs.Marks.{StandFor}
+use Rattle.start.proofs.Verdicts.{not-fine}
 use Rattle.start.proofs.Turn.{Turning, turning, turn-stops, turn-passes, turn-ends}
 use Rattle.start.proofs.judge_list.Statement.{statement}
 use Rattle.start.proofs.judge_list.Tie as tie
-use Rattle.start.proofs.judge_list.Reads as reads
-use Rattle.start.proofs.judge_list.Lts as lts
-use Rattle.axes.proofs.Marks.with.Reads as with-reads
-use Rattle.start.proofs.judge_axis.Reads as judge-axis-reads
-use Rattle.start.proofs.next_low.Reads as next-low-reads
-use Rattle.rules.proofs.AxisList.at.Reads as at-reads
-use Rattle.rules.proofs.AxisList.len.Reads as len-reads
 
 abbrev Inv-loop : tie.InvT-loop
-Inv-loop list n increasing count named₀ low₀ i₀ named low i = (before : List ℕ) → StandFor named₀ before
-    → Turning n increasing before (axesOf list) named low count i
+Inv-loop list n increasing marks₀ count low₀ i₀ marks low i =
+    (length marks ≡ length marks₀)
+    × ((before : List ℕ) → StandFor marks₀ before → Turning n increasing before (axesOf list) marks low count i)
 
 abbrev μ-loop : tie.MeasureT-loop
-μ-loop list n increasing count named₀ low₀ i₀ named low i = count - i
+μ-loop list n increasing marks₀ count low₀ i₀ marks low i = count - i
 
 len-requires : tie.Need-len-requires Inv-loop μ-loop
 len-requires c κs = search needs
 
 loop-holds : tie.Need-loop-holds Inv-loop μ-loop
-loop-holds c = λ before s. turning _ _ before _ _ _ (c .len .ensures) s
+loop-holds c = (refl, λ before s. turning _ _ before _ _ _ (c .len .ensures) s)
 
 at-requires : tie.Need-at-requires Inv-loop μ-loop
 at-requires c κs = search needs
@@ -40,16 +38,19 @@ enum-told c = search needs
 enum-told-2 : tie.Need-enum-told-2 Inv-loop μ-loop
 enum-told-2 c = search needs
 
-returns : tie.Need-returns Inv-loop μ-loop
-returns c = λ before s.
-    let c3 = c .before .before .before in
-    let c4 = c3 .before in
-    let c5 = c4 .before in
-    let g = c5 .loop .inv before s in
-    turn-stops g (c4 .loop-test .taken) _ (c3 .at .ensures) _ (c .before .before .judge-axis .ensures _ (g .marks)) _ (c .enum-told2 .given .1)
+same-length : tie.Need-same-length Inv-loop μ-loop
+same-length c = c .before .before .before .before .before .before .loop .inv .0
 
-with-requires : tie.Need-with-requires Inv-loop μ-loop
-with-requires c κs = search needs
+returns : tie.Need-returns Inv-loop μ-loop
+returns c = (
+  λ before s.
+      let g = c .before .before .before .before .before .before .loop .inv .1 before s in
+      turn-stops g (c .before .before .before .before .before .loop-test .taken) _ (c .before .before .before .before .at .ensures) _ (c .before .before .judge-axis .ensures _ (g .marks)) _ (c .enum-told2 .given .1),
+  λ before s e. not-fine (c .enum-told2 .given .1) e,
+)
+
+mark-requires : tie.Need-mark-requires Inv-loop μ-loop
+mark-requires c κs = search needs
 
 next-low-requires : tie.Need-next-low-requires Inv-loop μ-loop
 next-low-requires c κs = search needs
@@ -61,17 +62,24 @@ loop-less : tie.Need-loop-less Inv-loop μ-loop
 loop-less c = search needs
 
 loop-again : tie.Need-loop-again Inv-loop μ-loop
-loop-again c = λ before s.
-    let c4 = c .before .before .before .before in
-    let c5 = c4 .before in
-    let c6 = c5 .before in
-    let c7 = c6 .before in
-    let g = c7 .loop .inv before s in
-    turn-passes g (c6 .loop-test .taken) _ (c5 .at .ensures) _ (c4 .judge-axis .ensures _ (g .marks)) (c .before .before .enum-told .given .1) _
-    (c .before .with .ensures) _ (c .next-low .ensures)
+loop-again c = (
+  c .before .before .before .mark .kept .0 ∙ c .before .before .before .before .before .before .before .before .before .before .before .loop .inv .0,
+  λ before s.
+      let g = c .before .before .before .before .before .before .before .before .before .before .before .loop .inv .1 before s in
+      turn-passes g (c .before .before .before .before .before .before .before .before .before .before .loop-test .taken) _ (c .before .before .before .before .before .before .before .before .before .at .ensures) _ (c .before .before .before .before .before .before .before .judge-axis .ensures _ (g .marks)) (c .before .before .before .before .before .enum-told .given .1) _
+      (c .before .before .before .mark .ensures) _ (c .next-low .ensures),
+)
+
+same-length-2 : tie.Need-same-length-2 Inv-loop μ-loop
+same-length-2 c = c .before .loop .inv .0
 
 returns-2 : tie.Need-returns-2 Inv-loop μ-loop
-returns-2 c = λ before s. sym (turn-ends (c .before .loop .inv before s) (c .loop-test .left))
+returns-2 c = (
+  λ before s. sym (turn-ends (c .before .loop .inv .1 before s) (c .loop-test .left)),
+  λ before s e.
+      let g = c .before .loop .inv .1 before s in
+      rw (← (take-all (c .before .loop .i) (axesOf (c .before .before .before .before .args .list)) (omega (arith, g .along .size, c .loop-test .left)))) (g .marks),
+)
 
 pub judge-list-spec : {M : Type 1} → statement M
 judge-list-spec =
@@ -85,10 +93,12 @@ judge-list-spec =
     judge-axis-requires
     enum-told
     enum-told-2
+    same-length
     returns
-    with-requires
+    mark-requires
     next-low-requires
     add-i
     loop-less
     loop-again
+    same-length-2
     returns-2)

@@ -1,8 +1,6 @@
 use borrow.Author.Needs.{needs}
 use Rattle.start.proofs.next_low.Statement.{statement}
 use Rattle.start.proofs.next_low.Tie as tie
-use Rattle.start.proofs.next_low.Reads as reads
-use Rattle.start.proofs.next_low.Lts as lts
 
 cast-result : tie.Need-cast-result
 cast-result c = search needs
