@@ -3,9 +3,10 @@ ghost use mathlib.Core.Path.{_≡_};
 ghost use mathlib.Core.List.{List, _++_};
 ghost use Prim.Native.Nat.{ℕ, _+_, _/_, _%_, _≤_, _<_};
 ghost use lib.Dec.{eqb};
-ghost use lib.ListN.{take};
+ghost use lib.ListN.{length, take};
 ghost use Rattle.rules.specs.Lists.{both, flat, product};
-ghost use Rattle.rules.specs.Limits.{mostDims};
+ghost use Rattle.rules.specs.Limits.{mostAxes, mostDims};
+ghost use Rattle.rules.specs.Mesh.{span as spanOf};
 ghost use Rattle.rules.specs.Sharding.{divisible as divisibleOf, shardSizes};
 ghost use Rattle.rules.specs.Collectives.{sliced as slicedOf, gathered as gatheredOf};
 ghost use Rattle.rules.specs.PlanFile.{some, allBelow, isTail};
@@ -146,6 +147,21 @@ pub fn divisible(table: Table, lists: Sharding, mesh: Mesh) -> bool
         d += 1;
     }
     true
+}
+
+// The product of the sizes of all axes of the lists.
+pub fn span_dims(lists: Sharding, rank: usize, mesh: Mesh) -> usize
+    requires { ⌜ (rank ≤ mostDims) × Sized (meshOf mesh) × (length (flat (take rank (dimsOf lists))) ≤ mostAxes) ⌝ }
+    ensures { λ r. ⌜ r ≡ spanOf (meshOf mesh) (flat (take rank (dimsOf lists))) ⌝ }
+{
+    let mut product: usize = 1;
+    let mut d: usize = 0;
+    while d < rank {
+        let list = lists.list(Dim(d as u8));
+        product = product * span(list, mesh);
+        d += 1;
+    }
+    product
 }
 
 fn quotient(size: u16, span: usize) -> u16

@@ -11,10 +11,6 @@ use Rattle.axes.specs.Marks.{StandFor}
 use Rattle.dims.proofs.Dims.{dims-length, list-at, named-more}
 use Rattle.dims.proofs.mark_dims.Statement.{statement}
 use Rattle.dims.proofs.mark_dims.Tie as tie
-use Rattle.dims.proofs.mark_dims.Reads as reads
-use Rattle.dims.proofs.mark_dims.Lts as lts
-use Rattle.axes.proofs.mark_list.Reads as mark-list-reads
-use Rattle.rules.proofs.Sharding.list.Reads as list-reads
 
 abbrev Inv-loop : tie.InvT-loop
 Inv-loop lists rank marks₀ d₀ marks d = (length (take rank (dimsOf lists)) ≡ rank) × (length marks ≡ length marks₀) × ((named : List ℕ) → StandFor marks₀ named → StandFor marks (named ++ flat (take d (take rank (dimsOf lists)))))
@@ -22,7 +18,6 @@ Inv-loop lists rank marks₀ d₀ marks d = (length (take rank (dimsOf lists)) �
 abbrev μ-loop : tie.MeasureT-loop
 μ-loop lists rank marks₀ d₀ marks d = rank - d
 
--- src/lib.rt:67:5
 loop-holds : tie.Need-loop-holds Inv-loop μ-loop
 loop-holds c = (
   dims-length (c .before .args .lists) (c .before .args .rank) (simp length-map at (c .before .good .0 .1 .1 .0 .1 .0 .1)) (omega arith),
@@ -30,27 +25,21 @@ loop-holds c = (
   λ named s. rw (append-nil named) s,
 )
 
--- src/lib.rt:68:35
 cast-t7 : tie.Need-cast-t7 Inv-loop μ-loop
 cast-t7 c = search needs
 
--- src/lib.rt:68:13
 list-requires : tie.Need-list-requires Inv-loop μ-loop
 list-requires c κs = search needs
 
--- src/lib.rt:69:9
 mark-list-requires : tie.Need-mark-list-requires Inv-loop μ-loop
 mark-list-requires c κs = search needs
 
--- src/lib.rt:70:9
 add-d : tie.Need-add-d Inv-loop μ-loop
 add-d c = search needs
 
--- src/lib.rt:67:5
 loop-less : tie.Need-loop-less Inv-loop μ-loop
 loop-less c = search needs
 
--- src/lib.rt:67:5
 loop-again : tie.Need-loop-again Inv-loop μ-loop
 loop-again c =
     let a = c .before .before .before .before .before .before .before .before .args in
@@ -63,11 +52,9 @@ loop-again c =
       λ named s. rw (← (named-more named (take (a .rank) (dimsOf (a .lists))) d l (omega (arith, i .0)) e)) (c .before .before .mark-list .ensures _ (i .2 named s)),
     )
 
--- src/lib.rt:61:1
 same-length : tie.Need-same-length Inv-loop μ-loop
 same-length c = c .before .loop .inv .1
 
--- src/lib.rt:61:1
 returns : tie.Need-returns Inv-loop μ-loop
 returns c =
     let a = c .before .before .before .args in
