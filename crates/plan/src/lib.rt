@@ -7,7 +7,8 @@ ghost use Rattle.rules.specs.Lists.{product};
 ghost use Rattle.rules.specs.Limits.{mostSteps, mostDims};
 ghost use Rattle.rules.specs.Refusals.{accept, refuse, refusedBy};
 ghost use Rattle.rules.specs.PlanFile.{stepCount, judgeFront};
-ghost use Rattle.rules.specs.Types.{shardingOf};
+ghost use Rattle.rules.specs.Sharding.{shardSizes};
+ghost use Rattle.rules.specs.Types.{dimsOf, shardingOf};
 ghost use Rattle.rules.specs.Calls.{checkMeaning, checkOf};
 ghost use Rattle.reader.specs.Reading.{headerOf};
 ghost use Rattle.axes.specs.Mesh.{meshOf};
@@ -16,6 +17,7 @@ ghost use Rattle.judge.specs.Step.{Ready};
 ghost use Rattle.plan.specs.Parts.{shapeAt, shapeRead, openRead, Counts, Opens, Counted, takeStep, takenRead, walkAt, walkRead, Judges, Keeps, Bounded, answerOf, Blank, stateOf, stateMeaning, Shaped};
 use axes::Mesh;
 use dims::shard_of;
+use dims::span_dims;
 use dims::words;
 use judge::judge_step;
 use reader::Header;
@@ -299,6 +301,14 @@ fn kept_until(state: usize, k: usize, earlier: Sharding, later: Sharding) -> Sha
     if k < state { later } else { earlier }
 }
 
+// The words of one shard of a table of so many words. The table's words are divided once, by the span of all axes that split it.
+fn shard_words(total: usize, mesh: Mesh, table: Table, sharding: Sharding) -> usize
+    requires { ⌜ Ready mesh table sharding × (total ≡ product (sizesOf table)) ⌝ }
+    ensures { λ r. ⌜ r ≡ product (shardSizes (meshOf mesh) (sizesOf table) (take (table .rank) (dimsOf sharding))) ⌝ }
+{
+    total / span_dims(sharding, table.rank, mesh)
+}
+
 // So many steps in turn, from the start; the sharding after a state's steps is kept, or the last one where there are fewer.
 fn walk_steps(
     file: &[u8],
@@ -314,7 +324,8 @@ fn walk_steps(
 {
     let mut sharding = start;
     let mut kept = start;
-    let mut most = words(shard_of(table, start, mesh));
+    let total = words(table);
+    let mut most = shard_words(total, mesh, table, start);
     let mut place = at;
     let mut k: usize = 0;
     while k < count {
@@ -325,7 +336,7 @@ fn walk_steps(
         };
         sharding = taken.sharding;
         kept = kept_until(state, k, kept, sharding);
-        most = larger(most, words(shard_of(table, sharding, mesh)));
+        most = larger(most, shard_words(total, mesh, table, sharding));
         place = end;
         k += 1;
     }

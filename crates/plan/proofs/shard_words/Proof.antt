@@ -1,0 +1,47 @@
+use native.Mathlib.Omega.{arith}
+use Prim.Native.Nat.{_*_}
+use mathlib.Core.Path.{_≡_, ap₂, _∙_}
+use native.Mathlib.Nat.{mul-div-cancel}
+use lib.ListN.{length, length-take, length-append, take}
+use Rattle.rules.specs.Lists.{flat, product}
+use Rattle.rules.specs.Mesh.{span}
+use Rattle.rules.specs.Sharding.{shardSizes}
+use Rattle.rules.specs.Types.{axesOf, dimsOf}
+use Rattle.rules.proofs.Sizes.{cut-divisible, cut-product}
+use Rattle.axes.specs.Mesh.{meshOf}
+use Rattle.dims.specs.Dims.{sizesOf}
+use Rattle.dims.proofs.Dims.{span-least}
+use Rattle.judge.proofs.Counting.{few}
+use Rattle.judge.proofs.Sound.{counts-of}
+use Rattle.plan.proofs.shard_words.Statement.{statement}
+use Rattle.plan.proofs.shard_words.Tie as tie
+
+span-dims-requires : tie.Need-span-dims-requires
+span-dims-requires c κs =
+    let r = c .pre .0 in
+    let a = c .args in
+    let k = counts-of (r .sound) in
+    let dims = flat (take (a .table .rank) (dimsOf (a .sharding))) in
+    let u = axesOf (a .sharding .unreduced) in
+    let cut = length-take (a .mesh .n) (a .mesh .sizes) in (
+      r .fits .rank,
+      r .fits .sized,
+      omega (arith, few (length (meshOf (a .mesh))) _ (k .below) (k .once), length-append dims u, r .fits .axes, cut),
+    )
+
+div-result : tie.Need-div-result
+div-result c = omega (arith, span-least (meshOf (c .before .args .mesh)) (c .before .pre .0 .fits .sized) (flat (take (c .before .args .table .rank) (dimsOf (c .before .args .sharding)))), c .span-dims .ensures)
+
+returns : tie.Need-returns
+returns c =
+    let a = c .before .args in
+    let mesh = meshOf (a .mesh) in
+    let sizes = sizesOf (a .table) in
+    let dims = take (a .table .rank) (dimsOf (a .sharding)) in
+    let words = product (shardSizes mesh sizes dims) in
+    let r = c .before .pre .0 in
+    let e : a .total ≡ words * span mesh (flat dims) = c .before .pre .1 ∙ cut-product mesh (cut-divisible mesh sizes dims (r .sound .divides)) in
+    ap₂ _/_ e (c .span-dims .ensures) ∙ mul-div-cancel words (span-least mesh (r .fits .sized) (flat dims))
+
+pub shard-words-spec : {M : Type 1} → statement M
+shard-words-spec = tie.close (tie.spec span-dims-requires div-result returns)
