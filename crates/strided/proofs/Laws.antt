@@ -3,13 +3,14 @@
 use Prim.Native.Nat.{ℕ, zero, suc, _+_, _*_, _/_, _%_, _≤_, _<_, _-_}
 use mathlib.Core.Path.{_≡_, refl, ap, _∙_}
 use mathlib.Core.Logic.{_≢_}
-use mathlib.Core.List.{List, [], _∷_}
+use mathlib.Core.List.{List, [], _∷_, _++_}
 use native.Mathlib.Nat.{
   add-zero,
   add-assoc,
   zero-mul,
   mul-zero,
   mul-one,
+  one-mul,
   suc-mul,
   div-one,
   mod-one,
@@ -19,11 +20,11 @@ use native.Mathlib.Nat.{
   le-mul-of-pos-right,
 }
 use native.Mathlib.Omega.{arith}
-use lib.ListN.{length, getD, take, drop}
+use lib.ListN.{length, getD, set, take, drop}
 use lib.Arith.{digits-div, digits-mod}
 use Rattle.rules.specs.Lists.{tab}
 use Rattle.rules.proofs.Lists.{tab-cong}
-use Rattle.rules.proofs.Fronts.{part-tab}
+use Rattle.rules.proofs.Fronts.{part-tab, front-step}
 use Rattle.strided.specs.Strided.{counted, offset, Row, Rows, Copy, row, rows, copied}
 
 -- ---- one digit
@@ -64,6 +65,23 @@ unfolding row
 row-words old i len apart stride at =
     tab-cong len (λ t. getD old (at + i * apart + t * stride) 0)
     (λ o. getD old (at + (i * len + o) / len * apart + (i * len + o) % len * stride) 0) (λ o g. rw (digits-div i g, digits-mod i g))
+
+-- one turn of the loop over rows of two words
+pub pair-put : (old to : List ℕ) (i apart stride at : ℕ) → i * 2 + 2 ≤ length to
+    → (let word : ℕ → ℕ = λ k. getD old (at + k / 2 * apart + k % 2 * stride) 0 in
+    let front = tab (i * 2) word ++ drop (i * 2) to in
+    set (set front (i * 2) (getD old (at + i * apart) 0)) (i * 2 + 1) (getD old (at + i * apart + stride) 0)
+    ≡ tab ((i + 1) * 2) word ++ drop ((i + 1) * 2) to)
+pair-put old to i apart stride at h =
+    let word : ℕ → ℕ = λ k. getD old (at + k / 2 * apart + k % 2 * stride) 0 in
+    let q : (i + 1) * 2 ≡ i * 2 + 1 + 1 = omega arith in
+    let ed : i * 2 / 2 ≡ i = omega arith in
+    let em : i * 2 % 2 ≡ 0 = omega arith in
+    let a : getD old (at + i * apart) 0 ≡ word (i * 2) =
+    ap (λ (k : ℕ). getD old k 0) (rw (ed, em, zero-mul stride, add-zero)) in
+    let b : getD old (at + i * apart + stride) 0 ≡ word (i * 2 + 1) =
+    ap (λ (k : ℕ). getD old k 0) (rw (digits-div i {m = 2} {r = 1} (omega arith), digits-mod i {m = 2} {r = 1} (omega arith), one-mul)) in
+    rw (a, b, front-step word to (i * 2) (omega arith), front-step word to (i * 2 + 1) (omega arith), q)
 
 rows-offset : (digits : List ℕ) (t : ℕ) → 6 ≤ length digits → getD digits 4 0 ≡ 1
     → offset digits t ≡ t / getD digits 1 0 * getD digits 2 0 + t % getD digits 1 0 * getD digits 5 0

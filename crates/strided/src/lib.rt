@@ -41,8 +41,24 @@ fn copy_row(to: &mut [u32], from: &[u32], stride: usize, at: usize)
     }
 }
 
-// Rows of len words, the rows apart from each other, their words a stride apart.
-fn copy_rows(
+// Rows of two words. A loop for each row costs more than its words: one turn of this loop copies both.
+fn copy_pairs(to: &mut [u32], from: &[u32], count: usize, apart: usize, stride: usize, at: usize)
+    requires { ⌜ Rows (length (now to)) count 2 apart stride at (length (now from)) ⌝ }
+    ensures { λ _. ⌜ now (to .exit) ≡ rows (length (now (to .entry))) 2 apart stride at (now (from .entry)) ⌝ }
+{
+    let mut i: usize = 0;
+    while i < count {
+        let first = i * 2;
+        let second = first + 1;
+        let a = at + i * apart;
+        to[first] = from[a];
+        to[second] = from[a + stride];
+        i += 1;
+    }
+}
+
+// Rows of len words, row by row.
+fn copy_long(
     to: &mut [u32],
     from: &[u32],
     count: usize,
@@ -60,6 +76,26 @@ fn copy_rows(
         let end = first + len;
         copy_row(&mut to[first..end], from, stride, at + i * apart);
         i += 1;
+    }
+}
+
+// Rows of len words, the rows apart from each other, their words a stride apart.
+fn copy_rows(
+    to: &mut [u32],
+    from: &[u32],
+    count: usize,
+    len: usize,
+    apart: usize,
+    stride: usize,
+    at: usize,
+)
+    requires { ⌜ Rows (length (now to)) count len apart stride at (length (now from)) ⌝ }
+    ensures { λ _. ⌜ now (to .exit) ≡ rows (length (now (to .entry))) len apart stride at (now (from .entry)) ⌝ }
+{
+    if len == 2 {
+        copy_pairs(to, from, count, apart, stride, at);
+    } else {
+        copy_long(to, from, count, len, apart, stride, at);
     }
 }
 
