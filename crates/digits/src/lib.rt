@@ -3,9 +3,9 @@
 use mesh::product_from;
 use mesh::size_at;
 use rules;
+use strided::put_digit;
 ghost use mathlib.Core.Path.{_≡_};
-ghost use mathlib.Core.List.{_∷_};
-ghost use Prim.Native.Nat.{_+_, _-_, _*_, _≤_};
+ghost use Prim.Native.Nat.{_-_, _*_};
 ghost use lib.ListN.{length, drop};
 ghost use Rattle.rules.specs.Mesh.{span};
 ghost use Rattle.rules.specs.Types.{axesOf};
@@ -37,18 +37,6 @@ pub fn fill_strides(zs: &mut [usize], mesh: &[u16], m: usize)
         i -= 1;
         zs[i] = words;
     }
-}
-
-// Stores one digit.
-pub fn put_digit(digits: &mut [usize], first: usize, size: usize, words: usize, stride: usize)
-    requires { ⌜ first + 3 ≤ length (now digits) ⌝ }
-    ensures { λ _. ⌜ drop first (now (digits .exit)) ≡ size ∷ words ∷ stride ∷ drop (first + 3) (now (digits .entry)) ⌝ }
-{
-    let second = first + 1;
-    let third = first + 2;
-    digits[first] = size;
-    digits[second] = words;
-    digits[third] = stride;
 }
 
 // The digits of a list of axes, before those at end; their strides are cleared. Answers the words that all these digits count.

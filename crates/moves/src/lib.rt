@@ -83,7 +83,7 @@ fn dim_digits(
 {
     let piece = n / digits::span_of(mesh, sliced);
     let first = end - 3;
-    digits::put_digit(row, first, piece, words, w);
+    strided::put_digit(row, first, piece, words, w);
     let count = piece * words;
     let all = digits::axis_digits(row, zs, mesh, gathered, first, count);
     add_slice(ys, mesh, sliced, piece * w);
@@ -165,7 +165,7 @@ fn move_with(
 {
     let first = make_digits(row, zs, ys, mesh, shape, gathers, slices, words);
     let all = product_from(mesh, 0) * words;
-    strided::copy_strided(&mut new[0..all], old, &row[first..], 0);
+    strided::copy_digits(&mut new[0..all], old, row, first);
 }
 
 // All-slice, all-gather, all-to-all: the new state, of shards of the given words, at the front of new, whose other words stay.

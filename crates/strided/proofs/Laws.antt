@@ -102,7 +102,7 @@ pub record Turn (digits : List ℕ) (words at room i size span stride : ℕ) : T
   pub less : length (drop 3 digits) < length digits
   pub word : (o : ℕ) → o < span → offset digits (i * span + o) ≡ i * stride + offset (drop 3 digits) o
 
-pos-right : (a b : ℕ) → 0 < a * b → 0 < b
+pub pos-right : (a b : ℕ) → 0 < a * b → 0 < b
 pos-right a zero h = omega (arith, mul-zero a)
 pos-right a (suc b) h = omega arith
 

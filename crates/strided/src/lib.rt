@@ -1,8 +1,10 @@
-// A copy of words with strides: the words that digits name, in row-major order of the digits. Nothing is divided.
-// specs/Strided.antt says what digits are.
+// A copy of words with strides: the words that digits name, in row-major order of the digits. Nothing is divided. Digits are joined first where
+// one goes on from the other, so that the innermost loops are long. specs/Strided.antt says what digits are.
 ghost use mathlib.Core.Path.{_≡_};
-ghost use lib.ListN.{length};
-ghost use Rattle.strided.specs.Strided.{Row, Rows, Copy, row, rows, copied};
+ghost use mathlib.Core.List.{_∷_};
+ghost use Prim.Native.Nat.{_+_, _≤_};
+ghost use lib.ListN.{length, take, drop};
+ghost use Rattle.strided.specs.Strided.{Row, Rows, Copy, Joining, Putting, Alike, Put, row, rows, copied};
 
 // The words of from.
 pub fn copy_run(to: &mut [u32], from: &[u32])
@@ -100,7 +102,7 @@ fn copy_rows(
 }
 
 // The words that the digits name, from word at on.
-pub fn copy_strided(to: &mut [u32], from: &[u32], digits: &[usize], at: usize)
+fn copy_strided(to: &mut [u32], from: &[u32], digits: &[usize], at: usize)
     requires { ⌜ Copy (now digits) (length (now to)) at (length (now from)) ⌝ }
     ensures { λ _. ⌜ now (to .exit) ≡ copied (now (digits .entry)) (length (now (to .entry))) at (now (from .entry)) ⌝ }
 {
@@ -123,4 +125,69 @@ pub fn copy_strided(to: &mut [u32], from: &[u32], digits: &[usize], at: usize)
         copy_strided(&mut to[first..end], from, &digits[3..], at + i * stride);
         i += 1;
     }
+}
+
+// Stores one digit.
+pub fn put_digit(digits: &mut [usize], first: usize, size: usize, words: usize, stride: usize)
+    requires { ⌜ first + 3 ≤ length (now digits) ⌝ }
+    ensures { λ _. ⌜ drop first (now (digits .exit)) ≡ size ∷ words ∷ stride ∷ drop (first + 3) (now (digits .entry)) ⌝ }
+    ensures { λ _. ⌜ take first (now (digits .exit)) ≡ take first (now (digits .entry)) ⌝ }
+{
+    let second = first + 1;
+    let third = first + 2;
+    digits[first] = size;
+    digits[second] = words;
+    digits[third] = stride;
+}
+
+// Puts one digit before those at first: in the place of a digit of size 1, not at all where its own size is 1, joined with the digit at first where
+// it goes on from that one's end. Answers where the digits begin.
+fn put_joined(digits: &mut [usize], first: usize, size: usize, words: usize, stride: usize) -> usize
+    requires { ⌜ Putting (now digits) first (size ∷ words ∷ stride ∷ drop first (now digits)) ⌝ }
+    ensures { λ r. ⌜ Put (now (digits .entry)) (now (digits .exit)) first r
+        (size ∷ words ∷ stride ∷ drop first (now (digits .entry))) ⌝ }
+{
+    let inner = digits[first];
+    let apart = digits[first + 2];
+    if inner == 1 {
+        put_digit(digits, first, size, words, stride);
+        return first;
+    }
+    if size == 1 {
+        return first;
+    }
+    let end = inner * apart;
+    if stride == end {
+        digits[first] = size * inner;
+        return first;
+    }
+    let before = first - 3;
+    put_digit(digits, before, size, words, stride);
+    before
+}
+
+// Joins the digits at first, from the last one to the first, at the end of the slice. Answers where they begin.
+fn join_digits(digits: &mut [usize], first: usize) -> usize
+    requires { ⌜ Joining (drop first (now digits)) ⌝ }
+    ensures { λ r. ⌜ Alike (drop first (now (digits .entry))) (drop r (now (digits .exit))) ⌝ }
+{
+    let mut made = digits.len() - 3;
+    let mut i = made;
+    while first < i {
+        i -= 3;
+        let size = digits[i];
+        let words = digits[i + 1];
+        let stride = digits[i + 2];
+        made = put_joined(digits, made, size, words, stride);
+    }
+    made
+}
+
+// The words that the digits at first name. The digits are joined where they stand.
+pub fn copy_digits(to: &mut [u32], from: &[u32], digits: &mut [usize], first: usize)
+    requires { ⌜ Copy (drop first (now digits)) (length (now to)) 0 (length (now from)) ⌝ }
+    ensures { λ _. ⌜ now (to .exit) ≡ copied (drop first (now (digits .entry))) (length (now (to .entry))) 0 (now (from .entry)) ⌝ }
+{
+    let made = join_digits(digits, first);
+    copy_strided(to, from, &digits[made..], 0);
 }

@@ -114,7 +114,7 @@ next c =
     (omega (arith, t)) (l .loop .inv .0) (s .pre .front .count)
     (omega (arith, l .loop .inv .1, s .pre .front .room, t))
     (c .before .before .before .before .before .before .size-at .ensures ∙ ap (λ k. getD mesh k 1) ea)
-    (rw ea at (c .before .before .put-digit .ensures)) in (
+    (rw ea at (c .before .before .put-digit .ensures .0)) in (
       g,
       omega (
         arith,

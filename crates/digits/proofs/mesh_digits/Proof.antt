@@ -67,7 +67,7 @@ next c =
     let g = mesh-turn (c .before .before .put-digit .last .0) (getD mesh (i - 1) 0)
     (getD (now (s .args .zs)) (i - 1) 0) (l .loop .inv .3) (s .pre .places)
     (omega (arith, t)) (l .loop .inv .0) (s .pre .front .count) (omega (arith, l .loop .inv .1, s .pre .front .room, t))
-    refl refl (c .before .before .put-digit .ensures) in
+    refl refl (c .before .before .put-digit .ensures .0) in
     (g, omega (arith, g .words-are, product-less mesh (i - 1) (s .args .words) (s .pre .devices), s .pre .few))
 
 mul-count : tie.Need-mul-count Inv-loop μ-loop

@@ -44,7 +44,7 @@ axis-digits-requires c κs =
       front = record {
         room = omega (arith, s .pre .front .room);
         inside = omega (arith, p .kept .0, s .pre .front .inside);
-        count = sym (ap counted (p .ensures));
+        count = sym (ap counted (p .ensures .0));
         filled = rw e (facts s .count-pos);
       };
       of-mesh = s .pre .gathered;
@@ -90,7 +90,7 @@ returns c =
       rw e at (g .0),
       (
         g .1 .0
-            ∙ rw (c .before .before .before .before .before .before .before .before .before .before .before .before .before .put-digit .ensures, q, e),
+            ∙ rw (c .before .before .before .before .before .before .before .before .before .before .before .before .before .put-digit .ensures .0, q, e),
         (g .1 .1, rw e at (c .before .before .add-slice .ensures)),
       ),
     )

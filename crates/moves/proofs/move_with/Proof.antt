@@ -1,14 +1,13 @@
 use borrow.Author.Needs.{needs}
 use native.Mathlib.Omega.{arith}
-use Prim.Native.Nat.{_≤_, _+_, _-_, _*_}
+use Prim.Native.Nat.{_≤_, _-_, _*_}
 use mathlib.Core.Path.{_≡_, ap, ap₂, _∙_}
 use mathlib.Core.List.{_++_}
-use lib.ListN.{length, take, drop}
+use lib.ListN.{length, drop}
 use denote.Ref.{now}
 use borrow.Rule.Slice.PartMut.{same-len-mid}
 use Rattle.rules.specs.Lists.{product}
-use Rattle.rules.proofs.Fronts.{tail-all, lent-length, lent-put}
-use Rattle.moves.specs.Moves.{lists, stepDigits}
+use Rattle.rules.proofs.Fronts.{lent-length, lent-put}
 use Rattle.moves.proofs.Whole.{mesh-sizes, copy-asked, copy-leaves}
 use Rattle.moves.proofs.move_with.Statement.{statement}
 use Rattle.moves.proofs.move_with.Tie as tie
@@ -20,8 +19,8 @@ made c = c .before .before .before .before .before .before .before .before .befo
 abbrev counted : tie.After-product-from → tie.After-make-digits
 counted c = c .before .before .before .before .before .before .before
 
-abbrev copied : tie.After-copy-strided → tie.After-product-from
-copied c = c .before .before .before .before
+abbrev copied : tie.After-copy-digits → tie.After-product-from
+copied c = c .before .before .before
 
 make-digits-requires : tie.Need-make-digits-requires
 make-digits-requires c κs = search needs
@@ -37,53 +36,29 @@ all-words c = ap (λ n. n * made (counted c) .args .words) (c .product-from .ens
 room : (c : tie.After-product-from) → (let s = made (counted c) in c .product-from .result * s .args .words ≤ length (now (s .args .new)))
 room c = omega (arith, all-words c, made (counted c) .pre .1 .1)
 
--- the digits, as they are lent
-digits-are : (c : tie.After-make-digits)
-    → (let s = made c in
-    let shape = now (s .args .shape) in
-    let r = c .make-digits in
-    take (length (r .last .0) - r .result) (drop (r .result) (r .last .0))
-    ≡ stepDigits (now (s .args .mesh)) shape (lists shape (s .args .gathers)) (lists shape (s .args .slices)))
-digits-are c = let r = c .make-digits in tail-all (r .last .0) (r .result) (length (r .last .0) - r .result) (omega arith) ∙ r .ensures .1
-
-within : (c : tie.After-make-digits) → c .make-digits .result ≤ length (c .make-digits .last .0)
-within c = let r = c .make-digits in omega (arith, r .ensures .0, r .kept .0, made c .pre .0 .room)
-
 mul-all : tie.Need-mul-all
 mul-all c = omega (arith, room c)
 
-sub-copy-strided : tie.Need-sub-copy-strided
-sub-copy-strided c = search needs
+sub-copy-digits : tie.Need-sub-copy-digits
+sub-copy-digits c = search needs
 
-part-copy-strided-start : tie.Need-part-copy-strided-start
-part-copy-strided-start c = search needs
+part-copy-digits-start : tie.Need-part-copy-digits-start
+part-copy-digits-start c = search needs
 
-part-copy-strided-end : tie.Need-part-copy-strided-end
-part-copy-strided-end c = omega (arith, room c)
+part-copy-digits-end : tie.Need-part-copy-digits-end
+part-copy-digits-end c = omega (arith, room c)
 
-mul-copy-strided : tie.Need-mul-copy-strided
-mul-copy-strided c = omega (arith, within (counted (c .before)))
-
-sub-copy-strided-2 : tie.Need-sub-copy-strided-2
-sub-copy-strided-2 c = omega (arith, within (counted (c .before)))
-
-part-copy-strided-start-2 : tie.Need-part-copy-strided-start-2
-part-copy-strided-start-2 c = omega (arith, within (counted (c .before .before)))
-
-part-copy-strided-end-2 : tie.Need-part-copy-strided-end-2
-part-copy-strided-end-2 c = search needs
-
-copy-strided-requires : tie.Need-copy-strided-requires
-copy-strided-requires c κs =
-    let p = c .before .before .before in
+copy-digits-requires : tie.Need-copy-digits-requires
+copy-digits-requires c κs =
+    let p = c .before .before in
     let s = made (counted p) in
-    copy-asked (s .pre .0) _ _ (length (now (s .args .old))) (digits-are (counted p))
+    copy-asked (s .pre .0) _ _ (length (now (s .args .old))) (counted p .make-digits .ensures .1)
     (lent-length (now (s .args .new)) (p .product-from .result * s .args .words) (room p) ∙ all-words p) (s .pre .1 .0)
 
 same-length : tie.Need-same-length
 same-length c =
-    let r = c .before .before .copy-strided in
-    let p = copied (c .before .before) in
+    let r = c .before .before .before .before .copy-digits in
+    let p = copied (c .before .before .before .before) in
     let s = made (counted p) in
     same-len-mid 0 (p .product-from .result * s .args .words - 0) (now (s .args .new)) (r .last .0) (r .kept .0)
 
@@ -98,14 +73,14 @@ same-length-4 c = search needs
 
 returns : tie.Need-returns
 returns c =
-    let r = c .before .before .copy-strided in
-    let p = copied (c .before .before) in
+    let r = c .before .before .before .before .copy-digits in
+    let p = copied (c .before .before .before .before) in
     let s = made (counted p) in
     let new = now (s .args .new) in
     let n = p .product-from .result * s .args .words in
     lent-put new (r .last .0) n
     ∙ ap₂ (λ l k. l ++ drop k new)
-    (r .ensures ∙ copy-leaves (s .pre .0) _ _ (now (s .args .old)) (digits-are (counted p)) (lent-length new n (room p) ∙ all-words p)) (all-words p)
+    (r .ensures ∙ copy-leaves (s .pre .0) _ _ (now (s .args .old)) (counted p .make-digits .ensures .1) (lent-length new n (room p) ∙ all-words p)) (all-words p)
 
 pub move-with-spec : {M : Type 1} → statement M
 move-with-spec =
@@ -114,14 +89,10 @@ move-with-spec =
     make-digits-requires
     product-from-requires
     mul-all
-    sub-copy-strided
-    part-copy-strided-start
-    part-copy-strided-end
-    mul-copy-strided
-    sub-copy-strided-2
-    part-copy-strided-start-2
-    part-copy-strided-end-2
-    copy-strided-requires
+    sub-copy-digits
+    part-copy-digits-start
+    part-copy-digits-end
+    copy-digits-requires
     same-length
     same-length-2
     same-length-3

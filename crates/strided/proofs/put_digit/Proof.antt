@@ -2,9 +2,9 @@ use borrow.Author.Needs.{needs}
 use native.Mathlib.Omega.{arith}
 use lib.ListN.{length-set}
 use denote.Ref.{now}
-use Rattle.digits.proofs.Loops.{digit-put}
-use Rattle.digits.proofs.put_digit.Statement.{statement}
-use Rattle.digits.proofs.put_digit.Tie as tie
+use Rattle.strided.proofs.Joins.{digit-put, digit-kept}
+use Rattle.strided.proofs.put_digit.Statement.{statement}
+use Rattle.strided.proofs.put_digit.Tie as tie
 
 add-second : tie.Need-add-second
 add-second c = search needs
@@ -34,7 +34,11 @@ same-length : tie.Need-same-length
 same-length c = search needs
 
 returns : tie.Need-returns
-returns c = digit-put (now (c .args .digits)) (c .args .first) (c .args .size) (c .args .words) (c .args .stride) (c .pre)
+returns c =
+    let a = c .args in (
+      digit-put (now (a .digits)) (a .first) (a .size) (a .words) (a .stride) (c .pre),
+      digit-kept (now (a .digits)) (a .first) (a .size) (a .words) (a .stride),
+    )
 
 pub put-digit-spec : {M : Type 1} → statement M
 put-digit-spec =
