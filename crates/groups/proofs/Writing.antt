@@ -1,8 +1,8 @@
 -- The listing, one axis more at a time: what the loops of repeat_devices and write_devices keep (`Filling`, `Writing`), with the law that begins
 -- each, its step and its end. Assumes nothing.
-use Prim.Native.Nat.{ℕ, zero, suc, _+_, _-_, _*_, _/_, _%_, _<_, _≤_}
+use Prim.Native.Nat.{ℕ, suc, _+_, _-_, _*_, _/_, _%_, _<_, _≤_}
 use mathlib.Core.Path.{_≡_, refl, sym, ap, ap₂, _∙_, subst}
-use mathlib.Core.Logic.{inl, inr}
+use mathlib.Core.Logic.{inl}
 use mathlib.Core.List.{List, [], _∷_, _++_}
 use native.Mathlib.Nat.{mul-comm, zero-mul, zero-add, mod-lt, mod-eq-of-lt, mod-eq-sub-mod, div-eq-of-lt, div-eq-sub-div, le-mul-of-pos-right}
 use native.Mathlib.Omega.{arith}
@@ -15,7 +15,7 @@ use Rattle.rules.proofs.Positions.{span-append}
 use Rattle.rules.proofs.Buffers.{number-coords}
 use Rattle.rules.proofs.Fronts.{part-tab, next-part}
 use Rattle.mesh.proofs.Sizes.{axis-bounds}
-use Rattle.mesh.proofs.Digits.{span-pos, member-fits, member-front}
+use Rattle.mesh.proofs.Digits.{span-pos, member-fits, member-front, distinct-drop, in-drop}
 use Rattle.groups.specs.Ordering.{along, repeated, IsOrder, Repeats}
 use Rattle.groups.proofs.Lists.{Filling}
 
@@ -50,18 +50,6 @@ module _ (out : List ℕ) (count stride : ℕ) where
       let before : repeated out count stride (p - count) + stride ≡ repeated out count stride p =
       rw (div-eq-sub-div h l, mod-eq-sub-mod l, next-part ((p - count) / count) stride) (omega arith) in
       ap (λ (d : ℕ). d + stride) (filled-at g (p - count) (omega arith)) ∙ before
-
--- ---- the axes that are left
-
-distinct-drop : (i : ℕ) (L : List ℕ) → Distinct L → Distinct (drop i L)
-distinct-drop zero L d = d
-distinct-drop (suc i) [] d = d
-distinct-drop (suc i) (a ∷ L) d = distinct-drop i L (d .1)
-
-in-drop : (i : ℕ) (L : List ℕ) (a : ℕ) → In a (drop i L) → In a L
-in-drop zero L a h = h
-in-drop (suc i) [] a h = h
-in-drop (suc i) (b ∷ L) a h = inr (in-drop i L a h)
 
 -- ---- one axis more
 

@@ -1,8 +1,9 @@
--- What the leaves of src/lib.rt ask of a mesh and of a device; what was judged before gives each of them. Assumes nothing.
+-- What the leaves of src/lib.rt ask of a mesh, of a device and of an axis list; what was judged before gives each of them. Assumes nothing.
 use Prim.Native.Nat.{ℕ, _<_, _≤_}
 use mathlib.Core.List.{List}
-use Rattle.rules.specs.Lists.{product}
-use Rattle.rules.specs.Mesh.{devices}
+use lib.ListN.{length}
+use Rattle.rules.specs.Lists.{product, In, Distinct}
+use Rattle.rules.specs.Mesh.{devices, span}
 use Rattle.rules.specs.Limits.{mostDevices, mostWords}
 
 -- The sizes of a mesh, or of a shard: none is 0, and their product is at most the words of a table.
@@ -19,3 +20,9 @@ pub record Fits (mesh : List ℕ) : Type 0 where
 pub record IsDevice (mesh : List ℕ) (d : ℕ) : Type 0 where
   pub fits : Fits mesh
   pub below : d < devices mesh
+
+-- "a list of distinct axes" of the mesh, and a position in a group along it
+pub record IsPosition (mesh L : List ℕ) (q : ℕ) : Type 0 where
+  pub of-mesh : (a : ℕ) → In a L → a < length mesh
+  pub once : Distinct L
+  pub below : q < span mesh L

@@ -1,11 +1,11 @@
-// Sizes, strides, coordinates and positions on a mesh that is given by its axis sizes.
+// Sizes, strides, coordinates, positions and members on a mesh that is given by its axis sizes.
 // What each function answers is a definition of rules/specs/Mesh.antt; specs/Fitting.antt has what they ask for.
 ghost use mathlib.Core.Path.{_≡_};
 ghost use lib.ListN.{getD, drop};
 ghost use Rattle.rules.specs.Lists.{product as productOf};
-ghost use Rattle.rules.specs.Mesh.{deviceCoords, position};
+ghost use Rattle.rules.specs.Mesh.{deviceNumber, deviceCoords, position, member};
 ghost use Rattle.rules.specs.Types.{axesOf};
-ghost use Rattle.mesh.specs.Fitting.{Sizes, IsDevice};
+ghost use Rattle.mesh.specs.Fitting.{Sizes, IsDevice, IsPosition};
 use rules::Axis;
 use rules::AxisList;
 use rules::Device;
@@ -59,4 +59,26 @@ pub fn position_of(mesh: &[u16], list: AxisList, device: Device) -> usize
         i += 1;
     }
     place
+}
+
+// The member at a position of a device's group along a list: the device moved along each axis of the list, from the last, whose digit is the lowest.
+pub fn member_at(mesh: &[u16], list: AxisList, device: Device, place: usize) -> Device
+    requires { ⌜ IsDevice (now mesh) (device .0) ⌝ }
+    requires { ⌜ IsPosition (now mesh) (axesOf list) place ⌝ }
+    ensures { λ r. ⌜ r .0 ≡ deviceNumber (now (mesh .entry)) (member (now (mesh .entry)) (axesOf list) place (deviceCoords (now (mesh .entry)) (device .0))) ⌝ }
+{
+    let count = list.len();
+    let mut number = device.0 as usize;
+    let mut left = place;
+    let mut i: usize = 0;
+    while i < count {
+        i += 1;
+        let axis = list.at(count - i);
+        let size = size_at(mesh, axis);
+        let stride = product_from(mesh, axis.0 as usize + 1);
+        let own = coordinate(mesh, axis, device);
+        number = number - own * stride + left % size * stride;
+        left = left / size;
+    }
+    Device(number as u16)
 }
