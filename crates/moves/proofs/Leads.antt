@@ -37,7 +37,8 @@ use Rattle.digits.proofs.Strides.{
   offset-mesh,
   spans-mesh,
 }
-use Rattle.moves.specs.Moves.{movedShape, moved, left, dimDigits, withSlice, withSlices, deviceStrides, stepDigits}
+use Rattle.rules.proofs.Moved.{moved}
+use Rattle.moves.specs.Moves.{movedShape, left, dimDigits, withSlice, withSlices, deviceStrides, stepDigits}
 
 -- ---- lengths
 
@@ -293,7 +294,7 @@ module _ (mesh shape : List ℕ) (Gs Ss : List (List ℕ)) (v : Step mesh shape 
   }
 
   pub copied-is : (old : List ℕ) → copied (stepDigits mesh shape Gs Ss) (product mesh * R) 0 old
-      ≡ tabulate mesh (movedShape mesh shape Gs Ss) (moved mesh shape Gs Ss old)
+      ≡ moved 0 mesh Gs Ss shape old
   unfolding copied tabulate held
   copied-is old =
       tab-cong (product mesh * R) _ _ (λ t q.

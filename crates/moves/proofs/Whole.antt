@@ -7,12 +7,13 @@ use native.Mathlib.Nat.{mul-comm, mul-le-mul, mul-le-mul-right, le-mul-of-pos-ri
 use native.Mathlib.Omega.{arith}
 use lib.ListN.{length, getD, set, drop, replicate, length-replicate}
 use Rattle.rules.specs.Lists.{flat, product}
-use Rattle.rules.specs.Spread.{from, tabulate}
+use Rattle.rules.specs.Spread.{from}
 use Rattle.strided.specs.Strided.{counted, Copy, copied}
 use Rattle.mesh.specs.Fitting.{Sizes}
 use Rattle.digits.specs.Digits.{mostRoom, strides, cleared, meshDigits, Shards, Devices}
 use Rattle.digits.proofs.Strides.{pos-left, pos-right, strides-length}
-use Rattle.moves.specs.Moves.{movedShape, moved, left, deviceStrides, stepDigits, Adding, Dimensions, DimensionsAt, Setting}
+use Rattle.rules.proofs.Moved.{moved}
+use Rattle.moves.specs.Moves.{left, deviceStrides, stepDigits, Adding, Dimensions, DimensionsAt, Setting}
 use Rattle.moves.proofs.Leads.{Step, shard-length, counted-dims, left-length, device-length, copy-ok, copied-is}
 use Rattle.moves.proofs.Dims.{few-distinct}
 
@@ -146,5 +147,5 @@ module _ {row zs ys mesh shape : List ℕ} {Gs Ss : List (List ℕ)} {words : �
   copy-asked digits n room es en k = rw (es, en, t .words-are) (copy-ok mesh shape Gs Ss step-is room some-digits k)
 
   pub copy-leaves : (digits : List ℕ) (n : ℕ) (old : List ℕ) → digits ≡ stepDigits mesh shape Gs Ss → n ≡ product mesh * words
-      → copied digits n 0 old ≡ tabulate mesh (movedShape mesh shape Gs Ss) (moved mesh shape Gs Ss old)
+      → copied digits n 0 old ≡ moved 0 mesh Gs Ss shape old
   copy-leaves digits n old es en = rw (es, en, t .words-are) (copied-is mesh shape Gs Ss step-is old)

@@ -8,24 +8,20 @@ use mathlib.Core.List.{List, [], _∷_, _++_}
 use lib.ListN.{length, getD, set, take, drop, replicate}
 use Rattle.rules.specs.Lists.{flat, product, In, Distinct}
 use Rattle.rules.specs.Mesh.{devices, span}
-use Rattle.rules.specs.Sharding.{shardSizes, firstIndexes}
-use Rattle.rules.specs.Spread.{StateOf, tabulate, held, from}
-use Rattle.rules.specs.Collectives.{grown, owner, within}
+use Rattle.rules.specs.Sharding.{shardSizes}
+use Rattle.rules.specs.Spread.{from}
+use Rattle.rules.specs.Collectives.{grown}
 use Rattle.rules.specs.Limits.{mostAxes, mostDevices, mostDims, mostWords}
 use Rattle.rules.specs.Types.{dimsOf}
 use Rattle.rules.specs.declared.Sharding.{Sharding}
+use Rattle.rules.proofs.Moved.{moved}
 use Rattle.digits.specs.Digits.{mostRoom, strides, push, cleared, axisDigits, meshDigits, Front}
 
 -- ---- the step
 
--- the shape and the words of the new shards, by the gathered and the sliced axes of each dimension
+-- the shape of the new shards, by the gathered and the sliced axes of each dimension
 abbrev pub movedShape : (mesh shape : List ℕ) → (Gs Ss : List (List ℕ)) → List ℕ
 movedShape mesh shape Gs Ss = grown mesh Gs (shardSizes mesh shape Ss)
-
-abbrev pub moved : (mesh shape : List ℕ) → (Gs Ss : List (List ℕ)) → (old : List ℕ) → StateOf ℕ
-moved mesh shape Gs Ss old x i =
-    held 0 mesh shape old (owner mesh Gs (shardSizes mesh shape Ss) i x)
-    (from (firstIndexes mesh Ss (shardSizes mesh shape Ss) x) (within (shardSizes mesh shape Ss) i))
 
 -- the lists of a step of the code, one for each dimension of a shape
 abbrev pub lists : List ℕ → Sharding → List (List ℕ)
@@ -33,8 +29,7 @@ lists shape s = take (length shape) (dimsOf s)
 
 -- the buffer that the step leaves: the new state, of shards of `words` words, and what was behind it
 abbrev pub movedBuffer : (mesh shape : List ℕ) → (Gs Ss : List (List ℕ)) → ℕ → (old new : List ℕ) → List ℕ
-movedBuffer mesh shape Gs Ss words old new =
-    tabulate mesh (movedShape mesh shape Gs Ss) (moved mesh shape Gs Ss old) ++ drop (devices mesh * words) new
+movedBuffer mesh shape Gs Ss words old new = moved 0 mesh Gs Ss shape old ++ drop (devices mesh * words) new
 
 -- ---- its digits
 

@@ -16,4 +16,5 @@ pub mod Accepted
 pub mod Room
 pub mod Whole
 pub mod Locality
+pub mod Moved
 pub mod Moves

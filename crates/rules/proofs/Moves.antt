@@ -48,12 +48,7 @@ use Rattle.rules.proofs.Steps.{
   shape-length,
 }
 use Rattle.rules.proofs.Whole.{step-ready}
-
--- The state that a kernel leaves: each device's shard is sliced along the lists Ss, and then the slices are gathered along the lists Gs.
-abbrev pub moved : {W : Type 0} → W → (mesh : List ℕ) (Gs Ss : List (List ℕ)) (shape : List ℕ) (old : List W) → List W
-moved z mesh Gs Ss shape old = tabulate mesh (grown mesh Gs (shardSizes mesh shape Ss))
-    (λ x i. held z mesh shape old (owner mesh Gs (shardSizes mesh shape Ss) i x)
-    (from (firstIndexes mesh Ss (shardSizes mesh shape Ss) x) (within (shardSizes mesh shape Ss) i)))
+pub use Rattle.rules.proofs.Moved.{moved}
 
 -- ---- along each dimension, one of two lists is empty
 
@@ -165,8 +160,6 @@ module _ (mesh : List ℕ) where
 within-same : {i ns : List ℕ} → Below i ns → within ns i ≡ i
 within-same none = refl
 within-same (more l b) = ap₂ (λ (k : ℕ) (t : List ℕ). k ∷ t) (mod-eq-of-lt l) (within-same b)
-
--- ---- distinct axes are no more than the mesh has
 
 -- ---- the steps that only move words
 
