@@ -2,6 +2,7 @@
 -- as the code asks (`groups-are`), and what it leaves is the reduction of the rules (`reduced-is`). Assumes nothing.
 use Prim.Native.Nat.{ℕ, zero, suc, _+_, _*_, _-_, _/_, _%_, _≤_, _<_}
 use mathlib.Core.Path.{_≡_, refl, sym, ap, ap₂, _∙_, subst}
+use mathlib.Core.Logic.{_⊎_, inl, inr}
 use mathlib.Core.List.{List, [], _∷_, map}
 use native.Mathlib.Nat.{
   add-zero,
@@ -14,23 +15,23 @@ use native.Mathlib.Nat.{
   zero-mod,
   mul-le-mul,
   mul-le-mul-right,
+  le-refl,
   le-mul-of-pos-right,
-  lt-of-mul-lt-mul-right,
   mul-comm,
   mod-lt,
 }
-use native.Mathlib.Decide.{ℕ-discrete}
+use native.Mathlib.Decide.{ℕ-discrete, decLt}
 use native.Mathlib.Omega.{arith}
 use lib.ListN.{length, getD, set}
-use lib.Seq.{set-comm}
+use lib.Seq.{set-comm, getD-set-other}
 use Rattle.rules.specs.Lists.{tab, product, In, Distinct, Below}
-use Rattle.rules.specs.Mesh.{number, coords, devices, span, member, members, remaining}
+use Rattle.rules.specs.Mesh.{number, coords, devices, span, position, member, members, remaining, IsGroup}
 use Rattle.rules.specs.Spread.{tabulate, held, addWords}
 use Rattle.rules.specs.Collectives.{Place, made, reducePlaces, word}
 use Rattle.rules.proofs.Lists.{length-tab, getD-tab, tab-cong, map-tab}
 use Rattle.rules.proofs.Positions.{div-lt, pos-of-lt, span-append, below-member}
 use Rattle.rules.proofs.Buffers.{number-lt, coords-number, below-coords, number-coords}
-use Rattle.rules.proofs.Groups.{span-remaining}
+use Rattle.rules.proofs.Groups.{group-by-position, span-remaining}
 use Rattle.rules.proofs.Fronts.{part-in}
 use Rattle.strided.specs.Strided.{offset}
 use Rattle.digits.specs.Digits.{strides, dot, cleared, axisDigits, meshDigits, Shards}
@@ -82,6 +83,37 @@ cleared-twice [] zs = refl
 cleared-twice (a ∷ L) zs =
     ap (λ (l : List ℕ). set l a 0) (cleared-set L (cleared L zs) a ∙ ap (λ (l : List ℕ). set l a 0) (cleared-twice L zs))
     ∙ set-twice (cleared L zs) a 0
+
+-- a list's strides, cleared, are 0
+set-none : (l : List ℕ) (a : ℕ) → getD (set l a 0) a 0 ≡ 0
+set-none [] a = refl
+set-none (x ∷ l) zero = refl
+set-none (x ∷ l) (suc a) = set-none l a
+
+none-stays : (l : List ℕ) (a b : ℕ) → getD l a 0 ≡ 0 → getD (set l b 0) a 0 ≡ 0
+none-stays l a b h = go (ℕ-discrete a b)
+  where
+    go : Dec (a ≡ b) → getD (set l b 0) a 0 ≡ 0
+    go (yes e) = rw e (set-none l b)
+    go (no n) = getD-set-other l b a 0 0 n ∙ h
+
+cleared-none : (L zs : List ℕ) (a : ℕ) → getD zs a 0 ≡ 0 → getD (cleared L zs) a 0 ≡ 0
+cleared-none [] zs a h = h
+cleared-none (b ∷ L) zs a h = none-stays (cleared L zs) a b (cleared-none L zs a h)
+
+cleared-in : (L zs : List ℕ) (a : ℕ) → In a L → getD (cleared L zs) a 0 ≡ 0
+cleared-in (b ∷ L) zs a (inl e) = rw e (set-none (cleared L zs) b)
+cleared-in (b ∷ L) zs a (inr i) = none-stays (cleared L zs) a b (cleared-in L zs a i)
+
+-- where the strides of a list are 0, its members add nothing
+none-part : (mesh L zs : List ℕ) (q : ℕ) → ((a : ℕ) → In a L → getD zs a 0 ≡ 0) → memberPart mesh L zs q ≡ 0
+none-part mesh [] zs q h = refl
+none-part mesh (a ∷ L) zs q h =
+    rw (
+      cleared-none L zs a (h a (inl refl)),
+      none-part mesh L zs (q % span mesh L) (λ b i. h b (inr i)),
+      mul-zero (q / span mesh L),
+    )
 
 no-part : (mesh L zs : List ℕ) → memberPart mesh L zs 0 ≡ 0
 no-part mesh [] zs = refl
@@ -150,47 +182,113 @@ module _ (mesh L : List ℕ) (m : ℕ) (some : 0 < product mesh) (once : Distinc
       rw (first-at mesh (cleared L (strides mesh m)) d zs-length h)
       (omega (arith, first-le d h, mul-le-mul-right {m = d} {n = product mesh} m (omega arith)))
 
-  -- the first member of a device's group: its shard begins at the device's first place, it is not behind the device, and its first place is the same
-  firstMember : ℕ → ℕ
-  firstMember d = number mesh (member mesh L 0 (coords mesh d))
+  -- the member of a device's group at a position: its first place is the device's
+  memberAt : ℕ → ℕ → ℕ
+  memberAt d q = number mesh (member mesh L q (coords mesh d))
 
-  firstMember-place : (d : ℕ) → d < product mesh → getD (firstWords mesh L m) d 0 ≡ firstMember d * m
-  unfolding firstMember
-  firstMember-place d h =
-      first-is d h ∙ sym (add-zero _) ∙ ap (λ (n : ℕ). dot (cleared L (strides mesh m)) (coords mesh d) + n) (sym (no-part mesh L (strides mesh m)))
-      ∙ place 0 (below-coords mesh d h) (coords-length mesh d)
+  member-lt : (d q : ℕ) → d < product mesh → q < span mesh L → memberAt d q < product mesh
+  unfolding memberAt
+  member-lt d q hd hq = number-lt (below-member mesh L q hq (below-coords mesh d hd))
 
-  firstMember-same : (d : ℕ) → d < product mesh → getD (firstWords mesh L m) (firstMember d) 0 ≡ getD (firstWords mesh L m) d 0
-  unfolding firstMember
-  firstMember-same d h =
+  member-first : (d q : ℕ) → d < product mesh → q < span mesh L → getD (firstWords mesh L m) (memberAt d q) 0 ≡ getD (firstWords mesh L m) d 0
+  unfolding memberAt
+  member-first d q hd hq =
       let x : List ℕ = coords mesh d in
       let zs : List ℕ = cleared L (strides mesh m) in
-      let b : Below (member mesh L 0 x) mesh = below-member mesh L 0 (group-pos mesh L some) (below-coords mesh d h) in
-      first-is (firstMember d) (number-lt b) ∙ ap (dot zs) (coords-number b)
-      ∙ dot-member mesh L zs 0 x once (coords-length mesh d ∙ sym zs-length)
-      ∙ ap₂ (λ (l : List ℕ) (n : ℕ). dot l x + n) (cleared-twice L (strides mesh m)) (no-part mesh L zs) ∙ add-zero _ ∙ sym (first-is d h)
+      let b : Below (member mesh L q x) mesh = below-member mesh L q hq (below-coords mesh d hd) in
+      first-is (memberAt d q) (number-lt b) ∙ ap (dot zs) (coords-number b)
+      ∙ dot-member mesh L zs q x once (coords-length mesh d ∙ sym zs-length)
+      ∙ ap₂ (λ (l : List ℕ) (n : ℕ). dot l x + n) (cleared-twice L (strides mesh m)) (none-part mesh L zs q (cleared-in L (strides mesh m)))
+      ∙ add-zero _ ∙ sym (first-is d hd)
 
-  pub shares : (d : ℕ) → d < product mesh → ¬ (getD (firstWords mesh L m) d 0 ≡ d * m)
-      → (e : ℕ) × (e < d) × (getD (firstWords mesh L m) d 0 ≡ e * m) × (getD (firstWords mesh L m) e 0 ≡ getD (firstWords mesh L m) d 0)
-  shares d h n = (
-    firstMember d,
-    lt-of-mul-lt-mul-right m (omega (arith, n, firstMember-place d h, first-is d h, first-le d h)),
-    firstMember-place d h,
-    firstMember-same d h,
-  )
+  shift-start : getD (shiftWords mesh L m) 0 0 ≡ 0
+  shift-start = shift-is 0 (group-pos mesh L some) ∙ no-part mesh L (strides mesh m)
 
-  pub groups-are : (old new : ℕ) → product mesh * m ≤ old → product mesh * m ≤ new
-      → Groups (firstWords mesh L m) (shiftWords mesh L m) m old new
-  groups-are old new ho hn = record {
-    room = rw firsts-length hn;
-    groups = λ d h.
-        let hd : d < product mesh = subst (λ n. d < n) firsts-length h in
-        record {
-          some = rw shifts-length (group-pos mesh L some);
-          inside = λ q k. omega (arith, shard-in d q hd (subst (λ n. q < n) shifts-length k));
-        };
-    shares = λ d h. shares d (subst (λ n. d < n) firsts-length h);
-  }
+  -- the first member's shard begins at the device's first place
+  first-place : (d : ℕ) → d < product mesh → getD (firstWords mesh L m) d 0 ≡ memberAt d 0 * m
+  unfolding memberAt
+  first-place d h = omega (arith, place-is d 0 h (group-pos mesh L some), shift-start)
+
+-- two multiples of m
+multiples-apart : (i j m : ℕ) → ¬ (i ≡ j) → (i * m + m ≤ j * m) ⊎ (j * m + m ≤ i * m)
+multiples-apart i j m n = go (decLt i j)
+  where
+    go : Dec (i < j) → (i * m + m ≤ j * m) ⊎ (j * m + m ≤ i * m)
+    go (yes l) = inl (part-in i j m (j * m) l (le-refl _))
+    go (no l) = inr (part-in j i m (i * m) (omega (arith, n, l)) (le-refl _))
+
+-- the groups are as the code asks
+module _ (mesh L : List ℕ) (m : ℕ) (some : 0 < product mesh) (once : Distinct L) (of-mesh : (a : ℕ) → In a L → a < length mesh) where
+  -- the shards of a group are apart
+  shifts-apart : (p q : ℕ) → p < q → q < span mesh L
+      → (getD (shiftWords mesh L m) p 0 + m ≤ getD (shiftWords mesh L m) q 0)
+      ⊎ (getD (shiftWords mesh L m) q 0 + m ≤ getD (shiftWords mesh L m) p 0)
+  unfolding memberAt
+  shifts-apart p q h k =
+      rw (at p (omega arith), at q k)
+      (multiples-apart (memberAt mesh L m some once 0 p) (memberAt mesh L m some once 0 q) m (λ e. omega (arith, same e)))
+    where
+      at : (q : ℕ) → q < span mesh L → getD (shiftWords mesh L m) q 0 ≡ memberAt mesh L m some once 0 q * m
+      at q k =
+          let z : getD (firstWords mesh L m) 0 0 ≡ 0 =
+          omega (arith, first-is mesh L m some once 0 some, first-le mesh L m some once 0 some, zero-mul m) in
+          omega (arith, place-is mesh L m some once 0 q some k)
+
+      same : memberAt mesh L m some once 0 p ≡ memberAt mesh L m some once 0 q → p ≡ q
+      same e =
+          let b : Below (coords mesh 0) mesh = below-coords mesh 0 some in
+          let g : IsGroup mesh L (coords mesh 0) = group-by-position mesh L once of-mesh b in
+          g .once p q (omega arith) k
+          (sym (coords-number (g .of-mesh p (omega arith))) ∙ ap (coords mesh) e ∙ coords-number (g .of-mesh q k))
+
+  -- a device is a member of its own group
+  own-position : (d : ℕ) → d < product mesh
+      → (q : ℕ) × (q < span mesh L) × (getD (firstWords mesh L m) d 0 + getD (shiftWords mesh L m) q 0 ≡ d * m)
+  own-position d h =
+      let b : Below (coords mesh d) mesh = below-coords mesh d h in
+      let r = group-by-position mesh L once of-mesh b .has (coords mesh d) b (λ a off. refl) in
+      let q : ℕ = position mesh L (coords mesh d) in (
+        q,
+        r .0,
+        place-is mesh L m some once d q h (r .0) ∙ ap (λ (x : List ℕ). number mesh x * m) (r .1) ∙ ap (λ (n : ℕ). n * m) (number-coords mesh d h),
+      )
+
+  pub groups-are : (words : ℕ) → product mesh * m ≤ words → Groups (firstWords mesh L m) (shiftWords mesh L m) m words
+  unfolding memberAt
+  groups-are words room =
+      let ld = firsts-length mesh L m some once in
+      let lq = shifts-length mesh L m some once in
+      let zero-in : 0 < span mesh L = group-pos mesh L some in
+      record {
+        room = rw ld room;
+        groups = λ d h.
+            let hd : d < product mesh = subst (λ n. d < n) ld h in
+            record {
+              some = rw lq zero-in;
+              first = shift-start mesh L m some once;
+              apart = λ p q a k. shifts-apart p q a (subst (λ n. q < n) lq k);
+              inside = λ q k. omega (arith, shard-in mesh L m some once d q hd (subst (λ n. q < n) lq k));
+            };
+        first = λ d h.
+            let hd : d < product mesh = subst (λ n. d < n) ld h in
+            let p = first-place mesh L m some once d hd in (
+              memberAt mesh L m some once d 0,
+              omega (arith, p, first-is mesh L m some once d hd, first-le mesh L m some once d hd),
+              p,
+              member-first mesh L m some once d 0 hd zero-in ∙ p,
+            );
+        members = λ d q h k.
+            let hd : d < product mesh = subst (λ n. d < n) ld h in
+            let hq : q < span mesh L = subst (λ n. q < n) lq k in (
+              memberAt mesh L m some once d q,
+              rw ld (member-lt mesh L m some once d q hd hq),
+              place-is mesh L m some once d q hd hq,
+              member-first mesh L m some once d q hd hq,
+            );
+        position = λ d h.
+            let r = own-position d (subst (λ n. d < n) ld h) in
+            (r .0, rw lq (r .1), r .2);
+      }
 
 -- what the code leaves is the reduction of the rules
 module _ (mesh shape L old : List ℕ) (some : 0 < product mesh) (once : Distinct L) where

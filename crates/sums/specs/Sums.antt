@@ -1,9 +1,11 @@
--- The reduction by whole shards. `firsts` has, for each device, where the shard of the first member of its group begins; `shifts` has how far after
--- it the shard of the member at each position begins. Each group is added once, for its first member; the others repeat that. Assumes nothing.
+-- The reduction by whole shards, in one buffer: it keeps the shape, so each shard's sum stands where the shard was. `firsts` has, for each device,
+-- where the shard of the first member of its group begins; `shifts` has how far after it the shard of the member at each position begins. Each group
+-- is added once, in place of its first member's shard; the others repeat that. Assumes nothing.
 use Prim.Native.Nat.{ℕ, _+_, _*_, _/_, _%_, _≤_, _<_}
 use mathlib.Core.Path.{_≡_}
+use mathlib.Core.Logic.{_⊎_}
 use mathlib.Core.List.{List, [], _++_}
-use lib.ListN.{length, getD, drop}
+use lib.ListN.{length, getD, take, drop}
 use Rattle.rules.specs.Lists.{tab, product, In, Distinct}
 use Rattle.rules.specs.Mesh.{devices, span}
 use Rattle.rules.specs.Spread.{tabulate, held, addWords}
@@ -11,6 +13,10 @@ use Rattle.rules.specs.Collectives.{made, reducePlaces}
 use Rattle.rules.specs.Limits.{mostAxes, mostDevices, mostWords}
 use Rattle.strided.specs.Strided.{counted, offset, Spans}
 use Rattle.digits.specs.Digits.{mostRoom, strides, cleared, axisDigits, meshDigits}
+
+-- the words with g 0, g 1, .., g (m - 1) written from `at` on
+abbrev pub written : List ℕ → (at m : ℕ) → (ℕ → ℕ) → List ℕ
+written words at m g = (take at words ++ tab m g) ++ drop (at + m) words
 
 -- word o of the sum of the shards of the first q members, which begin at the shifts from `at` on
 abbrev pub partWord : (old shifts : List ℕ) → (at q o : ℕ) → ℕ
@@ -26,10 +32,15 @@ unfoldable pub reducedWord : (old firsts shifts : List ℕ) → ℕ → ℕ → 
 unfolding groupWord
 reducedWord old firsts shifts m p = groupWord old shifts (getD firsts (p / m) 0) (p % m)
 
--- the buffer that a reduction leaves: the new state, and what was behind it
-abbrev pub reducedBuffer : (mesh shape L old new : List ℕ) → List ℕ
-reducedBuffer mesh shape L old new =
-    tabulate mesh shape (made addWords (reducePlaces mesh L) (held 0 mesh shape old)) ++ drop (devices mesh * product shape) new
+-- the buffer that a reduction leaves: the new state, and what was behind the old one
+abbrev pub reducedBuffer : (mesh shape L old : List ℕ) → List ℕ
+reducedBuffer mesh shape L old =
+    tabulate mesh shape (made addWords (reducePlaces mesh L) (held 0 mesh shape old)) ++ drop (devices mesh * product shape) old
+
+-- what is left where the shards of a group's first n members have the words g: every other word is as it was
+pub record Shared (old shifts : List ℕ) (at m n : ℕ) (g : ℕ → ℕ) (new : List ℕ) : Type 0 where
+  pub members : (q o : ℕ) → q < n → o < m → getD new (at + getD shifts q 0 + o) 0 ≡ g o
+  pub others : (p : ℕ) → ((q : ℕ) → q < n → (p < at + getD shifts q 0) ⊎ (at + getD shifts q 0 + m ≤ p)) → getD new p 0 ≡ getD old p 0
 
 -- The tables, for shards of m words.
 unfoldable pub firstWords : (mesh L : List ℕ) → ℕ → List ℕ
@@ -51,22 +62,28 @@ pub record Offsets (digits : List ℕ) (n at : ℕ) : Type 0 where
   pub filled : 0 < n
   pub few : (t : ℕ) → t < n → at + offset digits t ≤ mostRoom
 
--- one group: its shards are within the old words
-pub record Group (shifts : List ℕ) (m at old : ℕ) : Type 0 where
+-- two shards of m words: the one at a lies behind the one at `at`
+pub record Behind (at a m words : ℕ) : Type 0 where
+  pub behind : at + m ≤ a
+  pub inside : a + m ≤ words
+
+-- one group: its shards are within the words, the first one's begins at `at`, and no two have a word in common
+pub record Group (shifts : List ℕ) (m at words : ℕ) : Type 0 where
   pub some : 0 < length shifts
-  pub inside : (q : ℕ) → q < length shifts → at + getD shifts q 0 + m ≤ old
+  pub first : getD shifts 0 0 ≡ 0
+  pub apart : (p q : ℕ) → p < q → q < length shifts → (getD shifts p 0 + m ≤ getD shifts q 0) ⊎ (getD shifts q 0 + m ≤ getD shifts p 0)
+  pub inside : (q : ℕ) → q < length shifts → at + getD shifts q 0 + m ≤ words
 
--- a shard that is written already, and the place of another
-pub record Repeat (first at m new : ℕ) : Type 0 where
-  pub before : first + m ≤ at
-  pub room : at + m ≤ new
-
--- all groups: a device is the first of its group, or that one's shard is written before its own
-pub record Groups (firsts shifts : List ℕ) (m old new : ℕ) : Type 0 where
-  pub room : length firsts * m ≤ new
-  pub groups : (d : ℕ) → d < length firsts → Group shifts m (getD firsts d 0) old
-  pub shares : (d : ℕ) → d < length firsts → ¬ (getD firsts d 0 ≡ d * m)
-      → (e : ℕ) × (e < d) × (getD firsts d 0 ≡ e * m) × (getD firsts e 0 ≡ getD firsts d 0)
+-- all groups: a device's first member is a device that is the first of its own group, and not behind it; the members of a first one's group are
+-- devices with that same first place; and each device is a member of its own group
+pub record Groups (firsts shifts : List ℕ) (m words : ℕ) : Type 0 where
+  pub room : length firsts * m ≤ words
+  pub groups : (d : ℕ) → d < length firsts → Group shifts m (getD firsts d 0) words
+  pub first : (d : ℕ) → d < length firsts
+      → (e : ℕ) × (e * m ≤ d * m) × (getD firsts d 0 ≡ e * m) × (getD firsts e 0 ≡ e * m)
+  pub members : (d q : ℕ) → d < length firsts → q < length shifts
+      → (e : ℕ) × (e < length firsts) × (getD firsts d 0 + getD shifts q 0 ≡ e * m) × (getD firsts e 0 ≡ getD firsts d 0)
+  pub position : (d : ℕ) → d < length firsts → (q : ℕ) × (q < length shifts) × (getD firsts d 0 + getD shifts q 0 ≡ d * m)
 
 -- a list of axes on a mesh with strides, and the places that list its group
 pub record Shifting (shifts zs mesh L : List ℕ) : Type 0 where
@@ -99,7 +116,7 @@ pub record Tables (firsts shifts zs mesh L : List ℕ) (m : ℕ) : Type 0 where
   pub shifts-room : length shifts ≡ mostDevices
 
 -- a reduction of shards of a shape
-pub record Reducing (mesh shape L : List ℕ) (old new : ℕ) : Type 0 where
+pub record Reducing (mesh shape L : List ℕ) (words : ℕ) : Type 0 where
   pub axes : length mesh ≤ mostAxes
   pub devices-pos : 0 < devices mesh
   pub devices-few : devices mesh ≤ mostDevices
@@ -107,5 +124,4 @@ pub record Reducing (mesh shape L : List ℕ) (old new : ℕ) : Type 0 where
   pub words-few : product shape ≤ mostWords
   pub of-mesh : (a : ℕ) → In a L → a < length mesh
   pub once : Distinct L
-  pub old-room : devices mesh * product shape ≤ old
-  pub new-room : devices mesh * product shape ≤ new
+  pub room : devices mesh * product shape ≤ words

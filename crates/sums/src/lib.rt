@@ -1,9 +1,9 @@
-// All-reduce: each device gets the word-by-word sum over its group, whole shards at a time. Each group is added once, for its first member, and the
-// other members repeat that sum. Nothing is divided. specs/Sums.antt says what the tables hold.
+// All-reduce: each device gets the word-by-word sum over its group, whole shards at a time. The shape stays, so the words are summed where they are,
+// which touches half the memory of two buffers: each group is added once, into its first member's shard, and the other members repeat that sum at
+// once, while it is in the cache. Nothing is divided. specs/Sums.antt says what the tables hold.
 use digits;
 use mesh::product_from;
 use rules;
-use strided;
 ghost use mathlib.Core.Path.{_≡_};
 ghost use mathlib.Core.List.{[], _++_};
 ghost use Prim.Native.Nat.{_+_, _*_, _%_, _^_, _≤_, _<_};
@@ -13,118 +13,119 @@ ghost use Rattle.rules.specs.Mesh.{span};
 ghost use Rattle.rules.specs.Types.{axesOf};
 ghost use Rattle.strided.specs.Strided.{offset};
 ghost use Rattle.digits.specs.Digits.{cleared, axisDigits, meshDigits};
-ghost use Rattle.sums.specs.Sums.{partWord, groupWord, reducedWord, reducedBuffer, firstWords, shiftWords};
-ghost use Rattle.sums.specs.Sums.{Offsets, Group, Repeat, Groups, Shifting, Placing, Tables, Reducing};
+ghost use Rattle.sums.specs.Sums.{written, partWord, groupWord, reducedWord, reducedBuffer, firstWords, shiftWords};
+ghost use Rattle.sums.specs.Sums.{Offsets, Behind, Group, Shared, Groups, Shifting, Placing, Tables, Reducing};
 
 // The numbers of the digits of a group's axes, or of all devices.
 const ROOM: usize = 3 * rules::Axis::MOST;
 
-// Adds the words of from to those of to, modulo 2^32.
-fn add_words(to: &mut [u32], from: &[u32])
-    requires { ⌜ length (now to) ≡ length (now from) ⌝ }
-    ensures { λ _. ⌜ now (to .exit) ≡ tab (length (now (to .entry))) (λ o. (getD (now (to .entry)) o 0 + getD (now (from .entry)) o 0) % 2 ^ 32) ⌝ }
+// Adds the words of the shard at a to those of the shard at `at`, modulo 2^32.
+fn add_one(words: &mut [u32], at: usize, a: usize, m: usize)
+    requires { ⌜ Behind at a m (length (now words)) ⌝ }
+    ensures { λ _. ⌜ now (words .exit) ≡ written (now (words .entry)) at m (λ o. (getD (now (words .entry)) (at + o) 0
+        + getD (now (words .entry)) (a + o) 0) % 2 ^ 32) ⌝ }
 {
     let mut t: usize = 0;
-    while t < from.len() {
-        to[t] = std::num::wrapping_add_u32(to[t], from[t]);
+    while t < m {
+        words[at + t] = std::num::wrapping_add_u32(words[at + t], words[a + t]);
         t += 1;
     }
 }
 
-// Adds the words of three shards of old, at a, b and c, to those of to, modulo 2^32.
-fn add_three(to: &mut [u32], old: &[u32], a: usize, b: usize, c: usize)
-    requires { ⌜ a + length (now to) ≤ length (now old) ⌝ }
-    requires { ⌜ b + length (now to) ≤ length (now old) ⌝ }
-    requires { ⌜ c + length (now to) ≤ length (now old) ⌝ }
-    ensures { λ _. ⌜ now (to .exit) ≡ tab (length (now (to .entry))) (λ o. (getD (now (to .entry)) o 0 + getD (now (old .entry)) (a + o) 0
-        + getD (now (old .entry)) (b + o) 0 + getD (now (old .entry)) (c + o) 0) % 2 ^ 32) ⌝ }
+// Adds the words of three shards, at a, b and c, to those of the shard at `at`, modulo 2^32.
+fn add_three(words: &mut [u32], at: usize, a: usize, b: usize, c: usize, m: usize)
+    requires { ⌜ Behind at a m (length (now words)) ⌝ }
+    requires { ⌜ Behind at b m (length (now words)) ⌝ }
+    requires { ⌜ Behind at c m (length (now words)) ⌝ }
+    ensures { λ _. ⌜ now (words .exit) ≡ written (now (words .entry)) at m (λ o. (getD (now (words .entry)) (at + o) 0
+        + getD (now (words .entry)) (a + o) 0 + getD (now (words .entry)) (b + o) 0 + getD (now (words .entry)) (c + o) 0) % 2 ^ 32) ⌝ }
 {
     let mut t: usize = 0;
-    while t < to.len() {
-        let one = std::num::wrapping_add_u32(to[t], old[a + t]);
-        let two = std::num::wrapping_add_u32(one, old[b + t]);
-        to[t] = std::num::wrapping_add_u32(two, old[c + t]);
+    while t < m {
+        let one = std::num::wrapping_add_u32(words[at + t], words[a + t]);
+        let two = std::num::wrapping_add_u32(one, words[b + t]);
+        words[at + t] = std::num::wrapping_add_u32(two, words[c + t]);
         t += 1;
     }
 }
 
-// The sum of the shards of most members of a group: the first one's, and then three at a time, since that passes over the sum a third as often.
+// The sum of the shards of most members of a group, in place of the first one's: three at a time, since that passes over the sum a third as often.
 // Answers how many members that is.
-fn sum_most(to: &mut [u32], old: &[u32], shifts: &[usize], at: usize) -> usize
-    requires { ⌜ Group (now shifts) (length (now to)) at (length (now old)) ⌝ }
+fn sum_most(words: &mut [u32], shifts: &[usize], at: usize, m: usize) -> usize
+    requires { ⌜ Group (now shifts) m at (length (now words)) ⌝ }
     ensures { λ r. ⌜ (0 < r) × (r ≤ length (now (shifts .entry))) ⌝ }
-    ensures { λ r. ⌜ now (to .exit) ≡ tab (length (now (to .entry))) (partWord (now (old .entry)) (now (shifts .entry)) at r) ⌝ }
+    ensures { λ r. ⌜ now (words .exit) ≡ written (now (words .entry)) at m (partWord (now (words .entry)) (now (shifts .entry)) at r) ⌝ }
 {
-    let m = to.len();
-    let first = at + shifts[0];
-    let last = first + m;
-    strided::copy_run(to, &old[first..last]);
     let mut q: usize = 1;
     while q + 2 < shifts.len() {
         let a = at + shifts[q];
         let b = at + shifts[q + 1];
         let c = at + shifts[q + 2];
-        add_three(to, old, a, b, c);
+        add_three(words, at, a, b, c, m);
         q += 3;
     }
     q
 }
 
-// The sum of the shards of one group.
-fn sum_group(to: &mut [u32], old: &[u32], shifts: &[usize], at: usize)
-    requires { ⌜ Group (now shifts) (length (now to)) at (length (now old)) ⌝ }
-    ensures { λ _. ⌜ now (to .exit) ≡ tab (length (now (to .entry))) (groupWord (now (old .entry)) (now (shifts .entry)) at) ⌝ }
+// The sum of the shards of one group, in place of its first member's.
+fn sum_group(words: &mut [u32], shifts: &[usize], at: usize, m: usize)
+    requires { ⌜ Group (now shifts) m at (length (now words)) ⌝ }
+    ensures { λ _. ⌜ now (words .exit) ≡ written (now (words .entry)) at m (groupWord (now (words .entry)) (now (shifts .entry)) at) ⌝ }
 {
-    let m = to.len();
-    let mut q = sum_most(to, old, shifts, at);
+    let mut q = sum_most(words, shifts, at, m);
     while q < shifts.len() {
-        let from = at + shifts[q];
-        let end = from + m;
-        add_words(to, &old[from..end]);
+        add_one(words, at, at + shifts[q], m);
         q += 1;
     }
 }
 
 // The shard at first once more, at another place.
-fn repeat_shard(new: &mut [u32], first: usize, at: usize, m: usize)
-    requires { ⌜ Repeat first at m (length (now new)) ⌝ }
-    ensures { λ _. ⌜ now (new .exit) ≡ (take at (now (new .entry)) ++ tab m (λ o. getD (now (new .entry)) (first + o) 0)) ++ drop (at + m)
-        (now (new .entry)) ⌝ }
+fn repeat_shard(words: &mut [u32], first: usize, at: usize, m: usize)
+    requires { ⌜ Behind first at m (length (now words)) ⌝ }
+    ensures { λ _. ⌜ now (words .exit) ≡ written (now (words .entry)) at m (λ o. getD (now (words .entry)) (first + o) 0) ⌝ }
 {
     let mut t: usize = 0;
     while t < m {
-        new[at + t] = new[first + t];
+        words[at + t] = words[first + t];
         t += 1;
     }
 }
 
-// The new shard of device d, behind those of the devices before it.
-fn sum_device(new: &mut [u32], old: &[u32], firsts: &[usize], shifts: &[usize], m: usize, d: usize)
-    requires { ⌜ Groups (now firsts) (now shifts) m (length (now old)) (length (now new)) ⌝ }
-    requires { ⌜ d < length (now firsts) ⌝ }
-    requires { ⌜ take (d * m) (now new) ≡ tab (d * m) (reducedWord (now old) (now firsts) (now shifts) m) ⌝ }
-    ensures { λ _. ⌜ now (new .exit) ≡ tab (d * m + m) (reducedWord (now (old .entry)) (now (firsts .entry)) (now (shifts .entry)) m)
-        ++ drop (d * m + m) (now (new .entry)) ⌝ }
+// The shard of a group's first member once more, for each other member.
+fn repeat_group(words: &mut [u32], shifts: &[usize], at: usize, m: usize)
+    requires { ⌜ Group (now shifts) m at (length (now words)) ⌝ }
+    ensures { λ _. ⌜ Shared (now (words .entry)) (now (shifts .entry)) at m (length (now (shifts .entry)))
+        (λ o. getD (now (words .entry)) (at + o) 0) (now (words .exit)) ⌝ }
 {
-    let at = d * m;
-    let end = at + m;
-    let first = firsts[d];
-    if first == at {
-        sum_group(&mut new[at..end], old, shifts, first);
-    } else {
-        repeat_shard(new, first, at, m);
+    let mut q: usize = 1;
+    while q < shifts.len() {
+        repeat_shard(words, at, at + shifts[q], m);
+        q += 1;
     }
 }
 
-// The new shards of all devices.
-fn sum_devices(new: &mut [u32], old: &[u32], firsts: &[usize], shifts: &[usize], m: usize)
-    requires { ⌜ Groups (now firsts) (now shifts) m (length (now old)) (length (now new)) ⌝ }
-    ensures { λ _. ⌜ now (new .exit) ≡ tab (length (now (firsts .entry)) * m) (reducedWord (now (old .entry)) (now (firsts .entry))
-        (now (shifts .entry)) m) ++ drop (length (now (firsts .entry)) * m) (now (new .entry)) ⌝ }
+// One group: each member's shard becomes the sum over the group.
+fn reduce_group(words: &mut [u32], shifts: &[usize], at: usize, m: usize)
+    requires { ⌜ Group (now shifts) m at (length (now words)) ⌝ }
+    ensures { λ _. ⌜ Shared (now (words .entry)) (now (shifts .entry)) at m (length (now (shifts .entry)))
+        (groupWord (now (words .entry)) (now (shifts .entry)) at) (now (words .exit)) ⌝ }
+{
+    sum_group(words, shifts, at, m);
+    repeat_group(words, shifts, at, m);
+}
+
+// All groups, each when the first of its members is met.
+fn reduce_groups(words: &mut [u32], firsts: &[usize], shifts: &[usize], m: usize)
+    requires { ⌜ Groups (now firsts) (now shifts) m (length (now words)) ⌝ }
+    ensures { λ _. ⌜ now (words .exit) ≡ tab (length (now (firsts .entry)) * m) (reducedWord (now (words .entry)) (now (firsts .entry))
+        (now (shifts .entry)) m) ++ drop (length (now (firsts .entry)) * m) (now (words .entry)) ⌝ }
 {
     let mut d: usize = 0;
     while d < firsts.len() {
-        sum_device(new, old, firsts, shifts, m, d);
+        let at = d * m;
+        if firsts[d] == at {
+            reduce_group(words, shifts, at, m);
+        }
         d += 1;
     }
 }
@@ -196,10 +197,9 @@ fn fill_tables(
     members
 }
 
-// The new shards of all devices, by tables that are filled first.
+// All groups, by tables that are filled first.
 fn sum_with(
-    new: &mut [u32],
-    old: &[u32],
+    words: &mut [u32],
     firsts: &mut [usize],
     shifts: &mut [usize],
     zs: &mut [usize],
@@ -208,19 +208,19 @@ fn sum_with(
     m: usize,
 )
     requires { ⌜ Tables (now firsts) (now shifts) (now zs) (now mesh) (axesOf axes) m ⌝ }
-    requires { ⌜ (product (now mesh) * m ≤ length (now old)) × (product (now mesh) * m ≤ length (now new)) ⌝ }
-    ensures { λ _. ⌜ now (new .exit) ≡ tab (product (now (mesh .entry)) * m) (reducedWord (now (old .entry))
+    requires { ⌜ product (now mesh) * m ≤ length (now words) ⌝ }
+    ensures { λ _. ⌜ now (words .exit) ≡ tab (product (now (mesh .entry)) * m) (reducedWord (now (words .entry))
         (firstWords (now (mesh .entry)) (axesOf axes) m) (shiftWords (now (mesh .entry)) (axesOf axes) m) m) ++ drop (product (now (mesh .entry)) * m)
-        (now (new .entry)) ⌝ }
+        (now (words .entry)) ⌝ }
 {
     let members = fill_tables(firsts, shifts, zs, mesh, axes, m);
-    sum_devices(new, old, firsts, &shifts[0..members], m);
+    reduce_groups(words, firsts, &shifts[0..members], m);
 }
 
-// All-reduce: the new state at the front of new, whose other words stay.
-pub fn reduce_into(old: &[u32], new: &mut [u32], mesh: &[u16], shape: &[u16], axes: rules::AxisList)
-    requires { ⌜ Reducing (now mesh) (now shape) (axesOf axes) (length (now old)) (length (now new)) ⌝ }
-    ensures { λ _. ⌜ now (new .exit) ≡ reducedBuffer (now (mesh .entry)) (now (shape .entry)) (axesOf axes) (now (old .entry)) (now (new .entry)) ⌝ }
+// All-reduce: the new state at the front of words, in place of the old one; the other words stay.
+pub fn reduce_in(words: &mut [u32], mesh: &[u16], shape: &[u16], axes: rules::AxisList)
+    requires { ⌜ Reducing (now mesh) (now shape) (axesOf axes) (length (now words)) ⌝ }
+    ensures { λ _. ⌜ now (words .exit) ≡ reducedBuffer (now (mesh .entry)) (now (shape .entry)) (axesOf axes) (now (words .entry)) ⌝ }
 {
     let m = product_from(shape, 0);
     let count = product_from(mesh, 0);
@@ -229,8 +229,7 @@ pub fn reduce_into(old: &[u32], new: &mut [u32], mesh: &[u16], shape: &[u16], ax
     let mut firsts = [0usize; rules::Device::MOST];
     let mut shifts = [0usize; rules::Device::MOST];
     sum_with(
-        new,
-        old,
+        words,
         &mut firsts[0..count],
         &mut shifts,
         &mut zs[0..n],

@@ -1,44 +1,42 @@
 use native.Mathlib.Omega.{arith}
 use Prim.Native.Nat.{ℕ, _≤_, _+_, _-_}
 use mathlib.Core.Path.{_≡_, refl, ap, _∙_}
-use mathlib.Core.List.{_++_}
-use lib.ListN.{length, getD, take, drop, length-set}
+use lib.ListN.{length, getD, length-set}
 use denote.Ref.{now}
-use Rattle.rules.specs.Lists.{tab}
-use Rattle.sums.proofs.Adding.{repeat-start, repeat-step, repeat-read}
+use Rattle.sums.specs.Sums.{written}
+use Rattle.sums.proofs.Writing.{write-start, write-step, read-before}
 use Rattle.sums.proofs.repeat_shard.Statement.{statement}
 use Rattle.sums.proofs.repeat_shard.Tie as tie
 
 abbrev Inv-loop : tie.InvT-loop
-Inv-loop new₀ first at m t₀ new t = (t ≤ m) × (new ≡ (take at new₀ ++ tab t (λ o. getD new₀ (first + o) 0)) ++ drop (at + t) new₀)
-    × (length new ≡ length new₀)
+Inv-loop words₀ first at m t₀ words t = (t ≤ m) × (words ≡ written words₀ at t (λ o. getD words₀ (first + o) 0)) × (length words ≡ length words₀)
 
 abbrev μ-loop : tie.MeasureT-loop
-μ-loop new₀ first at m t₀ new t = m - t
+μ-loop words₀ first at m t₀ words t = m - t
 
 loop-holds : tie.Need-loop-holds Inv-loop μ-loop
-loop-holds c = let s = c .args in (omega arith, repeat-start (now (s .new)) (s .at) (λ o. getD (now (s .new)) (s .first + o) 0), refl)
+loop-holds c = let s = c .args in (omega arith, write-start (now (s .words)) (s .at) (λ o. getD (now (s .words)) (s .first + o) 0), refl)
 
-add-new : tie.Need-add-new Inv-loop μ-loop
-add-new c = omega (arith, c .before .before .pre .before, c .before .before .pre .room, c .before .loop .inv .2)
+add-words : tie.Need-add-words Inv-loop μ-loop
+add-words c = omega arith
 
-mul-new : tie.Need-mul-new Inv-loop μ-loop
-mul-new c = omega (arith, c .before .before .pre .before, c .before .before .pre .room, c .before .loop .inv .2)
+mul-words : tie.Need-mul-words Inv-loop μ-loop
+mul-words c = omega arith
 
-slice-read-new : tie.Need-slice-read-new Inv-loop μ-loop
-slice-read-new c = omega (arith, c .before .before .before .pre .before, c .before .before .before .pre .room, c .before .before .loop .inv .2)
+slice-read-words : tie.Need-slice-read-words Inv-loop μ-loop
+slice-read-words c = omega arith
 
-add-new-2 : tie.Need-add-new-2 Inv-loop μ-loop
-add-new-2 c = omega (arith, c .before .before .before .pre .before, c .before .before .before .pre .room, c .before .before .loop .inv .2)
+add-words-2 : tie.Need-add-words-2 Inv-loop μ-loop
+add-words-2 c = omega arith
 
-mul-new-2 : tie.Need-mul-new-2 Inv-loop μ-loop
-mul-new-2 c = omega (arith, c .before .before .before .pre .before, c .before .before .before .pre .room, c .before .before .loop .inv .2)
+mul-words-2 : tie.Need-mul-words-2 Inv-loop μ-loop
+mul-words-2 c = omega arith
 
-slice-write-new : tie.Need-slice-write-new Inv-loop μ-loop
-slice-write-new c = omega (arith, c .before .before .before .pre .before, c .before .before .before .pre .room, c .before .before .loop .inv .2)
+slice-write-words : tie.Need-slice-write-words Inv-loop μ-loop
+slice-write-words c = omega arith
 
 add-t : tie.Need-add-t Inv-loop μ-loop
-add-t c = omega (arith, c .before .before .before .pre .before, c .before .before .before .pre .room, c .before .before .loop .inv .2)
+add-t c = omega arith
 
 loop-less : tie.Need-loop-less Inv-loop μ-loop
 loop-less c = omega arith
@@ -47,13 +45,14 @@ loop-again : tie.Need-loop-again Inv-loop μ-loop
 loop-again c =
     let l = c .before .before in
     let s = c .before .before .before in
-    let new = now (s .args .new) in
-    let word : ℕ → ℕ = λ o. getD new (s .args .first + o) 0 in
-    let e : getD (l .loop .new) (s .args .first + l .loop .t) 0 ≡ word (l .loop .t) =
-    ap (λ r. getD r (s .args .first + l .loop .t) 0) (l .loop .inv .1)
-    ∙ repeat-read new (s .args .at) (l .loop .t) (s .args .first + l .loop .t) word (omega (arith, s .pre .room)) (omega (arith, s .pre .before)) in (
+    let t = l .loop .t in
+    let w = now (s .args .words) in
+    let word : ℕ → ℕ = λ o. getD w (s .args .first + o) 0 in
+    let e : getD (l .loop .words) (s .args .first + t) 0 ≡ word t =
+    ap (λ r. getD r (s .args .first + t) 0) (l .loop .inv .1)
+    ∙ read-before w (s .args .at) t word (s .args .first + t) (omega (arith, s .pre .inside)) (omega (arith, s .pre .behind)) in (
       omega arith,
-      rw (e, l .loop .inv .1) (repeat-step new (s .args .at) (l .loop .t) word (omega (arith, s .pre .room))),
+      rw (e, l .loop .inv .1) (write-step w (s .args .at) t word (omega (arith, s .pre .inside))),
       rw length-set (l .loop .inv .2),
     )
 
@@ -73,12 +72,12 @@ repeat-shard-spec =
     Inv-loop
     μ-loop
     loop-holds
-    add-new
-    mul-new
-    slice-read-new
-    add-new-2
-    mul-new-2
-    slice-write-new
+    add-words
+    mul-words
+    slice-read-words
+    add-words-2
+    mul-words-2
+    slice-write-words
     add-t
     loop-less
     loop-again

@@ -11,33 +11,33 @@ use Rattle.sums.proofs.sum_with.Tie as tie
 
 -- the place behind the call
 abbrev filled : tie.After-fill-tables → tie.Start
-filled c = c .before .before .before .before .before .before .before .before .before .before
+filled c = c .before .before .before .before .before .before .before .before .before
 
 fill-tables-requires : tie.Need-fill-tables-requires
 fill-tables-requires c κs = search needs
 
-sub-sum-devices : tie.Need-sub-sum-devices
-sub-sum-devices c = search needs
+sub-reduce-groups : tie.Need-sub-reduce-groups
+sub-reduce-groups c = search needs
 
-part-sum-devices-start : tie.Need-part-sum-devices-start
-part-sum-devices-start c = search needs
+part-reduce-groups-start : tie.Need-part-reduce-groups-start
+part-reduce-groups-start c = search needs
 
-part-sum-devices-end : tie.Need-part-sum-devices-end
-part-sum-devices-end c =
+part-reduce-groups-end : tie.Need-part-reduce-groups-end
+part-reduce-groups-end c =
     let f = c .before .before .before .before .before .before .before .before .before in
     let s = filled f in
     let t = s .pre .0 in
     let g = group-few (now (s .args .mesh)) (axesOf (s .args .axes)) (t .devices-pos) (t .once) (t .of-mesh) in
     omega (arith, f .fill-tables .ensures .0, f .fill-tables .kept .1 .0, t .shifts-room, t .devices-few)
 
-sum-devices-requires : tie.Need-sum-devices-requires
-sum-devices-requires c κs =
+reduce-groups-requires : tie.Need-reduce-groups-requires
+reduce-groups-requires c κs =
     let s = filled (c .before .before .before .before .before .before .before .before .before .before) in
     let t = s .pre .0 in
     let r = c .before .before .before .before .before .before .before .before .before .before .fill-tables in
     rw (sub-zero (r .result), r .ensures .1 .0, r .ensures .1 .1)
-    (groups-are (now (s .args .mesh)) (axesOf (s .args .axes)) (s .args .m) (t .devices-pos) (t .once) (length (now (s .args .old)))
-    (length (now (s .args .new))) (s .pre .1 .0) (s .pre .1 .1))
+    (groups-are (now (s .args .mesh)) (axesOf (s .args .axes)) (s .args .m) (t .devices-pos) (t .once) (t .of-mesh) (length (now (s .args .words)))
+    (s .pre .1))
 
 same-length : tie.Need-same-length
 same-length c = search needs
@@ -57,17 +57,17 @@ returns c =
     let t = s .pre .0 in
     let r = c .before .before .before .before .before .before .before .before .before .before .before .before .before .fill-tables in
     let n = firsts-length (now (s .args .mesh)) (axesOf (s .args .axes)) (s .args .m) (t .devices-pos) (t .once) in
-    rw (sub-zero (r .result), r .ensures .1 .0, r .ensures .1 .1, n) at (c .before .before .sum-devices .ensures)
+    rw (sub-zero (r .result), r .ensures .1 .0, r .ensures .1 .1, n) at (c .before .before .reduce-groups .ensures)
 
 pub sum-with-spec : {M : Type 1} → statement M
 sum-with-spec =
     tie.close
     (tie.spec
     fill-tables-requires
-    sub-sum-devices
-    part-sum-devices-start
-    part-sum-devices-end
-    sum-devices-requires
+    sub-reduce-groups
+    part-reduce-groups-start
+    part-reduce-groups-end
+    reduce-groups-requires
     same-length
     same-length-2
     same-length-3
