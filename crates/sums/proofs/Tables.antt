@@ -1,6 +1,6 @@
 -- The tables of a reduction. A device's first place and a member's shift make up the place of that member's shard (`place-is`); so the groups are
 -- as the code asks (`groups-are`), and what it leaves is the reduction of the rules (`reduced-is`). Assumes nothing.
-use Prim.Native.Nat.{ℕ, zero, suc, _+_, _*_, _-_, _/_, _%_, _≤_, _<_}
+use Prim.Native.Nat.{ℕ, zero, suc, _+_, _*_, _/_, _%_, _≤_, _<_}
 use mathlib.Core.Path.{_≡_, refl, sym, ap, ap₂, _∙_, subst}
 use mathlib.Core.Logic.{_⊎_, inl, inr}
 use mathlib.Core.List.{List, [], _∷_, map}

@@ -1,4 +1,3 @@
-use lib.ListN.{length}
 use mathlib.Core.Path.{_∙_}
 use denote.Ref.{now}
 use Rattle.sums.specs.Sums.{groupWord}

@@ -1,18 +1,15 @@
 use native.Mathlib.Omega.{arith}
-use Prim.Native.Nat.{ℕ, _≤_, _+_, _-_}
+use Prim.Native.Nat.{ℕ, _≤_, _-_}
 use mathlib.Core.Path.{_≡_, refl, sym, _∙_}
 use mathlib.Core.List.{List}
-use lib.ListN.{length, getD}
+use lib.ListN.{length}
 use denote.Ref.{now}
 use Rattle.sums.specs.Sums.{written, partWord, groupWord, Group}
 use Rattle.sums.proofs.Adding.{behind-first, add-step}
 use Rattle.sums.proofs.sum_group.Statement.{statement}
 use Rattle.sums.proofs.sum_group.Tie as tie
 
--- word o of the shard at position q
-abbrev word : List ℕ → List ℕ → ℕ → ℕ → ℕ → ℕ
-word words shifts at o q = getD words (at + getD shifts q 0 + o) 0
-
+-- l stands for the words before the first q₀ shards were summed
 abbrev Inv-loop : tie.InvT-loop
 Inv-loop words₀ shifts at m q₀ words q = (1 ≤ q) × (q ≤ length shifts)
     × ((l : List ℕ) → length l ≡ length words₀ → words₀ ≡ written l at m (partWord l shifts at q₀) → words ≡ written l at m (partWord l shifts at q))
@@ -37,13 +34,15 @@ shared-slice-read-add-one c = omega arith
 
 add-add-one : tie.Need-add-add-one Inv-loop μ-loop
 add-add-one c =
-    omega (arith, c .before .before .before .before .before .before .before .before .before .before .pre .inside (c .before .before .before .loop .q) (c .before .before .loop-test .taken))
+    let s = c .before .before .before .before .before .before .before .before .before .before in
+    omega (arith, s .pre .inside (c .before .before .before .loop .q) (c .before .before .loop-test .taken))
 
 add-one-requires : tie.Need-add-one-requires Inv-loop μ-loop
 add-one-requires c κs =
     let s = c .before .before .before .before .before .before .before .before .before .before in
     let l = c .before .before .before in
-    rw (l .loop .inv .3, c .before .before .before .before .before .before .sum-most .kept .0) (behind-first (now (s .args .words)) (s .pre) (l .loop .q) (omega arith) (c .before .before .loop-test .taken))
+    rw (l .loop .inv .3, c .before .before .before .before .before .before .sum-most .kept .0)
+    (behind-first (now (s .args .words)) (s .pre) (l .loop .q) (omega arith) (c .before .before .loop-test .taken))
 
 add-q : tie.Need-add-q Inv-loop μ-loop
 add-q c = omega arith
@@ -56,16 +55,13 @@ loop-again c =
     let s = c .before .before .before .before .before .before .before .before .before .before .before .before .before in
     let l = c .before .before .before .before .before .before in
     let t = c .before .before .before .before .before .loop-test .taken in
-    let q = l .loop .q in
-    let at = s .args .at in
-    let shifts = now (s .args .shifts) in
+    let k = c .before .before .before .before .before .before .before .before .before .sum-most .kept .0 in
     let r = c .before .before .add-one in (
       omega arith,
       omega (arith, t),
       λ x n e.
-          let g : Group shifts (s .args .m) at (length x) = rw (n, c .before .before .before .before .before .before .before .before .before .sum-most .kept .0) (s .pre) in
-          r .ensures ∙ add-step x at (s .args .m) q (word x shifts at) (omega arith) (at + getD shifts q 0) (l .loop .words)
-          (behind-first x g q (omega arith) t) (λ o. refl) (l .loop .inv .2 x n e),
+          let g : Group (now (s .args .shifts)) (s .args .m) (s .args .at) (length x) = rw (n, k) (s .pre) in
+          r .ensures ∙ add-step x g (l .loop .q) (l .loop .words) (omega arith) t (l .loop .inv .2 x n e),
       r .kept .0 ∙ l .loop .inv .3,
     )
 

@@ -1,17 +1,12 @@
 use native.Mathlib.Omega.{arith}
 use Prim.Native.Nat.{ℕ, _≤_, _<_, _+_, _-_}
 use mathlib.Core.Path.{_≡_, refl, _∙_}
-use mathlib.Core.List.{List}
 use lib.ListN.{length, getD}
 use denote.Ref.{now}
 use Rattle.sums.specs.Sums.{written, partWord, Behind}
 use Rattle.sums.proofs.Adding.{behind-first, first-shard, add-three-step}
 use Rattle.sums.proofs.sum_most.Statement.{statement}
 use Rattle.sums.proofs.sum_most.Tie as tie
-
--- word o of the shard at position q
-abbrev word : List ℕ → List ℕ → ℕ → ℕ → ℕ → ℕ
-word words shifts at o q = getD words (at + getD shifts q 0 + o) 0
 
 abbrev Inv-loop : tie.InvT-loop
 Inv-loop words₀ shifts at m q₀ words q = (1 ≤ q) × (q ≤ length shifts) × (words ≡ written words₀ at m (partWord words₀ shifts at q))
@@ -94,17 +89,10 @@ loop-again c =
     let s = c .before .before .before .before .before .before .before .before .before .before .before in
     let l = c .before .before .before .before .before .before .before .before in
     let t = c .before .before .before .before .before .before .before .loop-test .taken in
-    let q = l .loop .q in
-    let at = s .args .at in
-    let w = now (s .args .words) in
-    let shifts = now (s .args .shifts) in
     let r = c .before .before .add-three in (
       omega arith,
       omega (arith, t),
-      r .ensures ∙ add-three-step w at (s .args .m) q (word w shifts at) (omega arith) (at + getD shifts q 0) (at + getD shifts (q + 1) 0)
-          (at + getD shifts (q + 2) 0) (l .loop .words) (other s q (omega arith) (omega (arith, t)))
-          (other s (q + 1) (omega arith) (omega (arith, t))) (other s (q + 2) (omega arith) (omega (arith, t))) (λ o. refl) (λ o. refl) (λ o. refl)
-          (l .loop .inv .2),
+      r .ensures ∙ add-three-step (now (s .args .words)) (s .pre) (l .loop .q) (l .loop .words) (omega arith) t (l .loop .inv .2),
       r .kept .0 ∙ l .loop .inv .3,
     )
 
