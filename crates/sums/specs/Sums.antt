@@ -1,6 +1,6 @@
--- The reduction by whole shards, in one buffer: it keeps the shape, so each shard's sum stands where the shard was. `firsts` has, for each device,
--- where the shard of the first member of its group begins; `shifts` has how far after it the shard of the member at each position begins. Each group
--- is added once, in place of its first member's shard; the others repeat that. Assumes nothing.
+-- The reduction by whole shards, in one buffer: it keeps the shape, so each sum stands where its shard was, and half the memory of two buffers is
+-- touched. `firsts` has, for each device, where the shard of the first member of its group begins; `shifts` has how far after it the shard of the
+-- member at each position begins. Each group is added once, in place of its first member's shard; the others repeat that. Assumes nothing.
 use Prim.Native.Nat.{ℕ, _+_, _*_, _/_, _%_, _≤_, _<_}
 use mathlib.Core.Path.{_≡_}
 use mathlib.Core.Logic.{_⊎_}
@@ -62,7 +62,7 @@ pub record Offsets (digits : List ℕ) (n at : ℕ) : Type 0 where
   pub filled : 0 < n
   pub few : (t : ℕ) → t < n → at + offset digits t ≤ mostRoom
 
--- two shards of m words: the one at a lies behind the one at `at`
+-- two shards of m words within the words: the one at a lies behind the one at `at`
 pub record Behind (at a m words : ℕ) : Type 0 where
   pub behind : at + m ≤ a
   pub inside : a + m ≤ words

@@ -1,8 +1,8 @@
 use native.Mathlib.Omega.{arith}
-use Prim.Native.Nat.{_≤_, _-_}
+use Prim.Native.Nat.{_≤_, _*_, _-_}
 use mathlib.Core.Path.{_≡_, refl, _∙_}
 use mathlib.Core.Logic.{⊎-elim}
-use lib.ListN.{length}
+use lib.ListN.{length, getD}
 use denote.Ref.{now}
 use Rattle.rules.proofs.Fronts.{part-in}
 use Rattle.sums.proofs.Sharing.{Upto, upto-start, upto-group, upto-skip, upto-end}
@@ -38,7 +38,8 @@ reduce-group-requires : tie.Need-reduce-group-requires Inv-loop μ-loop
 reduce-group-requires c κs =
     let s = c .before .before .before .before .before .before .before .before in
     let l = c .before .before .before .before in
-    rw (l .loop .inv .2, ← c .before .if1 .taken) (s .pre .groups (l .loop .d) (c .before .before .before .loop-test .taken))
+    let e : getD (now (s .args .firsts)) (l .loop .d) 0 ≡ l .loop .d * s .args .m = omega (arith, c .before .if1 .taken) in
+    rw (l .loop .inv .2, ← e) (s .pre .groups (l .loop .d) (c .before .before .before .loop-test .taken))
 
 add-d : tie.Need-add-d Inv-loop μ-loop
 add-d c = omega arith
@@ -53,7 +54,8 @@ loop-again c =
     let t = c .before .before .loop-test .taken in
     let w = now (s .args .words) in (
       omega (arith, t),
-      ⊎-elim (λ a. rw (a .5) (upto-group w (s .pre) (l .loop .d) (l .loop .words) (a .2 .last .0) t (a .0 .taken) (l .loop .inv .1) (a .2 .ensures)))
+      ⊎-elim (λ a. rw (a .5) (upto-group w (s .pre) (l .loop .d) (l .loop .words) (a .2 .last .0) t (omega (arith, a .0 .taken)) (l .loop .inv .1)
+          (a .2 .ensures)))
           (λ a. rw (a .1) (upto-skip w (s .pre) (l .loop .d) (l .loop .words) (a .0 .left) (l .loop .inv .1))) (c .if1 .came),
       ⊎-elim (λ a. rw (a .5) (a .2 .kept .0 ∙ l .loop .inv .2)) (λ a. rw (a .1) (l .loop .inv .2)) (c .if1 .came),
     )

@@ -36,7 +36,8 @@ shared-slice-read-a c = omega arith
 
 add-a : tie.Need-add-a Inv-loop μ-loop
 add-a c =
-    omega (arith, c .before .before .before .before .before .pre .inside (c .before .before .loop .q) (omega (arith, c .before .loop-test .taken)))
+    let s = c .before .before .before .before .before in
+    omega (arith, s .pre .inside (c .before .before .loop .q) (omega (arith, c .before .loop-test .taken)))
 
 add-b : tie.Need-add-b Inv-loop μ-loop
 add-b c = omega arith
@@ -49,7 +50,8 @@ shared-slice-read-b c = omega arith
 
 add-b-2 : tie.Need-add-b-2 Inv-loop μ-loop
 add-b-2 c =
-    omega (arith, c .before .before .before .before .before .before .pre .inside (c .before .before .before .loop .q + 1) (omega (arith, c .before .before .loop-test .taken)))
+    let s = c .before .before .before .before .before .before in
+    omega (arith, s .pre .inside (c .before .before .before .loop .q + 1) (omega (arith, c .before .before .loop-test .taken)))
 
 add-c : tie.Need-add-c Inv-loop μ-loop
 add-c c = omega arith
@@ -62,7 +64,8 @@ shared-slice-read-c c = omega arith
 
 add-c-2 : tie.Need-add-c-2 Inv-loop μ-loop
 add-c-2 c =
-    omega (arith, c .before .before .before .before .before .before .before .pre .inside (c .before .before .before .before .loop .q + 2) (omega (arith, c .before .before .before .loop-test .taken)))
+    let s = c .before .before .before .before .before .before .before in
+    omega (arith, s .pre .inside (c .before .before .before .before .loop .q + 2) (omega (arith, c .before .before .before .loop-test .taken)))
 
 add-three-requires : tie.Need-add-three-requires Inv-loop μ-loop
 add-three-requires c κs =
