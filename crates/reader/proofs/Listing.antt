@@ -1,22 +1,26 @@
--- Lists read byte by byte and dimension by dimension. `Reading` holds at each turn of read_list's loop (next-axis keeps it), `Listing` at each turn
--- of read_lists' (begin makes it, next-list keeps it); both give the judgements of the ways out. Last, the starting sharding. Assumes nothing.
+-- One list, read in six places (list-whole), and lists dimension by dimension: `Listing` holds at each turn of read_lists' loop (begin makes it,
+-- next-list keeps it). For each way out, the judgement that it stands for. Last, the starting sharding. Assumes nothing.
 use Prim.Native.Nat.{ℕ, suc, _+_, _-_, _≤_, _<_}
 use mathlib.Core.Bool.{Bool, true, false}
 use mathlib.Core.Path.{_≡_, refl, sym, ap, _∙_}
-use mathlib.Core.List.{List, [], _∷_, _++_, append-nil}
+use mathlib.Core.List.{List, [], _∷_, _++_, map, append-nil}
 use native.Mathlib.Omega.{arith}
 use native.Mathlib.Numerals.{add-one}
 use borrow.Author.Tests.{lt-ltb, le-ltb, le-leb, lt-leb, eq-eqb, ne-eqb, ltb-true, ltb-false}
 use lib.ListN.{length, getD, take, drop, set, length-drop, length-set}
-use lib.Seq.{take-suc, getD-drop, append-snoc, take-suc-set, length-take-le}
+use lib.Seq.{append-snoc, take-at, take-suc-set, length-take-le}
 use lib.Dec.{ltb}
-use Rattle.rules.specs.Lists.{pick}
-use Rattle.rules.specs.Limits.{mostDims}
+use Rattle.rules.specs.Lists.{tab, pick}
+use Rattle.rules.specs.Limits.{mostAxes, mostDims}
 use Rattle.rules.specs.Refusals.{Judged, accept, refuse, _>>=_}
 use Rattle.rules.specs.PlanFile.{Read, listAt, listsAt, shardingAt}
 use Rattle.rules.specs.Types.{axesOf, dimsOf}
+use Rattle.rules.specs.declared.Axis.{Axis}
 use Rattle.rules.specs.declared.AxisList.{AxisList}
 use Rattle.rules.specs.declared.Sharding.{Sharding}
+use Rattle.rules.proofs.Lists.{length-tab}
+use Rattle.rules.proofs.Groups.{tab-add}
+use Rattle.rules.proofs.Fronts.{whole-tab}
 use Rattle.reader.specs.Reading.{byteAt}
 use Rattle.reader.specs.declared.Byte.{Byte}
 use Rattle.reader.specs.declared.Byte.the-variants as byte
@@ -44,13 +48,16 @@ module _ (f : List ℕ) (at : ℕ) {r : Byte} (e : r ≡ byteAt f at) where
 
 -- ---- one list
 
-pub record Reading (f : List ℕ) (at n count : ℕ) (l : AxisList) (i : ℕ) : Type 0 where
-  pub head : ByteIs f at count
-  pub low : count ≤ n
-  pub within : i ≤ count
-  pub room : at + 1 + i ≤ length f
-  pub same : axesOf l ≡ take i (drop (at + 1) f)
-  pub size : length (axesOf l) ≡ i
+-- a list with L's axes in the first of its places, and L's length
+axes-are : (l : AxisList) (L : List ℕ) (most : ℕ) → l .count ≡ length L → length L ≤ most
+    → map (λ (a : Axis). a .0) (l .axes) ≡ tab most (λ i. getD L i 0) → axesOf l ≡ L
+unfolding axesOf
+axes-are l L most ec h ea =
+    let m : ℕ = most - length L in
+    let split : most ≡ length L + m = omega arith in
+    rw (ec, ea, split, tab-add (length L) m (λ i. getD L i 0))
+    (take-at (tab (length L) (λ i. getD L i 0)) (tab m (λ k. getD L (length L + k) 0)) (length L) (length-tab (length L) (λ i. getD L i 0))
+    ∙ sym (whole-tab L))
 
 module _ (n : ℕ) (f : List ℕ) (at : ℕ) where
   pub no-count : length f ≤ at → listAt n f at ≡ refuse 7 0
@@ -61,38 +68,19 @@ module _ (n : ℕ) (f : List ℕ) (at : ℕ) where
   unfolding listAt
   count-above {count} h k = simp (h .is, lt-ltb at (length f) (h .inside), lt-leb count n k)
 
-module _ {f : List ℕ} {at n count : ℕ} {l : AxisList} {i : ℕ} (r : Reading f at n count l i) where
-  pub next-axis : (l' : AxisList) (a : ℕ) → i < count → ByteIs f (at + 1 + i) a → axesOf l' ≡ axesOf l ++ (a ∷ []) → Reading f at n count l' (i + 1)
-  next-axis l' a h b w =
-      let inside : i < length (drop (at + 1) f) = simp length-drop (omega arith) in
-      let longer : axesOf l' ≡ take (i + 1) (drop (at + 1) f) =
-      w ∙ rw (add-one i, take-suc (drop (at + 1) f) i 0 inside, getD-drop (at + 1) f i 0, b .is, r .same) in
-      record {
-        head = r .head;
-        low = r .low;
-        within = omega arith;
-        room = omega arith;
-        same = longer;
-        size = ap length longer ∙ length-take-le (i + 1) (drop (at + 1) f) (omega arith);
-      }
+  module _ {count : ℕ} (h : ByteIs f at count) (low : count ≤ n) where
+    pub axes-missing : length f < at + 1 + count → listAt n f at ≡ refuse 7 0
+    unfolding listAt
+    axes-missing e = simp (h .is, lt-ltb at (length f) (h .inside), le-leb count n low, lt-leb (at + 1 + count) (length f) e)
 
-  pub axis-missing : i < count → length f ≤ at + 1 + i → listAt n f at ≡ refuse 7 0
-  unfolding listAt
-  axis-missing h e =
-      simp (r .head .is, lt-ltb at (length f) (r .head .inside), le-leb count n (r .low), lt-leb (at + 1 + count) (length f) (omega arith))
-
-  pub list-whole : count ≤ i → listAt n f at ≡ accept (record { value = axesOf l; next = at + 1 + count })
-  unfolding listAt
-  list-whole h =
-      let e : i ≡ count = omega (arith, r .within) in
-      let all : axesOf l ≡ take count (drop (at + 1) f) = rw e at (r .same) in
-      simp (
-        r .head .is,
-        lt-ltb at (length f) (r .head .inside),
-        le-leb count n (r .low),
-        le-leb (at + 1 + count) (length f) (omega (arith, r .room)),
-        all,
-      )
+    pub list-whole : at + 1 + count ≤ length f → n ≤ mostAxes → (l : AxisList) → l .count ≡ count
+        → map (λ (a : Axis). a .0) (l .axes) ≡ tab mostAxes (λ i. getD (take count (drop (at + 1) f)) i 0)
+        → listAt n f at ≡ accept (record { value = axesOf l; next = at + 1 + count })
+    unfolding listAt
+    list-whole room most l ec ea =
+        let size : length (take count (drop (at + 1) f)) ≡ count = length-take-le count (drop (at + 1) f) (simp length-drop (omega arith)) in
+        let all : axesOf l ≡ take count (drop (at + 1) f) = axes-are l _ mostAxes (ec ∙ sym size) (omega arith) ea in
+        simp (h .is, lt-ltb at (length f) (h .inside), le-leb count n low, le-leb (at + 1 + count) (length f) room, all)
 
 -- ---- one list per dimension
 

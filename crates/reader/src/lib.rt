@@ -2,8 +2,8 @@
 // What each function answers is a definition of rules/specs/PlanFile.antt; specs/Reading.antt says what the answers stand for.
 ghost use mathlib.Core.Path.{_≡_};
 ghost use mathlib.Core.Bool.{_&&_};
-ghost use Prim.Native.Nat.{ℕ, _≤_, _<_};
-ghost use lib.ListN.{length, getD, take};
+ghost use Prim.Native.Nat.{ℕ, _+_, _≤_, _<_};
+ghost use lib.ListN.{length, getD, take, drop};
 ghost use lib.Dec.{leb};
 ghost use Rattle.rules.specs.Lists.{product};
 ghost use Rattle.rules.specs.Limits.{mostAxes, mostDims, mostWords};
@@ -238,32 +238,50 @@ impl ListRead {
     }
 }
 
+// The axis in one of a list's places, axis 0 past the list: its `count` axes stand in the file from `first` on.
+fn axis_in(file: &[u8], first: usize, count: usize, i: usize) -> Axis
+    requires { ⌜ first + count ≤ length (now file) ⌝ }
+    ensures { λ r. ⌜ r .0 ≡ getD (take count (drop first (now (file .entry)))) i 0 ⌝ }
+{
+    if i < count {
+        Axis(file[first + i])
+    } else {
+        Axis(0)
+    }
+}
+
 // "A list is a count byte and that many axis bytes."
+// The axes are put in place all at once: a list stored byte by byte and then handed on as a whole makes the processor wait.
 pub fn read_list(file: &[u8], at: usize, n: usize) -> ListRead
     requires { ⌜ n ≤ mostAxes ⌝ }
     ensures { λ r. ⌜ listRead r ≡ listAt n (now (file .entry)) at ⌝ }
 {
-    let first = byte_at(file, at);
-    let Byte::Is(byte) = first else {
+    let counted = byte_at(file, at);
+    let Byte::Is(byte) = counted else {
         return ListRead::refused_for(Reason::SectionPastEnd);
     };
     let count = byte as usize;
     if n < count {
         return ListRead::refused_for(Reason::ListTooLong);
     }
-    let mut list = AxisList::empty();
-    let mut i: usize = 0;
-    while i < count {
-        let read = byte_at(file, at + 1 + i);
-        let Byte::Is(axis) = read else {
-            return ListRead::refused_for(Reason::SectionPastEnd);
-        };
-        list = list.with(Axis(axis));
-        i += 1;
+    let first = at + 1;
+    if file.len() - first < count {
+        return ListRead::refused_for(Reason::SectionPastEnd);
     }
+    let axes = [
+        axis_in(file, first, count, 0),
+        axis_in(file, first, count, 1),
+        axis_in(file, first, count, 2),
+        axis_in(file, first, count, 3),
+        axis_in(file, first, count, 4),
+        axis_in(file, first, count, 5),
+    ];
     ListRead {
-        next: Next::At(at + 1 + count),
-        list,
+        next: Next::At(first + count),
+        list: AxisList {
+            count: count as u16,
+            axes,
+        },
     }
 }
 

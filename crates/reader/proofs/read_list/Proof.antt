@@ -1,139 +1,132 @@
-use Prim.Native.Nat.{_+_, _-_}
+use Prim.Native.Nat.{_+_, _≤_}
 use borrow.Author.Needs.{needs}
-use mathlib.Core.Path.{sym, ap, _∙_}
+use mathlib.Core.Path.{refl, sym, _∙_}
 use native.Mathlib.Omega.{arith}
 use lib.ListN.{length}
 use denote.Ref.{now}
-use Rattle.reader.proofs.Listing.{ByteIs, byte-is, byte-end, Reading, no-count, count-above, next-axis, axis-missing, list-whole}
+use Rattle.reader.proofs.Listing.{ByteIs, byte-is, byte-end, no-count, count-above, axes-missing, list-whole}
 use Rattle.reader.proofs.read_list.Statement.{statement}
 use Rattle.reader.proofs.read_list.Tie as tie
 
-abbrev Inv-loop : tie.InvT-loop
-Inv-loop file at n byte count list₀ i₀ list i = Reading file at n count list i
-
-abbrev μ-loop : tie.MeasureT-loop
-μ-loop file at n byte count list₀ i₀ list i = count - i
-
 -- the count byte
-first-is : (c : tie.After-first Inv-loop μ-loop)
+count-is : (c : tie.After-counted)
     → let a = c .before .before .before .before .args in
-    ByteIs (now (a .file)) (a .at) (c .first .given .0 .0)
-first-is c = byte-is _ _ (c .before .before .byte-at .ensures) (c .first .given .1)
+    ByteIs (now (a .file)) (a .at) (c .counted .given .0 .0)
+count-is c = byte-is _ _ (c .before .before .byte-at .ensures) (c .counted .given .1)
 
-byte-at-requires : tie.Need-byte-at-requires Inv-loop μ-loop
+-- the axis bytes are there
+room : (c : tie.Else2)
+    → let k = c .before .before .before in
+    let a = k .before .before .before .before .args in
+    a .at + 1 + k .counted .given .0 .0 ≤ length (now (a .file))
+room c = let h = count-is (c .before .before .before) in omega (arith, c .if2 .left)
+
+byte-at-requires : tie.Need-byte-at-requires
 byte-at-requires c κs = search needs
 
-enum-known-first : tie.Need-enum-known-first Inv-loop μ-loop
-enum-known-first c = search needs
+enum-known-counted : tie.Need-enum-known-counted
+enum-known-counted c = search needs
 
-enum-told : tie.Need-enum-told Inv-loop μ-loop
+enum-told : tie.Need-enum-told
 enum-told c = search needs
 
-refused-for-requires : tie.Need-refused-for-requires Inv-loop μ-loop
+refused-for-requires : tie.Need-refused-for-requires
 refused-for-requires c κs = search needs
 
-returns : tie.Need-returns Inv-loop μ-loop
+returns : tie.Need-returns
 returns c =
     let a = c .before .before .before .before .before .args in
     let end = byte-end (now (a .file)) (a .at) (c .before .before .before .byte-at .ensures) (c .before .enum-told .given .1) in
     c .refused-for .ensures ∙ sym (no-count (a .n) (now (a .file)) (a .at) end)
 
-cast-count : tie.Need-cast-count Inv-loop μ-loop
+cast-count : tie.Need-cast-count
 cast-count c = search needs
 
-refused-for-requires-2 : tie.Need-refused-for-requires-2 Inv-loop μ-loop
+refused-for-requires-2 : tie.Need-refused-for-requires-2
 refused-for-requires-2 c κs = search needs
 
-returns-2 : tie.Need-returns-2 Inv-loop μ-loop
+returns-2 : tie.Need-returns-2
 returns-2 c =
-    c .refused-for2 .ensures ∙ sym (count-above _ _ _ (first-is (c .before .before .before)) (c .before .if1 .taken))
+    c .refused-for2 .ensures ∙ sym (count-above _ _ _ (count-is (c .before .before .before)) (c .before .if1 .taken))
 
-empty-requires : tie.Need-empty-requires Inv-loop μ-loop
-empty-requires c κs = search needs
+add-first : tie.Need-add-first
+add-first c = let h = count-is (c .before .before) in omega arith
 
-loop-holds : tie.Need-loop-holds Inv-loop μ-loop
-loop-holds c =
-    let h = first-is (c .before .before .before) in
-    let none = c .empty .ensures in
-    record { head = h; low = c .before .if1 .left; within = omega arith; room = omega arith; same = none; size = ap length none }
+sub-if2 : tie.Need-sub-if2
+sub-if2 c = let h = count-is (c .before .before) in omega arith
 
-add-byte-at : tie.Need-add-byte-at Inv-loop μ-loop
-add-byte-at c = omega arith
-
-add-byte-at-2 : tie.Need-add-byte-at-2 Inv-loop μ-loop
-add-byte-at-2 c = omega arith
-
-byte-at-requires-2 : tie.Need-byte-at-requires-2 Inv-loop μ-loop
-byte-at-requires-2 c κs = search needs
-
-enum-known-read : tie.Need-enum-known-read Inv-loop μ-loop
-enum-known-read c = search needs
-
-enum-told-2 : tie.Need-enum-told-2 Inv-loop μ-loop
-enum-told-2 c = search needs
-
-refused-for-requires-3 : tie.Need-refused-for-requires-3 Inv-loop μ-loop
+refused-for-requires-3 : tie.Need-refused-for-requires-3
 refused-for-requires-3 c κs = search needs
 
-returns-3 : tie.Need-returns-3 Inv-loop μ-loop
+returns-3 : tie.Need-returns-3
 returns-3 c =
-    let p = c .before .before .before in
-    let a = p .before .before .before .before .before .before .before .before .before .before .args in
-    let place = a .at + 1 + p .before .before .loop .i in
-    let missing = byte-end (now (a .file)) place (p .byte-at2 .ensures) (c .before .enum-told2 .given .1) in
-    c .refused-for3 .ensures ∙ sym (axis-missing (p .before .before .loop .inv) (p .before .loop-test .taken) missing)
+    let h = count-is (c .before .before .before .before) in
+    c .refused-for3 .ensures ∙ sym (axes-missing _ _ _ h (c .before .before .if1 .left) (omega (arith, c .before .if2 .taken)))
 
-with-requires : tie.Need-with-requires Inv-loop μ-loop
-with-requires c κs = omega arith
+axis-in-requires : tie.Need-axis-in-requires
+axis-in-requires c κs = room c
 
-add-i : tie.Need-add-i Inv-loop μ-loop
-add-i c = omega arith
+axis-in-requires-2 : tie.Need-axis-in-requires-2
+axis-in-requires-2 c κs = room (c .before)
 
-loop-less : tie.Need-loop-less Inv-loop μ-loop
-loop-less c = omega arith
+axis-in-requires-3 : tie.Need-axis-in-requires-3
+axis-in-requires-3 c κs = room (c .before .before)
 
-loop-again : tie.Need-loop-again Inv-loop μ-loop
-loop-again c =
-    let p = c .before .before .before .before in
-    let axis = byte-is _ _ (p .byte-at2 .ensures) (c .before .before .read .given .1) in
-    next-axis (p .before .before .loop .inv) (c .with .result) _ (p .before .loop-test .taken) axis (c .with .ensures)
+axis-in-requires-4 : tie.Need-axis-in-requires-4
+axis-in-requires-4 c κs = room (c .before .before .before)
 
-add-t19 : tie.Need-add-t19 Inv-loop μ-loop
-add-t19 c = omega arith
+axis-in-requires-5 : tie.Need-axis-in-requires-5
+axis-in-requires-5 c κs = room (c .before .before .before .before)
 
-add-t20 : tie.Need-add-t20 Inv-loop μ-loop
-add-t20 c = omega arith
+axis-in-requires-6 : tie.Need-axis-in-requires-6
+axis-in-requires-6 c κs = room (c .before .before .before .before .before)
 
-returns-4 : tie.Need-returns-4 Inv-loop μ-loop
-returns-4 c = sym (list-whole (c .before .loop .inv) (c .loop-test .left))
+add-t12 : tie.Need-add-t12
+add-t12 c =
+    let e = c .before .before .before .before .before .before in
+    let s = e .before .before .before .before .before .before .before in
+    let h = room e in
+    omega arith
+
+cast-t22 : tie.Need-cast-t22
+cast-t22 c = search needs
+
+returns-4 : tie.Need-returns-4
+returns-4 c =
+    let e = c .before .before .before .before .before .before in
+    let s = e .before .before .before .before .before .before .before in
+    sym (list-whole _ _ _ (count-is (e .before .before .before)) (e .before .if1 .left) (room e) (s .pre) _ refl
+    (simp (
+      c .before .before .before .before .before .axis-in .ensures,
+      c .before .before .before .before .axis-in2 .ensures,
+      c .before .before .before .axis-in3 .ensures,
+      c .before .before .axis-in4 .ensures,
+      c .before .axis-in5 .ensures,
+      c .axis-in6 .ensures,
+    )))
 
 pub read-list-spec : {M : Type 1} → statement M
 read-list-spec =
     tie.close
     (tie.spec
-    Inv-loop
-    μ-loop
     byte-at-requires
-    enum-known-first
+    enum-known-counted
     enum-told
     refused-for-requires
     returns
     cast-count
     refused-for-requires-2
     returns-2
-    empty-requires
-    loop-holds
-    add-byte-at
-    add-byte-at-2
-    byte-at-requires-2
-    enum-known-read
-    enum-told-2
+    add-first
+    sub-if2
     refused-for-requires-3
     returns-3
-    with-requires
-    add-i
-    loop-less
-    loop-again
-    add-t19
-    add-t20
+    axis-in-requires
+    axis-in-requires-2
+    axis-in-requires-3
+    axis-in-requires-4
+    axis-in-requires-5
+    axis-in-requires-6
+    add-t12
+    cast-t22
     returns-4)
