@@ -309,7 +309,9 @@ pub fn read_lists(file: &[u8], at: usize, n: usize, rank: usize) -> ShardingRead
     requires { ⌜ (n ≤ mostAxes) × (rank ≤ mostDims) ⌝ }
     ensures { λ r. ⌜ listsRead rank r ≡ listsAt n rank (now (file .entry)) at ⌝ }
 {
-    let mut sharding = Sharding::replicated();
+    let none = Sharding::replicated();
+    let mut dims = none.dims;
+    let unreduced = none.unreduced;
     let mut place = at;
     let mut d: usize = 0;
     while d < rank {
@@ -319,13 +321,13 @@ pub fn read_lists(file: &[u8], at: usize, n: usize, rank: usize) -> ShardingRead
             return ShardingRead::refused(next.refusal());
         };
         let list = one.list;
-        sharding = sharding.with_list(Dim(d as u8), list);
+        dims[d] = list;
         place = end;
         d += 1;
     }
     ShardingRead {
         next: Next::At(place),
-        sharding,
+        sharding: Sharding { dims, unreduced },
     }
 }
 

@@ -1,25 +1,28 @@
 use Prim.Native.Nat.{_-_}
 use borrow.Author.Needs.{needs}
 use mathlib.Core.Path.{sym, ap, _∙_}
+use mathlib.Core.List.{map}
 use native.Mathlib.Omega.{arith}
 use lib.ListN.{length}
-use Rattle.rules.specs.Types.{axesOf}
+use Rattle.rules.specs.Types.{axesOf, dimsOf}
+use Rattle.rules.proofs.Types.{map-set}
 use Rattle.reader.proofs.Answers.{read-on, read-stopped}
 use Rattle.reader.proofs.Listing.{Listing, begin, next-list, list-refused, lists-whole}
 use Rattle.reader.proofs.read_lists.Statement.{statement}
 use Rattle.reader.proofs.read_lists.Tie as tie
 
 abbrev Inv-loop : tie.InvT-loop
-Inv-loop file at n rank sharding₀ place₀ d₀ sharding place d = Listing file at n rank sharding place d
+Inv-loop file at n rank dims₀ unreduced place₀ d₀ dims place d = Listing file at n rank (map axesOf dims) place d
 
 abbrev μ-loop : tie.MeasureT-loop
-μ-loop file at n rank sharding₀ place₀ d₀ sharding place d = rank - d
+μ-loop file at n rank dims₀ unreduced place₀ d₀ dims place d = rank - d
 
 replicated-requires : tie.Need-replicated-requires Inv-loop μ-loop
 replicated-requires c κs = search needs
 
 loop-holds : tie.Need-loop-holds Inv-loop μ-loop
-loop-holds c = begin _ _ _ _ _ (omega arith) (ap length (c .replicated .ensures .0))
+unfolding dimsOf
+loop-holds c = begin _ _ _ _ _ (omega arith) (ap length (c .before .before .replicated .ensures .0))
 
 read-list-requires : tie.Need-read-list-requires Inv-loop μ-loop
 read-list-requires c κs = omega arith
@@ -42,13 +45,13 @@ returns c =
     let r = p .read-list in
     let stopped = read-stopped (axesOf (r .result .list)) (r .ensures) (c .before .before .enum-told .given .1) (c .before .refusal .ensures) in
     let judged = list-refused (p .before .before .loop .inv) (p .before .loop-test .taken) _ _ stopped in
-    c .refused .ensures (p .before .before .before .before .before .args .rank) .0 ∙ sym judged
+    c .refused .ensures (p .before .before .before .before .before .before .before .args .rank) .0 ∙ sym judged
 
-cast-t14 : tie.Need-cast-t14 Inv-loop μ-loop
-cast-t14 c = omega arith
+mul-dims : tie.Need-mul-dims Inv-loop μ-loop
+mul-dims c = search needs
 
-with-list-requires : tie.Need-with-list-requires Inv-loop μ-loop
-with-list-requires c κs = omega arith
+array-set-from-dims : tie.Need-array-set-from-dims Inv-loop μ-loop
+array-set-from-dims c = omega arith
 
 add-d : tie.Need-add-d Inv-loop μ-loop
 add-d c = omega arith
@@ -58,12 +61,14 @@ loop-less c = omega arith
 
 loop-again : tie.Need-loop-again Inv-loop μ-loop
 loop-again c =
-    let p = c .before .before .before .before .before in
+    let p = c .before .before .before .before in
     let r = p .read-list in
-    let one = read-on (axesOf (r .result .list)) (r .ensures) (c .before .before .before .next .given .1) in
-    next-list (p .before .before .loop .inv) (p .before .loop-test .taken) (c .with-list .result) _ _ one (c .with-list .ensures .0)
+    let l = p .before .before .loop in
+    let one = read-on (axesOf (r .result .list)) (r .ensures) (c .before .before .next .given .1) in
+    rw (map-set axesOf (l .dims) (l .d) (r .result .list)) (next-list (l .inv) (p .before .loop-test .taken) _ _ one)
 
 returns-2 : tie.Need-returns-2 Inv-loop μ-loop
+unfolding dimsOf
 returns-2 c = sym (lists-whole (c .before .loop .inv) (c .loop-test .left))
 
 pub read-lists-spec : {M : Type 1} → statement M
@@ -80,8 +85,8 @@ read-lists-spec =
     refusal-requires
     refused-requires
     returns
-    cast-t14
-    with-list-requires
+    mul-dims
+    array-set-from-dims
     add-d
     loop-less
     loop-again
