@@ -1,21 +1,20 @@
 -- The steps of an accepted plan in turn: the next one is read again as it was judged (`next-step`), it is what one step asks for (`stepping`), and
 -- the buffer after it begins with the next state (`state-next`). Assumes nothing.
-use Prim.Native.Nat.{ℕ, zero, suc, _+_, _-_, _*_, _≤_, _<_}
+use Prim.Native.Nat.{ℕ, suc, _+_, _-_, _*_, _≤_, _<_}
 use mathlib.Core.Path.{_≡_, refl, sym, ap, _∙_, subst}
-use mathlib.Core.List.{List, [], _∷_, _++_}
-use native.Mathlib.Numerals.{add-one}
+use mathlib.Core.List.{List, _∷_, _++_}
 use native.Mathlib.Omega.{arith}
-use lib.ListN.{length, take, drop, replicate, take-append-drop, replicate-append-replicate}
-use lib.Seq.{take-at, take-length, drop-drop}
-use Rattle.rules.specs.Lists.{tab, product, Below}
+use lib.ListN.{length, take, drop, take-append-drop}
+use lib.Seq.{take-at, drop-drop}
+use Rattle.rules.specs.Lists.{product, Below}
 use Rattle.rules.specs.Mesh.{devices}
-use Rattle.rules.specs.Sharding.{Sharding, shardSizes}
+use Rattle.rules.specs.Sharding.{Sharding}
 use Rattle.rules.specs.Spread.{StateOf, tabulate, held, addWords}
 use Rattle.rules.specs.Collectives.{Step, after, shapeAfter, sources, made, Shards, stepped}
-use Rattle.rules.specs.Refusals.{accept, _>>=_}
+use Rattle.rules.specs.Refusals.{accept}
 use Rattle.rules.specs.PlanFile.{Read, stepAt, judgeStep, stepsAt, Plan, judge, announced, announcedShape, room}
-use Rattle.rules.specs.Calls.{shardsAfter, lastState}
-use Rattle.rules.proofs.Buffers.{length-tabulate, held-tabulate, tabulate-held, tabulate-same}
+use Rattle.rules.specs.Calls.{shardsAfter}
+use Rattle.rules.proofs.Buffers.{length-tabulate, held-tabulate, tabulate-same}
 use Rattle.rules.proofs.Sources.{step-local}
 use Rattle.rules.proofs.Judging.{accept-inj, bind-inv}
 use Rattle.rules.proofs.Steps.{facts}
@@ -23,14 +22,9 @@ use Rattle.rules.proofs.Accepted.{AcceptedPlan, accepted}
 use Rattle.rules.proofs.Room.{state}
 use Rattle.rules.proofs.Whole.{whole-plan}
 use Rattle.rules.proofs.Locality.{in-turn-next, next-shape, next-ready}
-use Rattle.plan.specs.Parts.{Move, takeStep}
+use Rattle.plan.specs.Parts.{takeStep}
 use Rattle.step.specs.Stepping.{Stepping, steppedBuffer}
 use Rattle.run.specs.Turns.{ReadsOn}
-
--- one word, so many times
-pub tab-same : {A : Type 0} (n : ℕ) (a : A) → tab n (λ k. a) ≡ replicate n a
-tab-same zero a = refl
-tab-same (suc n) a = ap (λ (l : List _). l ++ a ∷ []) (tab-same n a) ∙ replicate-append-replicate n 1 a ∙ ap (λ (k : ℕ). replicate k a) (add-one n)
 
 -- ---- the next step
 

@@ -1,21 +1,23 @@
 -- What the parts of the run (src/lib.rt) ask for and leave. Assumes nothing.
 use Prim.Native.Nat.{ℕ, _+_, _-_, _≤_, _<_}
 use mathlib.Core.Path.{_≡_}
+use mathlib.Core.Bool.{Bool, not}
 use mathlib.Core.List.{List}
 use lib.ListN.{length, take, drop}
-use Rattle.rules.specs.Lists.{product}
+use Rattle.rules.specs.Lists.{pick, product}
 use Rattle.rules.specs.Sharding.{shardSizes}
 use Rattle.rules.specs.Refusals.{accept}
 use Rattle.rules.specs.PlanFile.{stepsAt, Plan, judge, announced, room}
 use Rattle.rules.specs.Calls.{lastState}
 use Rattle.rules.specs.Types.{dimsOf, shardingOf, stepOf}
+use Rattle.rules.specs.declared.Kind.{Kind}
 use Rattle.rules.specs.declared.Sharding as code
 use Rattle.axes.specs.Mesh.{meshOf}
 use Rattle.dims.specs.Dims.{sizesOf}
 use Rattle.plan.specs.Parts.{Holds, takeStep, takenRead}
 use Rattle.plan.specs.declared.Taken.{Taken}
 use Rattle.plan.specs.declared.Whole.{Whole}
-use Rattle.step.specs.Stepping.{steppedBuffer}
+use Rattle.step.specs.Stepping.{steppedBuffer, inPlace}
 
 -- a plan that passed, its steps from `at` on, and buffers with room for it
 pub record Runs (file : List ℕ) (at : ℕ) (w : Whole) (work spare : ℕ) : Type 0 where
@@ -45,13 +47,17 @@ abbrev pub Takes : List ℕ → (at number : ℕ) → Whole → code.Sharding �
 Takes file at number w s r =
     takenRead (w .table .rank) r ≡ takeStep (meshOf (w .mesh)) (sizesOf (w .table)) number file at (shardingOf (w .table .rank) s)
 
--- a state's shard sizes, and what the step that was taken leaves of the old buffer in the new one
+-- a state's shard sizes, and what the step that was taken leaves of the state in old: new is the buffer in which the next one stands
 abbrev pub shapeOf : Whole → code.Sharding → List ℕ
 shapeOf w s = shardSizes (meshOf (w .mesh)) (sizesOf (w .table)) (take (w .table .rank) (dimsOf s))
 
 abbrev pub nextBuffer : Whole → code.Sharding → Taken → (old new : List ℕ) → List ℕ
 nextBuffer w s r old new =
     steppedBuffer (meshOf (w .mesh)) (shapeOf w s) (stepOf (w .table .rank) (r .step)) (product (shapeOf w (r .sharding))) old new
+
+-- whether the state stands in work after a step: one that is not done in place leaves it in the other buffer
+abbrev pub standsAfter : Kind → Bool → Bool
+standsAfter kind in-work = pick (inPlace kind) in-work (not in-work)
 
 -- the buffer begins with the state that the plan's last step leaves, from the words given
 abbrev pub BeginsWithLast : (file given buffer : List ℕ) → Type 0

@@ -7,7 +7,8 @@ ghost use lib.ListN.{length, take, replicate};
 ghost use Rattle.rules.specs.Lists.{pick, product};
 ghost use Rattle.rules.specs.Limits.{mostDevices, mostWords};
 ghost use Rattle.plan.specs.Parts.{Bounded, answerOf};
-ghost use Rattle.run.specs.Turns.{Runs, Turn, Takes, nextBuffer, BeginsWithLast};
+ghost use Rattle.step.specs.Stepping.{inPlace};
+ghost use Rattle.run.specs.Turns.{Runs, Turn, Takes, nextBuffer, standsAfter, BeginsWithLast};
 ghost use Rattle.run.specs.Promise.{RunPromise};
 use dims::shard_of;
 use dims::words;
@@ -16,12 +17,13 @@ use plan::Whole;
 use plan::judge_file;
 use plan::take_step;
 use reader::Next;
+use rules::Kind;
 use rules::Reason;
 use rules::Refusal;
 use rules::RunOutcome;
 use rules::Sharding;
-use step::step_into;
-use strided::copy_run;
+use step::in_place;
+use step::step_from;
 
 // Zeros.
 fn clear(words: &mut [u32])
@@ -34,19 +36,36 @@ fn clear(words: &mut [u32])
     }
 }
 
-// Step k, read again and done: from the state in old, the next one at the front of new, whose other words stay.
+// Words of spare that are taken to work, with zeros left behind, so that spare is passed over once.
+fn take_home(work: &mut [u32], spare: &mut [u32])
+    requires { ⌜ length (now work) ≡ length (now spare) ⌝ }
+    ensures { λ _. ⌜ now (work .exit) ≡ now (spare .entry) ⌝ }
+    ensures { λ _. ⌜ now (spare .exit) ≡ replicate (length (now (spare .entry))) 0 ⌝ }
+{
+    let mut t: usize = 0;
+    while t < work.len() {
+        let word = spare[t];
+        work[t] = word;
+        spare[t] = 0;
+        t += 1;
+    }
+}
+
+// Step k, read again and done: from the state in here, the next one at the front of here where the step is done in place, else at that of there. The
+// other words of that buffer stay.
 fn do_step(
     file: &[u8],
     at: usize,
     k: u16,
     whole: Whole,
     sharding: Sharding,
-    old: &[u32],
-    new: &mut [u32],
+    here: &mut [u32],
+    there: &mut [u32],
 ) -> Taken
-    requires { ⌜ Turn (now file) at k whole sharding (length (now old)) (length (now new)) ⌝ }
+    requires { ⌜ Turn (now file) at k whole sharding (length (now here)) (length (now there)) ⌝ }
     ensures { λ r. ⌜ Takes (now (file .entry)) at k whole sharding r ⌝ }
-    ensures { λ r. ⌜ now (new .exit) ≡ nextBuffer whole sharding r (now (old .entry)) (now (new .entry)) ⌝ }
+    ensures { λ r. ⌜ pick (inPlace (r .step .kind)) (now (here .exit)) (now (there .exit)) ≡ nextBuffer whole sharding r (now (here .entry))
+        (pick (inPlace (r .step .kind)) (now (here .entry)) (now (there .entry))) ⌝ }
 {
     let mesh = whole.mesh;
     let table = whole.table;
@@ -58,11 +77,18 @@ fn do_step(
     let axes = mesh.sizes;
     let rank = before.rank;
     let shape = before.sizes;
-    step_into(old, new, &axes[..n], &shape[..rank], taken.step, size);
+    step_from(here, there, &axes[..n], &shape[..rank], taken.step, size);
     taken
 }
 
-// Step k between the two buffers: from work to spare, or back.
+// Whether the state stands in work after a step: one that moves words leaves it in the other buffer.
+fn stands_after(kind: Kind, in_work: bool) -> bool
+    ensures { λ r. ⌜ r ≡ standsAfter kind in_work ⌝ }
+{
+    if in_place(kind) { in_work } else { !in_work }
+}
+
+// Step k between the two buffers: from the one in which the state stands.
 fn do_turn(
     file: &[u8],
     at: usize,
@@ -75,8 +101,9 @@ fn do_turn(
 ) -> Taken
     requires { ⌜ Turn (now file) at k whole sharding (length (now work)) (length (now spare)) ⌝ }
     ensures { λ r. ⌜ Takes (now (file .entry)) at k whole sharding r ⌝ }
-    ensures { λ r. ⌜ pick in_work (now (spare .exit)) (now (work .exit)) ≡ nextBuffer whole sharding r
-        (pick in_work (now (work .entry)) (now (spare .entry))) (pick in_work (now (spare .entry)) (now (work .entry))) ⌝ }
+    ensures { λ r. ⌜ pick (standsAfter (r .step .kind) in_work) (now (work .exit)) (now (spare .exit)) ≡ nextBuffer whole sharding r
+        (pick in_work (now (work .entry)) (now (spare .entry)))
+        (pick (standsAfter (r .step .kind) in_work) (now (work .entry)) (now (spare .entry))) ⌝ }
 {
     if in_work {
         do_step(file, at, k, whole, sharding, work, spare)
@@ -102,23 +129,28 @@ fn run_steps(file: &[u8], at: usize, whole: Whole, work: &mut [u32], spare: &mut
         let Next::At(end) = next else {
             return in_work;
         };
+        let step = taken.step;
+        let kind = step.kind;
         sharding = taken.sharding;
         place = end;
-        in_work = !in_work;
+        in_work = stands_after(kind, in_work);
         k += 1;
     }
     in_work
 }
 
-// The last state, of so many words, at the front of work, whichever buffer it stands in.
-fn bring_home(in_work: bool, last: usize, work: &mut [u32], spare: &[u32])
+// The last state, of so many words, at the front of work, whichever buffer it stands in; and 0 in all of spare.
+fn bring_home(in_work: bool, last: usize, work: &mut [u32], spare: &mut [u32])
     requires { ⌜ (last ≤ length (now work)) × (last ≤ length (now spare)) ⌝ }
     ensures { λ _. ⌜ take last (now (work .exit)) ≡ take last (pick in_work (now (work .entry)) (now (spare .entry))) ⌝ }
+    ensures { λ _. ⌜ now (spare .exit) ≡ replicate (length (now (spare .entry))) 0 ⌝ }
 {
     if in_work {
+        clear(spare);
         return;
     }
-    copy_run(&mut work[..last], &spare[..last]);
+    take_home(&mut work[0..last], &mut spare[0..last]);
+    clear(&mut spare[last..]);
 }
 
 // The words of the last state.
@@ -156,6 +188,5 @@ pub fn run(file: &[u8], work: &mut [u32], spare: &mut [u32]) -> RunOutcome
     let last = last_words(whole);
     bring_home(in_work, last, work, spare);
     clear(&mut work[last..]);
-    clear(spare);
     RunOutcome::Finished
 }

@@ -1,11 +1,14 @@
 -- What the kernels ask for follows from an accepted step, and what they leave is what the rules make. Assumes nothing.
-use Prim.Native.Nat.{ℕ, _*_, _≤_}
-use mathlib.Core.Path.{_≡_, refl, sym, ap, _∙_, subst}
+use Prim.Native.Nat.{ℕ, _*_, _-_, _≤_}
+use mathlib.Core.Path.{_≡_, refl, sym, ap, ap₂, _∙_, subst, transport}
+use mathlib.Core.Bool.{Bool, true, false}
 use mathlib.Core.List.{List, [], _∷_, _++_}
 use native.Mathlib.Omega.{arith}
-use native.Mathlib.Nat.{le-trans}
+use native.Mathlib.Nat.{le-trans, sub-zero}
+use borrow.Rule.Slice.PartMut.{putMid}
 use lib.ListN.{length, take, drop, set, replicate}
-use Rattle.rules.specs.Lists.{product}
+use lib.Seq.{take-at}
+use Rattle.rules.specs.Lists.{pick, product}
 use Rattle.rules.specs.Mesh.{devices}
 use Rattle.rules.specs.Sharding.{Sharding}
 use Rattle.rules.specs.Spread.{tabulate, held, addWords}
@@ -17,13 +20,14 @@ use Rattle.rules.specs.declared.Kind.the-variants.{AllToAll}
 use Rattle.rules.specs.declared.Sharding as code
 use Rattle.rules.specs.declared.Step as code-step
 use Rattle.rules.proofs.Lists.{take-replicate}
+use Rattle.rules.proofs.Buffers.{length-tabulate}
 use Rattle.rules.proofs.Shapes.{cut-lengths}
 use Rattle.rules.proofs.Steps.{AcceptedStep, facts, sharding-cut, shape-length}
 use Rattle.judge.proofs.Steps.{only-at}
 use Rattle.rules.proofs.Moves as bridge
 use Rattle.moves.specs.Moves.{Moving, movedShape, movedBuffer, lists}
 use Rattle.sums.specs.Sums.{Reducing, reducedBuffer}
-use Rattle.step.specs.Stepping.{Stepping, steppedBuffer}
+use Rattle.step.specs.Stepping.{Stepping, steppedBuffer, inPlace}
 
 one-word : (a : ℕ) → addWords (a ∷ []) ≡ a
 unfolding addWords
@@ -90,6 +94,14 @@ module _ {mesh shape : List ℕ} (step : code-step.Step) {words old new : ℕ} (
     of : Stepping mesh shape (ofKind k (length shape) step) words old new
     of = subst (λ (x : Kind). Stepping mesh shape (ofKind x (length shape) step) words old new) e h
 
+    -- the new state stands where its kind says
+    stands : {b : Bool} → b ≡ inPlace k → (olds news here there : List ℕ)
+        → pick b here there ≡ steppedBuffer mesh shape (ofKind k (length shape) step) words olds (pick b olds news)
+        → pick (inPlace (step .kind)) here there ≡ steppedBuffer mesh shape (stepOf (length shape) step) words olds (pick (inPlace (step .kind)) olds news)
+    stands {b} q olds news here there =
+        let p : b ≡ inPlace (step .kind) = q ∙ ap inPlace (sym e) in
+        transport (λ i. pick (p i) here there ≡ steppedBuffer mesh shape (ofKind (sym e i) (length shape) step) words olds (pick (p i) olds news))
+
     module _ (m : bridge.Moving (ofKind k (length shape) step)) (off on : code.Sharding)
         (p : lists shape off ≡ bridge.gathers (ofKind k (length shape) step) (length shape))
         (q : lists shape on ≡ bridge.slices (ofKind k (length shape) step) (length shape)) where
@@ -98,10 +110,9 @@ module _ {mesh shape : List ℕ} (step : code-step.Step) {words old new : ℕ} (
           × ((devices mesh * product shape ≤ old) × (devices mesh * words ≤ new)))
       move-requires = (move-asks of m off on p q, (move-words of m off on p q, (h .old-room, h .new-room)))
 
-      pub moved-so : (olds news : List ℕ) → movedBuffer mesh shape (lists shape off) (lists shape on) words olds news
-          ≡ steppedBuffer mesh shape (stepOf (length shape) step) words olds news
-      moved-so olds news =
-          move-leaves of m off on p q olds news ∙ ap (λ (x : Kind). steppedBuffer mesh shape (ofKind x (length shape) step) words olds news) (sym e)
+      pub moved-so : false ≡ inPlace k → (olds news here there : List ℕ) → there ≡ movedBuffer mesh shape (lists shape off) (lists shape on) words olds news
+          → pick (inPlace (step .kind)) here there ≡ steppedBuffer mesh shape (stepOf (length shape) step) words olds (pick (inPlace (step .kind)) olds news)
+      moved-so b olds news here there l = stands b olds news here there (l ∙ move-leaves of m off on p q olds news)
 
     module _ (L : List ℕ) (r : ofKind k (length shape) step ≡ allReduce L) where
       reducing : Stepping mesh shape (allReduce L) words old new
@@ -122,13 +133,14 @@ module _ {mesh shape : List ℕ} (step : code-step.Step) {words old new : ℕ} (
             new-room = subst (λ (n : ℕ). devices mesh * n ≤ new) (reducing .words-are) (h .new-room);
           }
 
-      pub reduced-so : (olds news : List ℕ) → reducedBuffer mesh shape L olds news ≡ steppedBuffer mesh shape (stepOf (length shape) step) words olds news
+      pub reduced-so : true ≡ inPlace k → (olds news here there : List ℕ) → here ≡ reducedBuffer mesh shape L olds olds
+          → pick (inPlace (step .kind)) here there ≡ steppedBuffer mesh shape (stepOf (length shape) step) words olds (pick (inPlace (step .kind)) olds news)
       unfolding sources
-      reduced-so olds news =
-          ap (λ (n : ℕ). tabulate mesh shape (made addWords (reducePlaces mesh L) (held 0 mesh shape olds)) ++ drop (devices mesh * n) news)
+      reduced-so b olds news here there l =
+          stands b olds news here there
+          (l ∙ ap (λ (n : ℕ). tabulate mesh shape (made addWords (reducePlaces mesh L) (held 0 mesh shape olds)) ++ drop (devices mesh * n) olds)
           (sym (reducing .words-are))
-          ∙ ap (λ (t : Step). steppedBuffer mesh shape t words olds news) (sym r)
-          ∙ ap (λ (x : Kind). steppedBuffer mesh shape (ofKind x (length shape) step) words olds news) (sym e)
+          ∙ ap (λ (t : Step). steppedBuffer mesh shape t words olds olds) (sym r))
 
   -- one list at a dimension
   module _ (e : step .kind ≡ AllToAll) (none : code.Sharding) (z : dimsOf none ≡ replicate mostDims []) (ds : code.Sharding) where
@@ -143,3 +155,12 @@ module _ {mesh shape : List ℕ} (step : code-step.Step) {words old new : ℕ} (
     at-target q =
         let f = step-fine (of e) .by-kind .target-lt in
         only-at (length shape) (step .target .0) _ (dimsOf none) (dimsOf ds) ranked (omega (arith, dims-many (of e), f)) z q
+
+-- a reduction by way of another buffer
+pub back : (mesh shape L words other left part : List ℕ) (k : ℕ) → k ≡ devices mesh * product shape → left ≡ reducedBuffer mesh shape L words other
+    → part ≡ take (k - 0) left → putMid 0 (k - 0) words part ≡ reducedBuffer mesh shape L words words
+back mesh shape L words other left part k e f g =
+    let w = made addWords (reducePlaces mesh L) (held 0 mesh shape words) in
+    let n : k - 0 ≡ devices mesh * product shape = sub-zero k ∙ e in
+    ap₂ (λ (l : List ℕ) (k : ℕ). l ++ drop k words)
+    (g ∙ ap (take (k - 0)) f ∙ take-at (tabulate mesh shape w) _ (k - 0) (length-tabulate mesh shape w ∙ sym n)) n

@@ -1,6 +1,8 @@
--- One step of an accepted plan, given in shards of the announced shape, and the buffer that it leaves. Assumes nothing.
+-- One step of an accepted plan, given in shards of the announced shape, the buffer that it leaves, and whether that is the buffer that it was given.
+-- Assumes nothing.
 use Prim.Native.Nat.{ℕ, _*_, _≤_, _<_}
 use mathlib.Core.Path.{_≡_}
+use mathlib.Core.Bool.{Bool, true, false}
 use mathlib.Core.List.{List, _++_}
 use lib.ListN.{length, getD, drop}
 use Rattle.rules.specs.Lists.{product}
@@ -11,6 +13,8 @@ use Rattle.rules.specs.Collectives.{Step, shapeAfter, sources, made}
 use Rattle.rules.specs.Limits.{mostAxes, mostDevices, mostDims, mostWords}
 use Rattle.rules.specs.Refusals.{accept}
 use Rattle.rules.specs.PlanFile.{judgeStep}
+use Rattle.rules.specs.declared.Kind.{Kind}
+use Rattle.rules.specs.declared.Kind.the-variants.{AllSlice, AllGather, AllReduce, AllToAll, Unknown}
 
 -- a step that was accepted of a sharding of a table within the limits, and buffers with room for the old state and for the new one
 pub record Stepping (mesh shape : List ℕ) (t : Step) (words old new : ℕ) : Type 0 where
@@ -39,3 +43,11 @@ pub record Stepping (mesh shape : List ℕ) (t : Step) (words old new : ℕ) : T
 abbrev pub steppedBuffer : (mesh shape : List ℕ) → Step → ℕ → (old new : List ℕ) → List ℕ
 steppedBuffer mesh shape t words old new =
     tabulate mesh (shapeAfter mesh t shape) (made addWords (sources mesh t shape) (held 0 mesh shape old)) ++ drop (devices mesh * words) new
+
+-- whether the state stays in its buffer: a reduction keeps the shape of the shards
+abbrev pub inPlace : Kind → Bool
+inPlace AllSlice = false
+inPlace AllGather = false
+inPlace AllReduce = true
+inPlace AllToAll = false
+inPlace Unknown = true

@@ -1,42 +1,70 @@
-// One step of a plan: from the words of the old state to those of the new one, by the step's kind.
-// specs/Stepping.antt says what it asks for and leaves.
+// One step of a plan: from the words of the old state to those of the new one, by the step's kind. A reduction keeps the shape of the shards and is
+// done in place; a step that moves words goes over to another buffer. specs/Stepping.antt says what a step asks for and leaves.
 ghost use mathlib.Core.Path.{_≡_};
 ghost use lib.ListN.{length};
-ghost use Rattle.rules.specs.Types.{stepOf};
-ghost use Rattle.step.specs.Stepping.{Stepping, steppedBuffer};
+ghost use Rattle.rules.specs.Lists.{pick};
+ghost use Rattle.rules.specs.Types.{axesOf, stepOf};
+ghost use Rattle.sums.specs.Sums.{Reducing, reducedBuffer};
+ghost use Rattle.step.specs.Stepping.{Stepping, steppedBuffer, inPlace};
+use mesh::product_from;
 use moves::move_into;
 use rules::AxisList;
 use rules::Kind;
 use rules::Sharding;
 use rules::Step;
+use strided::copy_run;
 use sums::reduce_into;
 
-// The new state, of shards of the given words, at the front of new, whose other words stay.
-pub fn step_into(
-    old: &[u32],
-    new: &mut [u32],
+// Whether a step of this kind leaves the new state in the buffer of the old one.
+pub fn in_place(kind: Kind) -> bool
+    ensures { λ r. ⌜ r ≡ inPlace kind ⌝ }
+{
+    match kind {
+        Kind::AllSlice => false,
+        Kind::AllGather => false,
+        Kind::AllReduce => true,
+        Kind::AllToAll => false,
+        Kind::Unknown => true,
+    }
+}
+
+// All-reduce: the new state at the front of words, whose other words stay; by way of another buffer.
+fn reduce_in(words: &mut [u32], other: &mut [u32], mesh: &[u16], shape: &[u16], axes: AxisList)
+    requires { ⌜ Reducing (now mesh) (now shape) (axesOf axes) (length (now words)) (length (now other)) ⌝ }
+    ensures { λ _. ⌜ now (words .exit) ≡ reducedBuffer (now (mesh .entry)) (now (shape .entry)) (axesOf axes) (now (words .entry)) (now (words .entry)) ⌝ }
+{
+    let size = product_from(mesh, 0) * product_from(shape, 0);
+    reduce_into(words, other, mesh, shape, axes);
+    copy_run(&mut words[0..size], &other[0..size]);
+}
+
+// From the state at the front of here, the new one, of shards of the given words: at the front of here where the step is done in place, else at the
+// front of there. The other words of that buffer stay.
+pub fn step_from(
+    here: &mut [u32],
+    there: &mut [u32],
     mesh: &[u16],
     shape: &[u16],
     step: Step,
     words: usize,
 )
-    requires { ⌜ Stepping (now mesh) (now shape) (stepOf (length (now shape)) step) words (length (now old)) (length (now new)) ⌝ }
-    ensures { λ _. ⌜ now (new .exit) ≡ steppedBuffer (now (mesh .entry)) (now (shape .entry)) (stepOf (length (now (shape .entry))) step) words
-        (now (old .entry)) (now (new .entry)) ⌝ }
+    requires { ⌜ Stepping (now mesh) (now shape) (stepOf (length (now shape)) step) words (length (now here)) (length (now there)) ⌝ }
+    ensures { λ _. ⌜ pick (inPlace (step .kind)) (now (here .exit)) (now (there .exit)) ≡ steppedBuffer (now (mesh .entry)) (now (shape .entry))
+        (stepOf (length (now (shape .entry))) step) words (now (here .entry)) (pick (inPlace (step .kind)) (now (here .entry)) (now (there .entry))) ⌝ }
 {
     let kind = step.kind;
     let lists = step.lists;
     let list = lists.unreduced;
     let none = Sharding::replicated();
     match kind {
-        Kind::AllSlice => move_into(old, new, mesh, shape, none, lists, words),
-        Kind::AllGather => move_into(old, new, mesh, shape, lists, none, words),
-        Kind::AllReduce => reduce_into(old, new, mesh, shape, list),
+        Kind::AllSlice => move_into(here, there, mesh, shape, none, lists, words),
+        Kind::AllGather => move_into(here, there, mesh, shape, lists, none, words),
+        Kind::AllReduce => reduce_in(here, there, mesh, shape, list),
         Kind::AllToAll => {
             let off = none.with_list(step.source, list);
             let on = none.with_list(step.target, list);
-            move_into(old, new, mesh, shape, off, on, words)
+            move_into(here, there, mesh, shape, off, on, words)
         }
-        Kind::Unknown => reduce_into(old, new, mesh, shape, AxisList::empty()),
+        Kind::Unknown => reduce_in(here, there, mesh, shape, AxisList::empty()),
     }
 }

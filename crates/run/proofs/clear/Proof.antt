@@ -1,12 +1,12 @@
 use native.Mathlib.Omega.{arith}
-use Prim.Native.Nat.{ℕ, _≤_, _-_}
+use Prim.Native.Nat.{_≤_, _-_}
 use mathlib.Core.Path.{_≡_, refl, _∙_}
 use mathlib.Core.List.{_++_}
 use lib.ListN.{length, drop, length-set}
 use denote.Ref.{now}
 use Rattle.rules.specs.Lists.{tab}
 use Rattle.rules.proofs.Fronts.{front-step, front-full}
-use Rattle.run.proofs.Turns.{tab-same}
+use Rattle.run.proofs.Zeros.{tab-same}
 use Rattle.run.proofs.clear.Statement.{statement}
 use Rattle.run.proofs.clear.Tie as tie
 

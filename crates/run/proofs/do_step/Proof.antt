@@ -24,45 +24,48 @@ words-requires c κs =
 
 array-share-prefix-axes : tie.Need-array-share-prefix-axes
 array-share-prefix-axes c =
-    let s = c .before .before .before .before .before .before .before .before .before .before .before .before .before in
+    let s = c .before .before .before .before .before .before .before .before .before .before .before .before .before .before in
     let z = simp length-map at (s .good .1 .1 .1 .0 .1 .1 .1 .1 .1 .1 .0 .1 .1 .1 .0 .1 .0 .1) in
     omega (arith, z, s .pre .runs .holds .ready .fits .axes)
 
-slice-aggregate-step-into : tie.Need-slice-aggregate-step-into
-slice-aggregate-step-into c = sym (length-take-le _ _ (array-share-prefix-axes (c .before)))
+slice-aggregate-step-from : tie.Need-slice-aggregate-step-from
+slice-aggregate-step-from c = sym (length-take-le _ _ (array-share-prefix-axes (c .before)))
 
 array-share-prefix-shape : tie.Need-array-share-prefix-shape
 array-share-prefix-shape c =
-    let b = c .before .before .before .before .before .before .before in
+    let b = c .before .before .before .before .before .before .before .before in
     let s = b .before .before .before .before .before .before .before in
     let z = simp length-map at (b .shard-of .ok .1 .1 .1 .0 .1 .0 .1) in
     omega (arith, z, b .shard-of .ensures .0, s .pre .runs .holds .ready .fits .rank)
 
-slice-aggregate-step-into-2 : tie.Need-slice-aggregate-step-into-2
-slice-aggregate-step-into-2 c = sym (length-take-le _ _ (array-share-prefix-shape (c .before)))
+slice-aggregate-step-from-2 : tie.Need-slice-aggregate-step-from-2
+slice-aggregate-step-from-2 c = sym (length-take-le _ _ (array-share-prefix-shape (c .before)))
 
-step-into-requires : tie.Need-step-into-requires
-step-into-requires c κs =
-    let u = c .before .before .before .before .before in
+step-from-requires : tie.Need-step-from-requires
+step-from-requires c κs =
+    let u = c .before .before .before .before .before .before in
     let b = u .before .before .before in
     let t = b .before .take-step in
     let s = b .before .before .before .before .before .before .before in
     let e = u .words .ensures ∙ ap product (u .before .shard-of2 .ensures .1) in
-    turn-asks (s .pre) (taken-is (s .pre) (t .result) (t .ensures)) (b .shard-of .ensures .1) (sym (slice-aggregate-step-into-2 c) ∙ b .shard-of .ensures .0) e
+    turn-asks (s .pre) (taken-is (s .pre) (t .result) (t .ensures)) (b .shard-of .ensures .1) (sym (slice-aggregate-step-from-2 c) ∙ b .shard-of .ensures .0) e
 
 same-length : tie.Need-same-length
 same-length c = search needs
 
+same-length-2 : tie.Need-same-length-2
+same-length-2 c = search needs
+
 returns : tie.Need-returns
 returns c =
-    let o = c .before .before in
-    let u = o .before .before .before .before .before .before in
+    let o = c .before .before .before .before in
+    let u = o .before .before .before .before .before .before .before in
     let b = u .before .before .before in
     let t = b .before .take-step in
     let s = b .before .before .before .before .before .before .before in
     let e = u .words .ensures ∙ ap product (u .before .shard-of2 .ensures .1) in
-    let l = sym (slice-aggregate-step-into-2 (o .before)) ∙ b .shard-of .ensures .0 in
-    (t .ensures, turn-leaves (s .pre) (taken-is (s .pre) (t .result) (t .ensures)) (b .shard-of .ensures .1) l e _ _ (o .step-into .ensures))
+    let l = sym (slice-aggregate-step-from-2 (o .before)) ∙ b .shard-of .ensures .0 in
+    (t .ensures, turn-leaves (s .pre) (taken-is (s .pre) (t .result) (t .ensures)) (b .shard-of .ensures .1) l e _ _ (o .step-from .ensures))
 
 pub do-step-spec : {M : Type 1} → statement M
 do-step-spec =
@@ -73,9 +76,10 @@ do-step-spec =
     shard-of-requires-2
     words-requires
     array-share-prefix-axes
-    slice-aggregate-step-into
+    slice-aggregate-step-from
     array-share-prefix-shape
-    slice-aggregate-step-into-2
-    step-into-requires
+    slice-aggregate-step-from-2
+    step-from-requires
     same-length
+    same-length-2
     returns)

@@ -1,5 +1,6 @@
 use borrow.Author.Needs.{needs}
-use Rattle.run.proofs.Done.{turn-back}
+use mathlib.Core.Bool.{true, false}
+use Rattle.run.proofs.Done.{turn-back, turned}
 use Rattle.run.proofs.do_turn.Statement.{statement}
 use Rattle.run.proofs.do_turn.Tie as tie
 
@@ -13,7 +14,10 @@ same-length-2 : tie.Need-same-length-2
 same-length-2 c = search needs
 
 returns : tie.Need-returns
-returns c = let d = c .before .before in (d .do-step .ensures .0, rw (d .before .before .before .if1 .taken) (d .do-step .ensures .1))
+returns c =
+    let d = c .before .before .before .before in
+    let s = d .before .before .before .before .before .before .before in
+    (d .do-step .ensures .0, rw (d .before .before .before .if1 .taken) (turned (s .args .whole) (s .args .sharding) (d .do-step .result) true _ _ _ _ (d .do-step .ensures .1)))
 
 do-step-requires-2 : tie.Need-do-step-requires-2
 do-step-requires-2 c κs = turn-back (c .before .before .before .before .before .before .pre)
@@ -25,7 +29,10 @@ same-length-4 : tie.Need-same-length-4
 same-length-4 c = search needs
 
 returns-2 : tie.Need-returns-2
-returns-2 c = let d = c .before .before in (d .do-step2 .ensures .0, rw (d .before .before .before .if1 .left) (d .do-step2 .ensures .1))
+returns-2 c =
+    let d = c .before .before .before .before in
+    let s = d .before .before .before .before .before .before .before in
+    (d .do-step2 .ensures .0, rw (d .before .before .before .if1 .left) (turned (s .args .whole) (s .args .sharding) (d .do-step2 .result) false _ _ _ _ (d .do-step2 .ensures .1)))
 
 pub do-turn-spec : {M : Type 1} → statement M
 do-turn-spec =

@@ -10,7 +10,8 @@ use Rattle.rules.specs.Calls.{runMeaning}
 use Rattle.rules.specs.declared.RunOutcome.{RunOutcome}
 use Rattle.rules.specs.declared.RunOutcome.the-variants.{Finished}
 use Rattle.plan.proofs.Wholes.{plan-held, whole-stopped, bounded}
-use Rattle.run.proofs.Promises.{stops-file, stops-work, stops-spare, finishes, cleared-behind, last-size, last-fits, promise}
+use Rattle.run.proofs.Promises.{stops-file, stops-work, stops-spare, finishes, last-size, last-fits, promise}
+use Rattle.run.proofs.Zeros.{cleared-behind}
 use Rattle.run.proofs.run.Statement.{statement}
 use Rattle.run.proofs.run.Tie as tie
 
@@ -97,11 +98,11 @@ bring-home-requires c κs =
     )
 
 mul-clear : tie.Need-mul-clear
-mul-clear c = omega (arith, c .before .before .before .before .before .last-words .ensures, last-words-requires (c .before .before .before .before .before .before) _ .1)
+mul-clear c = omega (arith, c .before .before .before .before .before .before .before .last-words .ensures, last-words-requires (c .before .before .before .before .before .before .before .before) _ .1)
 
 sub-clear : tie.Need-sub-clear
 sub-clear c =
-    let g = c .before .before in
+    let g = c .before .before .before .before in
     let l : length (g .bring-home .last .1 .1 .0) ≡ length (g .before .before .before .before .before .before .before .before .run-steps .last .1 .1 .1 .0) = search needs in
     omega (arith, l, bring-home-requires (g .before) (g .bring-home .lifetimes) .0)
 
@@ -114,9 +115,6 @@ part-clear-end c = search needs
 clear-requires : tie.Need-clear-requires
 clear-requires c κs = search needs
 
-clear-requires-2 : tie.Need-clear-requires-2
-clear-requires-2 c κs = search needs
-
 same-length : tie.Need-same-length
 same-length c = search needs
 
@@ -125,7 +123,7 @@ same-length-2 c = search needs
 
 returns-4 : tie.Need-returns-4
 returns-4 c =
-    let g = c .before .before .before .before .before .before .before .before .before .before in
+    let g = c .before .before .before .before .before .before .before .before in
     let v = g .before .before .before in
     let r = v .before .before .before .before .before in
     let j = r .before .before .before .before .before .before .before .before .before in
@@ -138,12 +136,12 @@ returns-4 c =
     let lw : length (g .bring-home .last .1 .1 .0) ≡ length work = search needs in
     let ls : length (r .run-steps .last .1 .1 .1 .1 .0) ≡ length spare = search needs in
     let e = v .last-words .ensures ∙ last-size h work in
-    let f = ap (λ (n : ℕ). take n (g .bring-home .last .1 .1 .0)) (sym e) ∙ g .bring-home .ensures
+    let f = ap (λ (n : ℕ). take n (g .bring-home .last .1 .1 .0)) (sym e) ∙ g .bring-home .ensures .0
     ∙ ap (λ (n : ℕ). take n (pick (r .run-steps .result) (r .run-steps .last .1 .1 .1 .0) (r .run-steps .last .1 .1 .1 .1 .0))) e
     ∙ r .run-steps .ensures (h .0) (h .1) in
     promise _ _ _ Finished (λ i. j .before .before .slice-known .given i .fits)
-    (finishes _ work spare (h .1) (w, q) (cleared-behind _ work _ _ _ e (sub-clear (c .before .before .before .before .before .before .before .before)) lw f (c .before .before .before .before .before .before .clear .ensures))
-    (c .before .before .clear2 .ensures ∙ ap (λ (n : ℕ). replicate n 0) ls))
+    (finishes _ work spare (h .1) (w, q) (cleared-behind _ work _ _ _ e (sub-clear (c .before .before .before .before)) lw f (c .before .before .clear .ensures))
+    (g .bring-home .ensures .1 ∙ ap (λ (n : ℕ). replicate n 0) ls))
 
 pub run-spec : {M : Type 1} → statement M
 run-spec =
@@ -167,7 +165,6 @@ run-spec =
     part-clear-start
     part-clear-end
     clear-requires
-    clear-requires-2
     same-length
     same-length-2
     returns-4)

@@ -1,7 +1,7 @@
 use borrow.Author.Needs.{needs}
 use native.Mathlib.Omega.{arith}
-use Prim.Native.Nat.{ℕ, _-_}
-use mathlib.Core.Path.{_≡_, refl, sym, _∙_}
+use Prim.Native.Nat.{_-_}
+use mathlib.Core.Path.{_≡_, refl, _∙_}
 use lib.ListN.{length}
 use Rattle.plan.proofs.Wholes.{bounded}
 use Rattle.run.proofs.Running.{Running, running, turn, no-refusal, onward, arrived}
@@ -55,25 +55,28 @@ returns c =
     let t = d .before .before .before in
     absurd (no-refusal (t .before .loop .inv .0) (t .loop-test .taken) (d .do-turn .result) (d .do-turn .ensures .0) (c .enum-told .given .1))
 
+stands-after-requires : tie.Need-stands-after-requires Inv-loop μ-loop
+stands-after-requires c κs = search needs
+
 add-k : tie.Need-add-k Inv-loop μ-loop
 add-k c =
-    let s = c .before .before .before .before .before .before .before .before .before .before .before .before .before .before .before .before .before in
+    let s = c .before .before .before .before .before .before .before .before .before .before .before .before .before .before .before .before .before .before .before in
     let b = bounded _ (s .pre .plan, s .pre .judged, s .pre .holds) in
-    omega (arith, b .steps-few, c .before .before .before .before .before .before .before .before .before .before .before .loop-test .taken)
+    omega (arith, b .steps-few, c .before .before .before .before .before .before .before .before .before .before .before .before .before .loop-test .taken)
 
 loop-less : tie.Need-loop-less Inv-loop μ-loop
 loop-less c = omega arith
 
 loop-again : tie.Need-loop-again Inv-loop μ-loop
 loop-again c =
-    let n = c .before .before in
+    let n = c .before .before .before .before in
     let d = n .before .before .before .before .before .before in
     let t = d .before .before .before in
     let i = t .before .loop .inv in
     let e = d .do-turn .ensures in
     let w : length (d .do-turn .last .1 .1 .1 .1 .1 .1 .0) ≡ length (t .before .loop .work) = search needs in
     let s : length (d .do-turn .last .1 .1 .1 .1 .1 .1 .1 .0) ≡ length (t .before .loop .spare) = search needs in
-    (onward (i .0) (t .loop-test .taken) (d .do-turn .result) (e .0) (n .next .given .1) (e .1) w s, w ∙ i .1, s ∙ i .2)
+    (onward (i .0) (t .loop-test .taken) (d .do-turn .result) (e .0) _ _ (n .next .given .1) (c .stands-after .ensures) (e .1) w s, w ∙ i .1, s ∙ i .2)
 
 same-length-3 : tie.Need-same-length-3 Inv-loop μ-loop
 same-length-3 c = c .before .loop .inv .1
@@ -99,6 +102,7 @@ run-steps-spec =
     same-length
     same-length-2
     returns
+    stands-after-requires
     add-k
     loop-less
     loop-again

@@ -1,0 +1,96 @@
+use native.Mathlib.Omega.{arith}
+use Prim.Native.Nat.{ℕ, _≤_, _-_}
+use mathlib.Core.Path.{_≡_, refl, sym, ap, ap₂, _∙_}
+use mathlib.Core.List.{List, _++_}
+use lib.ListN.{length, getD, set, drop, length-set}
+use denote.Ref.{now}
+use Rattle.rules.specs.Lists.{tab}
+use Rattle.rules.proofs.Fronts.{front-step, front-behind, front-full, whole-tab}
+use Rattle.run.proofs.Zeros.{tab-same}
+use Rattle.run.proofs.take_home.Statement.{statement}
+use Rattle.run.proofs.take_home.Tie as tie
+
+abbrev Inv-loop : tie.InvT-loop
+Inv-loop work₀ spare₀ t₀ work spare t =
+    (t ≤ length work₀) × (work ≡ tab t (λ k. getD spare₀ k 0) ++ drop t work₀) × (spare ≡ tab t (λ k. 0) ++ drop t spare₀)
+    × (length work ≡ length work₀) × (length spare ≡ length spare₀)
+
+abbrev μ-loop : tie.MeasureT-loop
+μ-loop work₀ spare₀ t₀ work spare t = length work₀ - t
+
+loop-holds : tie.Need-loop-holds Inv-loop μ-loop
+loop-holds c = (omega arith, refl, refl, refl, refl)
+
+mul-word : tie.Need-mul-word Inv-loop μ-loop
+mul-word c = omega arith
+
+slice-read-word : tie.Need-slice-read-word Inv-loop μ-loop
+slice-read-word c = omega arith
+
+mul-work : tie.Need-mul-work Inv-loop μ-loop
+mul-work c = omega arith
+
+slice-write-work : tie.Need-slice-write-work Inv-loop μ-loop
+slice-write-work c = omega arith
+
+mul-spare : tie.Need-mul-spare Inv-loop μ-loop
+mul-spare c = omega arith
+
+slice-write-spare : tie.Need-slice-write-spare Inv-loop μ-loop
+slice-write-spare c = omega arith
+
+add-t : tie.Need-add-t Inv-loop μ-loop
+add-t c = omega arith
+
+loop-less : tie.Need-loop-less Inv-loop μ-loop
+loop-less c = omega arith
+
+loop-again : tie.Need-loop-again Inv-loop μ-loop
+loop-again c =
+    let l = c .before .before in
+    let s = l .before in
+    let t = l .loop .t in
+    let word : ℕ → ℕ = λ k. getD (now (s .args .spare)) k 0 in
+    let v : getD (l .loop .spare) t 0 ≡ word t = ap (λ (b : List ℕ). getD b t 0) (l .loop .inv .2) ∙ front-behind (λ k. 0) (now (s .args .spare)) t in (
+      omega arith,
+      ap₂ (λ (b : List ℕ) (w : ℕ). set b t w) (l .loop .inv .1) v ∙ front-step word (now (s .args .work)) t (omega arith),
+      rw (l .loop .inv .2) (front-step (λ k. 0) (now (s .args .spare)) t (omega arith)),
+      rw length-set (l .loop .inv .3),
+      rw length-set (l .loop .inv .4),
+    )
+
+same-length : tie.Need-same-length Inv-loop μ-loop
+same-length c = c .before .loop .inv .3
+
+same-length-2 : tie.Need-same-length-2 Inv-loop μ-loop
+same-length-2 c = c .before .loop .inv .4
+
+returns : tie.Need-returns Inv-loop μ-loop
+returns c =
+    let l = c .before in
+    let s = l .before in
+    let spare = now (s .args .spare) in
+    let word : ℕ → ℕ = λ k. getD spare k 0 in (
+      l .loop .inv .1 ∙ front-full word (now (s .args .work)) (l .loop .t) (omega arith) ∙ ap (λ n. tab n word) (s .pre) ∙ sym (whole-tab spare),
+      l .loop .inv .2 ∙ front-full (λ k. 0) spare (l .loop .t) (omega arith) ∙ tab-same (length spare) 0,
+    )
+
+pub take-home-spec : {M : Type 1} → statement M
+take-home-spec =
+    tie.close
+    (tie.spec
+    Inv-loop
+    μ-loop
+    loop-holds
+    mul-word
+    slice-read-word
+    mul-work
+    slice-write-work
+    mul-spare
+    slice-write-spare
+    add-t
+    loop-less
+    loop-again
+    same-length
+    same-length-2
+    returns)
