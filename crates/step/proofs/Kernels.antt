@@ -1,13 +1,11 @@
 -- What the kernels ask for follows from an accepted step, and what they leave is what the rules make. Assumes nothing.
-use Prim.Native.Nat.{ℕ, _*_, _-_, _≤_}
-use mathlib.Core.Path.{_≡_, refl, sym, ap, ap₂, _∙_, subst, transport}
+use Prim.Native.Nat.{ℕ, _*_, _≤_}
+use mathlib.Core.Path.{_≡_, refl, sym, ap, _∙_, subst, transport}
 use mathlib.Core.Bool.{Bool, true, false}
 use mathlib.Core.List.{List, [], _∷_, _++_}
 use native.Mathlib.Omega.{arith}
-use native.Mathlib.Nat.{le-trans, sub-zero}
-use borrow.Rule.Slice.PartMut.{putMid}
+use native.Mathlib.Nat.{le-trans}
 use lib.ListN.{length, take, drop, set, replicate}
-use lib.Seq.{take-at}
 use Rattle.rules.specs.Lists.{pick, product}
 use Rattle.rules.specs.Mesh.{devices}
 use Rattle.rules.specs.Sharding.{Sharding}
@@ -20,7 +18,6 @@ use Rattle.rules.specs.declared.Kind.the-variants.{AllToAll}
 use Rattle.rules.specs.declared.Sharding as code
 use Rattle.rules.specs.declared.Step as code-step
 use Rattle.rules.proofs.Lists.{take-replicate}
-use Rattle.rules.proofs.Buffers.{length-tabulate}
 use Rattle.rules.proofs.Shapes.{cut-lengths}
 use Rattle.rules.proofs.Steps.{AcceptedStep, facts, sharding-cut, shape-length}
 use Rattle.judge.proofs.Steps.{only-at}
@@ -118,7 +115,7 @@ module _ {mesh shape : List ℕ} (step : code-step.Step) {words old new : ℕ} (
       reducing : Stepping mesh shape (allReduce L) words old new
       reducing = subst (λ (t : Step). Stepping mesh shape t words old new) r of
 
-      pub reduce-requires : Reducing mesh shape L old new
+      pub reduce-requires : Reducing mesh shape L old
       reduce-requires =
           let f = step-fine reducing in
           record {
@@ -129,11 +126,10 @@ module _ {mesh shape : List ℕ} (step : code-step.Step) {words old new : ℕ} (
             words-few = h .shard-few;
             of-mesh = f .axes;
             once = f .by-kind .once;
-            old-room = h .old-room;
-            new-room = subst (λ (n : ℕ). devices mesh * n ≤ new) (reducing .words-are) (h .new-room);
+            room = h .old-room;
           }
 
-      pub reduced-so : true ≡ inPlace k → (olds news here there : List ℕ) → here ≡ reducedBuffer mesh shape L olds olds
+      pub reduced-so : true ≡ inPlace k → (olds news here there : List ℕ) → here ≡ reducedBuffer mesh shape L olds
           → pick (inPlace (step .kind)) here there ≡ steppedBuffer mesh shape (stepOf (length shape) step) words olds (pick (inPlace (step .kind)) olds news)
       unfolding sources
       reduced-so b olds news here there l =
@@ -155,12 +151,3 @@ module _ {mesh shape : List ℕ} (step : code-step.Step) {words old new : ℕ} (
     at-target q =
         let f = step-fine (of e) .by-kind .target-lt in
         only-at (length shape) (step .target .0) _ (dimsOf none) (dimsOf ds) ranked (omega (arith, dims-many (of e), f)) z q
-
--- a reduction by way of another buffer
-pub back : (mesh shape L words other left part : List ℕ) (k : ℕ) → k ≡ devices mesh * product shape → left ≡ reducedBuffer mesh shape L words other
-    → part ≡ take (k - 0) left → putMid 0 (k - 0) words part ≡ reducedBuffer mesh shape L words words
-back mesh shape L words other left part k e f g =
-    let w = made addWords (reducePlaces mesh L) (held 0 mesh shape words) in
-    let n : k - 0 ≡ devices mesh * product shape = sub-zero k ∙ e in
-    ap₂ (λ (l : List ℕ) (k : ℕ). l ++ drop k words)
-    (g ∙ ap (take (k - 0)) f ∙ take-at (tabulate mesh shape w) _ (k - 0) (length-tabulate mesh shape w ∙ sym n)) n

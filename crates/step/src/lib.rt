@@ -3,17 +3,14 @@
 ghost use mathlib.Core.Path.{_≡_};
 ghost use lib.ListN.{length};
 ghost use Rattle.rules.specs.Lists.{pick};
-ghost use Rattle.rules.specs.Types.{axesOf, stepOf};
-ghost use Rattle.sums.specs.Sums.{Reducing, reducedBuffer};
+ghost use Rattle.rules.specs.Types.{stepOf};
 ghost use Rattle.step.specs.Stepping.{Stepping, steppedBuffer, inPlace};
-use mesh::product_from;
 use moves::move_into;
 use rules::AxisList;
 use rules::Kind;
 use rules::Sharding;
 use rules::Step;
-use strided::copy_run;
-use sums::reduce_into;
+use sums::reduce_in;
 
 // Whether a step of this kind leaves the new state in the buffer of the old one.
 pub fn in_place(kind: Kind) -> bool
@@ -26,16 +23,6 @@ pub fn in_place(kind: Kind) -> bool
         Kind::AllToAll => false,
         Kind::Unknown => true,
     }
-}
-
-// All-reduce: the new state at the front of words, whose other words stay; by way of another buffer.
-fn reduce_in(words: &mut [u32], other: &mut [u32], mesh: &[u16], shape: &[u16], axes: AxisList)
-    requires { ⌜ Reducing (now mesh) (now shape) (axesOf axes) (length (now words)) (length (now other)) ⌝ }
-    ensures { λ _. ⌜ now (words .exit) ≡ reducedBuffer (now (mesh .entry)) (now (shape .entry)) (axesOf axes) (now (words .entry)) (now (words .entry)) ⌝ }
-{
-    let size = product_from(mesh, 0) * product_from(shape, 0);
-    reduce_into(words, other, mesh, shape, axes);
-    copy_run(&mut words[0..size], &other[0..size]);
 }
 
 // From the state at the front of here, the new one, of shards of the given words: at the front of here where the step is done in place, else at the
@@ -59,12 +46,12 @@ pub fn step_from(
     match kind {
         Kind::AllSlice => move_into(here, there, mesh, shape, none, lists, words),
         Kind::AllGather => move_into(here, there, mesh, shape, lists, none, words),
-        Kind::AllReduce => reduce_in(here, there, mesh, shape, list),
+        Kind::AllReduce => reduce_in(here, mesh, shape, list),
         Kind::AllToAll => {
             let off = none.with_list(step.source, list);
             let on = none.with_list(step.target, list);
             move_into(here, there, mesh, shape, off, on, words)
         }
-        Kind::Unknown => reduce_in(here, there, mesh, shape, AxisList::empty()),
+        Kind::Unknown => reduce_in(here, mesh, shape, AxisList::empty()),
     }
 }

@@ -33,8 +33,8 @@ enum-told-3 c = search needs
 
 reduce-in-requires : tie.Need-reduce-in-requires
 reduce-in-requires c κs =
-    let s = c .before .before .before .before .before .before .before .before .before .before .before in
-    reduce-requires (s .args .step) (s .pre) (c .before .before .enum-told3 .given .1) _ refl
+    let s = c .before .before .before .before .before .before .before .before .before .before in
+    reduce-requires (s .args .step) (s .pre) (c .before .enum-told3 .given .1) _ refl
 
 enum-told-4 : tie.Need-enum-told-4
 enum-told-4 c = search needs
@@ -62,8 +62,8 @@ empty-requires c κs = search needs
 
 reduce-in-requires-2 : tie.Need-reduce-in-requires-2
 reduce-in-requires-2 c κs =
-    let s = c .before .before .before .before .before .before .before .before .before .before .before .before in
-    reduce-requires (s .args .step) (s .pre) (c .before .before .before .enum-told5 .given .1) _ (ap allReduce (sym (c .empty .ensures)))
+    let s = c .before .before .before .before .before .before .before .before .before .before .before in
+    reduce-requires (s .args .step) (s .pre) (c .before .before .enum-told5 .given .1) _ (ap allReduce (sym (c .empty .ensures)))
 
 same-length : tie.Need-same-length
 same-length c = search needs
@@ -94,19 +94,16 @@ returns-2 c =
 same-length-5 : tie.Need-same-length-5
 same-length-5 c = search needs
 
+returns-3 : tie.Need-returns-3
+returns-3 c =
+    let s = c .before .before .before .before .before .before .before .before .before .before .before .before .before in
+    reduced-so (s .args .step) (s .pre) (c .before .before .before .before .enum-told3 .given .1) _ refl refl _ _ _ _ (c .before .before .reduce-in .ensures)
+
 same-length-6 : tie.Need-same-length-6
 same-length-6 c = search needs
 
-returns-3 : tie.Need-returns-3
-returns-3 c =
-    let s = c .before .before .before .before .before .before .before .before .before .before .before .before .before .before .before .before in
-    reduced-so (s .args .step) (s .pre) (c .before .before .before .before .before .before .before .enum-told3 .given .1) _ refl refl _ _ _ _ (c .before .before .before .before .reduce-in .ensures)
-
 same-length-7 : tie.Need-same-length-7
 same-length-7 c = search needs
-
-same-length-8 : tie.Need-same-length-8
-same-length-8 c = search needs
 
 returns-4 : tie.Need-returns-4
 returns-4 c =
@@ -117,16 +114,13 @@ returns-4 c =
     let q = at-target (s .args .step) (s .pre) e _ z _ (c .before .before .before .before .before .with-list2 .ensures .0) in
     moved-so (s .args .step) (s .pre) e tt _ _ p q refl _ _ _ _ (c .before .before .move-into3 .ensures)
 
-same-length-9 : tie.Need-same-length-9
-same-length-9 c = search needs
-
-same-length-10 : tie.Need-same-length-10
-same-length-10 c = search needs
+same-length-8 : tie.Need-same-length-8
+same-length-8 c = search needs
 
 returns-5 : tie.Need-returns-5
 returns-5 c =
-    let s = c .before .before .before .before .before .before .before .before .before .before .before .before .before .before .before .before .before in
-    reduced-so (s .args .step) (s .pre) (c .before .before .before .before .before .before .before .before .enum-told5 .given .1) _ (ap allReduce (sym (c .before .before .before .before .before .empty .ensures))) refl _ _ _ _ (c .before .before .before .before .reduce-in2 .ensures)
+    let s = c .before .before .before .before .before .before .before .before .before .before .before .before .before .before in
+    reduced-so (s .args .step) (s .pre) (c .before .before .before .before .before .enum-told5 .given .1) _ (ap allReduce (sym (c .before .before .before .empty .ensures))) refl _ _ _ _ (c .before .before .reduce-in2 .ensures)
 
 pub step-from-spec : {M : Type 1} → statement M
 step-from-spec =
@@ -153,11 +147,9 @@ step-from-spec =
     same-length-4
     returns-2
     same-length-5
-    same-length-6
     returns-3
+    same-length-6
     same-length-7
-    same-length-8
     returns-4
-    same-length-9
-    same-length-10
+    same-length-8
     returns-5)
