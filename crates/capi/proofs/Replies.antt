@@ -1,19 +1,22 @@
--- Laws of the boundary: what stands past the rank, the five lists one by one, and the rank of an accepted plan. Assumes nothing.
-use Prim.Native.Nat.{ℕ, zero, suc, _<_, _≤_}
+-- Laws of the boundary: what stands past the rank, the five lists one by one, their places, and the rank of an accepted plan. Assumes nothing.
+use Prim.Native.Nat.{ℕ, zero, suc, _+_, _*_, _<_, _≤_}
 use mathlib.Core.Path.{_≡_, refl, ap}
 use mathlib.Core.List.{List, []}
 use native.Mathlib.Omega.{arith}
 use lib.ListN.{length, take, getD, length-take, List·getD-eq-default}
+use lib.Arith.{digits-div, digits-mod}
 use lib.Dec.{ltb, leb}
-use Rattle.rules.specs.Limits.{mostDims}
+use Rattle.rules.specs.Lists.{tab}
+use Rattle.rules.specs.Limits.{mostAxes, mostDims}
 use Rattle.rules.specs.Mesh.{devices}
 use Rattle.rules.specs.Sharding.{Sharding}
 use Rattle.rules.specs.Refusals.{accept}
 use Rattle.rules.specs.PlanFile.{judge}
 use Rattle.rules.specs.Calls.{CheckAnswer, PlaceAnswer, checkOf, placeOf}
+use Rattle.rules.proofs.Lists.{tab-cong}
 use Rattle.rules.proofs.Judging.{accept-inj, bind-inv, need-inv}
 use Rattle.rules.proofs.Accepted.{accepted}
-use Rattle.capi.specs.Boundary.{listOf}
+use Rattle.capi.specs.Boundary.{listOf, axisIn}
 
 -- nothing stands past the rank
 pub past : {A : Type 0} (rank : ℕ) (l : List A) (d : ℕ) (z : A) → rank ≤ d → getD (take rank l) d z ≡ z
@@ -30,6 +33,12 @@ list-dim s (suc zero) h = refl
 list-dim s (suc (suc zero)) h = refl
 list-dim s (suc (suc (suc zero))) h = refl
 list-dim s (suc (suc (suc (suc d)))) h = absurd (omega (arith, h))
+
+-- the six places of a list among the thirty
+pub six-places : (s : Sharding) (d : ℕ) (l : List ℕ) → l ≡ listOf s d
+    → tab mostAxes (λ i. getD l i 0) ≡ tab mostAxes (λ i. axisIn s (d * mostAxes + i))
+six-places s d l e =
+    tab-cong mostAxes (λ i. getD l i 0) (λ i. axisIn s (d * mostAxes + i)) (λ i h. rw (digits-div d h, digits-mod d h, e))
 
 -- ---- the rank of a plan that is accepted
 

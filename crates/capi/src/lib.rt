@@ -3,11 +3,12 @@
 ghost use mathlib.Core.Path.{_≡_};
 ghost use Prim.Native.Nat.{_<_, _≤_, _+_, _*_};
 ghost use lib.ListN.{length, take, getD};
-ghost use Rattle.rules.specs.Limits.{mostDims};
+ghost use Rattle.rules.specs.Lists.{tab};
+ghost use Rattle.rules.specs.Limits.{mostAxes, mostDims};
 ghost use Rattle.rules.specs.Refusals.{numberOf, refusedBy};
 ghost use Rattle.rules.specs.Types.{axesOf, shardingOf};
 ghost use Rattle.rules.specs.Calls.{checkOf, placeOf, groupsOf, groupsLeave, runOf, checkedBy, placedBy};
-ghost use Rattle.capi.specs.Boundary.{refusalCode, places, fourPlaces, listOf, fiveCounts, axisIn, thirtyAxes, checkReply, placeReply};
+ghost use Rattle.capi.specs.Boundary.{refusalCode, fourPlaces, listOf, fiveCounts, thirtyAxes, checkReply, placeReply};
 use ishkrela::Axis;
 use ishkrela::AxisList;
 use ishkrela::CheckOutcome;
@@ -114,24 +115,29 @@ fn five_counts(sharding: Sharding, rank: usize) -> [u8; LISTS]
     ]
 }
 
-// The axis in one of the thirty places, six to a list.
-fn axis_in(sharding: Sharding, rank: usize, i: usize) -> u8
-    requires { ⌜ i < places ⌝ }
-    ensures { λ r. ⌜ r ≡ axisIn (shardingOf rank sharding) i ⌝ }
+// The axes of a list in its six places.
+fn put_axes(places: &mut [u8], list: AxisList)
+    requires { ⌜ length (now places) ≡ mostAxes ⌝ }
+    ensures { λ _. ⌜ now (places .exit) ≡ tab mostAxes (λ i. getD (axesOf list) i 0) ⌝ }
 {
-    let list = list_of(sharding, rank, i / Axis::MOST);
-    let axis = list.at(i % Axis::MOST);
-    axis.0
+    let mut i: usize = 0;
+    while i < Axis::MOST {
+        let axis = list.at(i);
+        places[i] = axis.0;
+        i += 1;
+    }
 }
 
 fn thirty_axes(sharding: Sharding, rank: usize) -> [u8; PLACES]
     ensures { λ r. ⌜ r ≡ thirtyAxes (shardingOf rank sharding) ⌝ }
 {
     let mut axes = [0u8; PLACES];
-    let mut i: usize = 0;
-    while i < PLACES {
-        axes[i] = axis_in(sharding, rank, i);
-        i += 1;
+    let mut d: usize = 0;
+    while d < LISTS {
+        let first = d * Axis::MOST;
+        let end = first + Axis::MOST;
+        put_axes(&mut axes[first..end], list_of(sharding, rank, d));
+        d += 1;
     }
     axes
 }
