@@ -1,4 +1,5 @@
--- What the kernels ask for follows from an accepted step, and what they leave is what the rules make. Assumes nothing.
+-- What the kernels ask for follows from an accepted step, and what they leave is what the rules make, in the buffer that the kind says.
+-- Assumes nothing.
 use Prim.Native.Nat.{ℕ, _*_, _≤_}
 use mathlib.Core.Path.{_≡_, refl, sym, ap, _∙_, subst, transport}
 use mathlib.Core.Bool.{Bool, true, false}
