@@ -1,5 +1,5 @@
 use native.Mathlib.Omega.{arith}
-use Prim.Native.Nat.{_*_}
+use Prim.Native.Nat.{_*_, _/_}
 use mathlib.Core.Path.{_≡_, ap₂, _∙_}
 use native.Mathlib.Nat.{mul-div-cancel}
 use lib.ListN.{length, length-take, length-append, take}
