@@ -42,12 +42,12 @@ fn take_home(work: &mut [u32], spare: &mut [u32])
     ensures { λ _. ⌜ now (work .exit) ≡ now (spare .entry) ⌝ }
     ensures { λ _. ⌜ now (spare .exit) ≡ replicate (length (now (spare .entry))) 0 ⌝ }
 {
-    let mut t: usize = 0;
-    while t < work.len() {
-        let word = spare[t];
-        work[t] = word;
-        spare[t] = 0;
-        t += 1;
+    let mut i: usize = 0;
+    while i < work.len() {
+        let word = spare[i];
+        work[i] = word;
+        spare[i] = 0;
+        i += 1;
     }
 }
 
@@ -142,8 +142,8 @@ fn run_steps(file: &[u8], at: usize, whole: Whole, work: &mut [u32], spare: &mut
 // The last state, of so many words, at the front of work, whichever buffer it stands in; and 0 in all of spare.
 fn bring_home(in_work: bool, last: usize, work: &mut [u32], spare: &mut [u32])
     requires { ⌜ (last ≤ length (now work)) × (last ≤ length (now spare)) ⌝ }
-    ensures { λ _. ⌜ take last (now (work .exit)) ≡ take last (pick in_work (now (work .entry)) (now (spare .entry))) ⌝ }
     ensures { λ _. ⌜ now (spare .exit) ≡ replicate (length (now (spare .entry))) 0 ⌝ }
+    ensures { λ _. ⌜ take last (now (work .exit)) ≡ take last (pick in_work (now (work .entry)) (now (spare .entry))) ⌝ }
 {
     if in_work {
         clear(spare);

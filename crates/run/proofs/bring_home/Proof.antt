@@ -16,7 +16,7 @@ same-length : tie.Need-same-length
 same-length c = search needs
 
 returns : tie.Need-returns
-returns c = (rw (c .before .before .before .before .if1 .taken) refl, c .before .before .clear .ensures)
+returns c = (c .before .before .clear .ensures, rw (c .before .before .before .before .if1 .taken) refl)
 
 sub-take-home : tie.Need-sub-take-home
 sub-take-home c = search needs
@@ -67,8 +67,8 @@ returns-2 c =
     let spare = now (s .args .spare) in
     let last = s .args .last in
     let k = t .take-home .ensures .0 in (
-      rw (t .before .before .before .if1 .left) (lent-taken _ _ last (ap length k ∙ lent-length spare last (s .pre .1)) ∙ k ∙ ap (λ (n : ℕ). take n spare) (sub-zero last)),
       cleared-whole spare _ _ last (s .pre .1) (t .take-home .ensures .1) (c .before .before .clear2 .ensures),
+      rw (t .before .before .before .if1 .left) (lent-taken _ _ last (ap length k ∙ lent-length spare last (s .pre .1)) ∙ k ∙ ap (λ (n : ℕ). take n spare) (sub-zero last)),
     )
 
 pub bring-home-spec : {M : Type 1} → statement M

@@ -136,12 +136,12 @@ returns-4 c =
     let lw : length (g .bring-home .last .1 .1 .0) ≡ length work = search needs in
     let ls : length (r .run-steps .last .1 .1 .1 .1 .0) ≡ length spare = search needs in
     let e = v .last-words .ensures ∙ last-size h work in
-    let f = ap (λ (n : ℕ). take n (g .bring-home .last .1 .1 .0)) (sym e) ∙ g .bring-home .ensures .0
+    let f = ap (λ (n : ℕ). take n (g .bring-home .last .1 .1 .0)) (sym e) ∙ g .bring-home .ensures .1
     ∙ ap (λ (n : ℕ). take n (pick (r .run-steps .result) (r .run-steps .last .1 .1 .1 .0) (r .run-steps .last .1 .1 .1 .1 .0))) e
     ∙ r .run-steps .ensures (h .0) (h .1) in
     promise _ _ _ Finished (λ i. j .before .before .slice-known .given i .fits)
     (finishes _ work spare (h .1) (w, q) (cleared-behind _ work _ _ _ e (sub-clear (c .before .before .before .before)) lw f (c .before .before .clear .ensures))
-    (g .bring-home .ensures .1 ∙ ap (λ (n : ℕ). replicate n 0) ls))
+    (g .bring-home .ensures .0 ∙ ap (λ (n : ℕ). replicate n 0) ls))
 
 pub run-spec : {M : Type 1} → statement M
 run-spec =

@@ -11,12 +11,12 @@ use Rattle.run.proofs.take_home.Statement.{statement}
 use Rattle.run.proofs.take_home.Tie as tie
 
 abbrev Inv-loop : tie.InvT-loop
-Inv-loop work₀ spare₀ t₀ work spare t =
-    (t ≤ length work₀) × (work ≡ tab t (λ k. getD spare₀ k 0) ++ drop t work₀) × (spare ≡ tab t (λ k. 0) ++ drop t spare₀)
+Inv-loop work₀ spare₀ i₀ work spare i =
+    (i ≤ length work₀) × (work ≡ tab i (λ k. getD spare₀ k 0) ++ drop i work₀) × (spare ≡ tab i (λ k. 0) ++ drop i spare₀)
     × (length work ≡ length work₀) × (length spare ≡ length spare₀)
 
 abbrev μ-loop : tie.MeasureT-loop
-μ-loop work₀ spare₀ t₀ work spare t = length work₀ - t
+μ-loop work₀ spare₀ i₀ work spare i = length work₀ - i
 
 loop-holds : tie.Need-loop-holds Inv-loop μ-loop
 loop-holds c = (omega arith, refl, refl, refl, refl)
@@ -39,8 +39,8 @@ mul-spare c = omega arith
 slice-write-spare : tie.Need-slice-write-spare Inv-loop μ-loop
 slice-write-spare c = omega arith
 
-add-t : tie.Need-add-t Inv-loop μ-loop
-add-t c = omega arith
+add-i : tie.Need-add-i Inv-loop μ-loop
+add-i c = omega arith
 
 loop-less : tie.Need-loop-less Inv-loop μ-loop
 loop-less c = omega arith
@@ -49,12 +49,12 @@ loop-again : tie.Need-loop-again Inv-loop μ-loop
 loop-again c =
     let l = c .before .before in
     let s = l .before in
-    let t = l .loop .t in
+    let i = l .loop .i in
     let word : ℕ → ℕ = λ k. getD (now (s .args .spare)) k 0 in
-    let v : getD (l .loop .spare) t 0 ≡ word t = ap (λ (b : List ℕ). getD b t 0) (l .loop .inv .2) ∙ front-behind (λ k. 0) (now (s .args .spare)) t in (
+    let v : getD (l .loop .spare) i 0 ≡ word i = ap (λ (b : List ℕ). getD b i 0) (l .loop .inv .2) ∙ front-behind (λ k. 0) (now (s .args .spare)) i in (
       omega arith,
-      ap₂ (λ (b : List ℕ) (w : ℕ). set b t w) (l .loop .inv .1) v ∙ front-step word (now (s .args .work)) t (omega arith),
-      rw (l .loop .inv .2) (front-step (λ k. 0) (now (s .args .spare)) t (omega arith)),
+      ap₂ (λ (b : List ℕ) (w : ℕ). set b i w) (l .loop .inv .1) v ∙ front-step word (now (s .args .work)) i (omega arith),
+      rw (l .loop .inv .2) (front-step (λ k. 0) (now (s .args .spare)) i (omega arith)),
       rw length-set (l .loop .inv .3),
       rw length-set (l .loop .inv .4),
     )
@@ -71,8 +71,8 @@ returns c =
     let s = l .before in
     let spare = now (s .args .spare) in
     let word : ℕ → ℕ = λ k. getD spare k 0 in (
-      l .loop .inv .1 ∙ front-full word (now (s .args .work)) (l .loop .t) (omega arith) ∙ ap (λ n. tab n word) (s .pre) ∙ sym (whole-tab spare),
-      l .loop .inv .2 ∙ front-full (λ k. 0) spare (l .loop .t) (omega arith) ∙ tab-same (length spare) 0,
+      l .loop .inv .1 ∙ front-full word (now (s .args .work)) (l .loop .i) (omega arith) ∙ ap (λ n. tab n word) (s .pre) ∙ sym (whole-tab spare),
+      l .loop .inv .2 ∙ front-full (λ k. 0) spare (l .loop .i) (omega arith) ∙ tab-same (length spare) 0,
     )
 
 pub take-home-spec : {M : Type 1} → statement M
@@ -88,7 +88,7 @@ take-home-spec =
     slice-write-work
     mul-spare
     slice-write-spare
-    add-t
+    add-i
     loop-less
     loop-again
     same-length
