@@ -19,6 +19,11 @@ ghost use Rattle.sums.specs.Sums.{Offsets, Behind, Group, Shared, Groups
 // The numbers of the digits of a group's axes, or of all devices.
 const ROOM: usize = 3 * rules::Axis::MOST;
 
+// A group of so many members is reduced in blocks of words, and the words of each shard in a block.
+const MANY: usize = 32;
+
+const BLOCK: usize = 256;
+
 // Adds the words of the shard at a to those of the shard at `at`, modulo 2^32.
 fn add_one(words: &mut [u32], at: usize, a: usize, m: usize)
     requires { ⌜ Behind at a m (length (now words)) ⌝ }
@@ -104,14 +109,39 @@ fn repeat_group(words: &mut [u32], shifts: &[usize], at: usize, m: usize)
     }
 }
 
-// One group: each member's shard becomes the sum over the group.
-fn reduce_group(words: &mut [u32], shifts: &[usize], at: usize, m: usize)
+// So many words of each shard of one group: they become the sum over the group.
+fn reduce_block(words: &mut [u32], shifts: &[usize], at: usize, m: usize)
     requires { ⌜ Group (now shifts) m at (length (now words)) ⌝ }
     ensures { λ _. ⌜ Shared (now (words .entry)) (now (shifts .entry)) at m (length (now (shifts .entry)))
         (groupWord (now (words .entry)) (now (shifts .entry)) at) (now (words .exit)) ⌝ }
 {
     sum_group(words, shifts, at, m);
     repeat_group(words, shifts, at, m);
+}
+
+// How many words of each shard are summed before the sum is repeated: with many members fewer, so that the shards are still in the cache.
+fn block_words(members: usize, left: usize) -> usize
+    requires { ⌜ 0 < left ⌝ }
+    ensures { λ r. ⌜ (0 < r) × (r ≤ left) ⌝ }
+{
+    if members < MANY {
+        return left;
+    }
+    if left < BLOCK { left } else { BLOCK }
+}
+
+// One group: each member's shard becomes the sum over the group.
+fn reduce_group(words: &mut [u32], shifts: &[usize], at: usize, m: usize)
+    requires { ⌜ Group (now shifts) m at (length (now words)) ⌝ }
+    ensures { λ _. ⌜ Shared (now (words .entry)) (now (shifts .entry)) at m (length (now (shifts .entry)))
+        (groupWord (now (words .entry)) (now (shifts .entry)) at) (now (words .exit)) ⌝ }
+{
+    let mut done: usize = 0;
+    while done < m {
+        let block = block_words(shifts.len(), m - done);
+        reduce_block(words, shifts, at + done, block);
+        done += block;
+    }
 }
 
 // All groups, each when the first of its members is met.
