@@ -7,7 +7,7 @@ ghost use lib.ListN.{length, take, drop};
 ghost use Rattle.strided.specs.Strided.{Row, Rows, Copy, Joining, Putting, Alike, Put, row, rows, copied};
 
 // The words of from.
-pub fn copy_run(to: &mut [u32], from: &[u32])
+fn copy_run(to: &mut [u32], from: &[u32])
     requires { ⌜ length (now to) ≡ length (now from) ⌝ }
     ensures { λ _. ⌜ now (to .exit) ≡ now (from .entry) ⌝ }
 {
