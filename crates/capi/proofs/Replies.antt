@@ -1,9 +1,9 @@
--- Laws of the boundary: what stands past the rank, the five lists one by one, their places, and the rank of an accepted plan. Assumes nothing.
-use Prim.Native.Nat.{ℕ, zero, suc, _+_, _*_, _<_, _≤_}
+-- Laws of the boundary: the five lists, all and one by one, their places, and the rank of an accepted plan. Assumes nothing.
+use Prim.Native.Nat.{ℕ, zero, suc, _+_, _*_, _/_, _%_, _<_, _≤_}
 use mathlib.Core.Path.{_≡_, refl, ap}
-use mathlib.Core.List.{List, []}
+use mathlib.Core.List.{List, [], _∷_, _++_, map}
 use native.Mathlib.Omega.{arith}
-use lib.ListN.{length, take, getD, length-take, List·getD-eq-default}
+use lib.ListN.{length, take, getD}
 use lib.Arith.{digits-div, digits-mod}
 use lib.Dec.{ltb, leb}
 use Rattle.rules.specs.Lists.{tab}
@@ -12,17 +12,25 @@ use Rattle.rules.specs.Mesh.{devices}
 use Rattle.rules.specs.Sharding.{Sharding}
 use Rattle.rules.specs.Refusals.{accept}
 use Rattle.rules.specs.PlanFile.{judge}
-use Rattle.rules.specs.Calls.{CheckAnswer, PlaceAnswer, checkOf, placeOf}
+use Rattle.rules.specs.Calls.{CheckAnswer, PlaceAnswer, fourPlaces, Past, checkOf, placeOf}
+use Rattle.rules.specs.Types.{axesOf, dimsOf, shardingOf}
+use Rattle.rules.specs.declared.Sharding as code
 use Rattle.rules.proofs.Lists.{tab-cong}
 use Rattle.rules.proofs.Judging.{accept-inj, bind-inv, need-inv}
 use Rattle.rules.proofs.Accepted.{accepted}
-use Rattle.capi.specs.Boundary.{listOf, axisIn}
-
--- nothing stands past the rank
-pub past : {A : Type 0} (rank : ℕ) (l : List A) (d : ℕ) (z : A) → rank ≤ d → getD (take rank l) d z ≡ z
-past rank l d z h = List·getD-eq-default (take rank l) z (omega (arith, length-take rank l))
+use Rattle.capi.specs.Boundary.{places, fiveLists, listOf, fiveCounts, axisIn, thirtyAxes}
 
 -- ---- the five lists
+
+-- past the rank there are none
+five-past : (rank : ℕ) (s : code.Sharding) → Past [] rank (dimsOf s) → fiveLists (shardingOf mostDims s) ≡ fiveLists (shardingOf rank s)
+five-past rank s e = ap (λ (ls : List (List ℕ)). fourPlaces [] (take mostDims ls) ++ axesOf (s .unreduced) ∷ []) e
+
+pub counts-past : (rank : ℕ) (s : code.Sharding) → Past [] rank (dimsOf s) → fiveCounts (shardingOf mostDims s) ≡ fiveCounts (shardingOf rank s)
+counts-past rank s e = ap (λ (ls : List (List ℕ)). map (λ (l : List ℕ). length l) ls) (five-past rank s e)
+
+pub axes-past : (rank : ℕ) (s : code.Sharding) → Past [] rank (dimsOf s) → thirtyAxes (shardingOf mostDims s) ≡ thirtyAxes (shardingOf rank s)
+axes-past rank s e = ap (λ (ls : List (List ℕ)). tab places (λ i. getD (getD ls (i / mostAxes) []) (i % mostAxes) 0)) (five-past rank s e)
 
 pub list-last : (s : Sharding) (d : ℕ) → d ≡ mostDims → s .unreduced ≡ listOf s d
 list-last s d e = rw e refl

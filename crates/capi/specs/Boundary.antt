@@ -7,7 +7,7 @@ use Rattle.rules.specs.Lists.{tab}
 use Rattle.rules.specs.Limits.{mostAxes, mostDims}
 use Rattle.rules.specs.Sharding.{Sharding}
 use Rattle.rules.specs.Refusals.{Judged, accept, refuse}
-use Rattle.rules.specs.Calls.{CheckAnswer, PlaceAnswer}
+use Rattle.rules.specs.Calls.{CheckAnswer, PlaceAnswer, fourPlaces}
 use Rattle.capi.specs.declared.CheckReply.{CheckReply}
 use Rattle.capi.specs.declared.PlaceReply.{PlaceReply}
 
@@ -23,13 +23,9 @@ lists = mostDims + 1
 abbrev pub places : ℕ
 places = lists * mostAxes
 
--- a number for each dimension, in four places; places not used are 0
-abbrev pub fourPlaces : List ℕ → List ℕ
-fourPlaces l = tab mostDims (λ d. getD l d 0)
-
 -- five lists: those of dimensions 0 to 3, no axes past the rank, then the unreduced axes
 abbrev pub fiveLists : Sharding → List (List ℕ)
-fiveLists s = tab mostDims (λ d. getD (s .dims) d []) ++ s .unreduced ∷ []
+fiveLists s = fourPlaces [] (s .dims) ++ s .unreduced ∷ []
 
 abbrev pub listOf : Sharding → ℕ → List ℕ
 listOf s d = getD (fiveLists s) d []
@@ -53,7 +49,7 @@ checkReply (accept a) = record {
   devices = a .devices;
   steps = a .steps;
   rank = a .rank;
-  shard = fourPlaces (a .shard);
+  shard = fourPlaces 0 (a .shard);
   counts = fiveCounts (a .sharding);
   axes = thirtyAxes (a .sharding);
 }
@@ -73,8 +69,8 @@ abbrev pub placeReply : Judged PlaceAnswer → PlaceReply
 placeReply (accept a) = record {
   refusal = 0;
   rank = a .rank;
-  shard = fourPlaces (a .shard);
-  first = fourPlaces (a .first);
+  shard = fourPlaces 0 (a .shard);
+  first = fourPlaces 0 (a .first);
   counts = fiveCounts (a .sharding);
   axes = thirtyAxes (a .sharding);
 }

@@ -1,14 +1,14 @@
 // The library's calls for C, Rust and Python; include/ishkrela.h declares them.
 // What they answer is defined in specs/Boundary.antt, from the definitions of the library's calls (rules/specs/Calls.antt).
 ghost use mathlib.Core.Path.{_≡_};
-ghost use Prim.Native.Nat.{_<_, _≤_, _+_, _*_};
-ghost use lib.ListN.{length, take, getD};
+ghost use Prim.Native.Nat.{_≤_, _+_, _*_};
+ghost use lib.ListN.{length, getD};
 ghost use Rattle.rules.specs.Lists.{tab};
 ghost use Rattle.rules.specs.Limits.{mostAxes, mostDims};
 ghost use Rattle.rules.specs.Refusals.{numberOf, refusedBy};
 ghost use Rattle.rules.specs.Types.{axesOf, shardingOf};
-ghost use Rattle.rules.specs.Calls.{checkOf, placeOf, groupsOf, groupsLeave, runOf, checkedBy, placedBy};
-ghost use Rattle.capi.specs.Boundary.{refusalCode, fourPlaces, listOf, fiveCounts, thirtyAxes, checkReply, placeReply};
+ghost use Rattle.rules.specs.Calls.{checkOf, placeOf, groupsOf, groupsLeave, runOf, checkedBy, placedBy, CheckedPast, PlacedPast};
+ghost use Rattle.capi.specs.Boundary.{refusalCode, listOf, fiveCounts, thirtyAxes, checkReply, placeReply};
 use ishkrela::Axis;
 use ishkrela::AxisList;
 use ishkrela::CheckOutcome;
@@ -62,56 +62,34 @@ fn code_of(refusal: Refusal) -> u32
     number as u32 + 256 * (refusal.step as u32)
 }
 
-// The number of a dimension, 0 past the rank.
-fn size_at(sizes: [u16; Dim::MOST], rank: usize, d: usize) -> u16
-    requires { ⌜ d < mostDims ⌝ }
-    ensures { λ r. ⌜ r ≡ getD (take rank sizes) d 0 ⌝ }
-{
-    if d < rank { sizes[d] } else { 0 }
-}
-
-fn four_places(sizes: [u16; Dim::MOST], rank: usize) -> [u16; Dim::MOST]
-    ensures { λ r. ⌜ r ≡ fourPlaces (take rank sizes) ⌝ }
-{
-    [
-        size_at(sizes, rank, 0),
-        size_at(sizes, rank, 1),
-        size_at(sizes, rank, 2),
-        size_at(sizes, rank, 3),
-    ]
-}
-
-// One of the five lists: that of a dimension, no axes past the rank; the unreduced axes last.
-fn list_of(sharding: Sharding, rank: usize, d: usize) -> AxisList
+// One of the five lists: that of a dimension, the unreduced axes last.
+fn list_of(sharding: Sharding, d: usize) -> AxisList
     requires { ⌜ d ≤ mostDims ⌝ }
-    ensures { λ r. ⌜ axesOf r ≡ listOf (shardingOf rank sharding) d ⌝ }
+    ensures { λ r. ⌜ axesOf r ≡ listOf (shardingOf mostDims sharding) d ⌝ }
 {
     if d == Dim::MOST {
         return sharding.unreduced;
     }
-    if d < rank {
-        return sharding.list(Dim(d as u8));
-    }
-    AxisList::empty()
+    sharding.list(Dim(d as u8))
 }
 
-fn count_of(sharding: Sharding, rank: usize, d: usize) -> u8
+fn count_of(sharding: Sharding, d: usize) -> u8
     requires { ⌜ d ≤ mostDims ⌝ }
-    ensures { λ r. ⌜ r ≡ length (listOf (shardingOf rank sharding) d) ⌝ }
+    ensures { λ r. ⌜ r ≡ length (listOf (shardingOf mostDims sharding) d) ⌝ }
 {
-    let list = list_of(sharding, rank, d);
+    let list = list_of(sharding, d);
     list.len() as u8
 }
 
-fn five_counts(sharding: Sharding, rank: usize) -> [u8; LISTS]
-    ensures { λ r. ⌜ r ≡ fiveCounts (shardingOf rank sharding) ⌝ }
+fn five_counts(sharding: Sharding) -> [u8; LISTS]
+    ensures { λ r. ⌜ r ≡ fiveCounts (shardingOf mostDims sharding) ⌝ }
 {
     [
-        count_of(sharding, rank, 0),
-        count_of(sharding, rank, 1),
-        count_of(sharding, rank, 2),
-        count_of(sharding, rank, 3),
-        count_of(sharding, rank, 4),
+        count_of(sharding, 0),
+        count_of(sharding, 1),
+        count_of(sharding, 2),
+        count_of(sharding, 3),
+        count_of(sharding, 4),
     ]
 }
 
@@ -128,15 +106,15 @@ fn put_axes(places: &mut [u8], list: AxisList)
     }
 }
 
-fn thirty_axes(sharding: Sharding, rank: usize) -> [u8; PLACES]
-    ensures { λ r. ⌜ r ≡ thirtyAxes (shardingOf rank sharding) ⌝ }
+fn thirty_axes(sharding: Sharding) -> [u8; PLACES]
+    ensures { λ r. ⌜ r ≡ thirtyAxes (shardingOf mostDims sharding) ⌝ }
 {
     let mut axes = [0u8; PLACES];
     let mut d: usize = 0;
     while d < LISTS {
         let first = d * Axis::MOST;
         let end = first + Axis::MOST;
-        put_axes(&mut axes[first..end], list_of(sharding, rank, d));
+        put_axes(&mut axes[first..end], list_of(sharding, d));
         d += 1;
     }
     axes
@@ -158,21 +136,19 @@ fn check_refused(refusal: Refusal) -> CheckReply
 }
 
 fn check_passed(totals: Totals, checked: Checked) -> CheckReply
-    requires { ⌜ totals .rank ≤ mostDims ⌝ }
+    requires { ⌜ (totals .rank ≤ mostDims) × CheckedPast (totals .rank) checked ⌝ }
     ensures { λ r. ⌜ r ≡ checkReply (checkedBy (CheckOutcome.Passed totals) checked) ⌝ }
 {
-    let rank = totals.rank;
     let sharding = checked.sharding;
-    let sizes = checked.shard;
-    let shard = four_places(sizes, rank);
-    let counts = five_counts(sharding, rank);
-    let axes = thirty_axes(sharding, rank);
+    let shard = checked.shard;
+    let counts = five_counts(sharding);
+    let axes = thirty_axes(sharding);
     CheckReply {
         refusal: 0,
         room: totals.room,
         devices: totals.devices,
         steps: totals.steps,
-        rank: rank as u16,
+        rank: totals.rank as u16,
         shard,
         counts,
         axes,
@@ -206,16 +182,14 @@ fn place_refused(refusal: Refusal) -> PlaceReply
 }
 
 fn place_found(rank: usize, placed: Placed) -> PlaceReply
-    requires { ⌜ rank ≤ mostDims ⌝ }
+    requires { ⌜ (rank ≤ mostDims) × PlacedPast rank placed ⌝ }
     ensures { λ r. ⌜ r ≡ placeReply (placedBy (PlaceOutcome.Found rank) placed) ⌝ }
 {
     let sharding = placed.sharding;
-    let sizes = placed.shard;
-    let indexes = placed.first;
-    let shard = four_places(sizes, rank);
-    let first = four_places(indexes, rank);
-    let counts = five_counts(sharding, rank);
-    let axes = thirty_axes(sharding, rank);
+    let shard = placed.shard;
+    let first = placed.first;
+    let counts = five_counts(sharding);
+    let axes = thirty_axes(sharding);
     PlaceReply {
         refusal: 0,
         rank: rank as u16,

@@ -1,16 +1,17 @@
 // Dimension by dimension: the tests and changes of one axis list for each dimension, and shard sizes. One loop over the dimensions each.
 ghost use mathlib.Core.Path.{_≡_};
-ghost use mathlib.Core.List.{List, _++_};
+ghost use mathlib.Core.List.{List, [], _++_};
 ghost use Prim.Native.Nat.{ℕ, _+_, _/_, _%_, _≤_, _<_};
 ghost use lib.Dec.{eqb};
-ghost use lib.ListN.{length, take};
+ghost use lib.ListN.{length, getD, take};
 ghost use Rattle.rules.specs.Lists.{both, flat, product};
 ghost use Rattle.rules.specs.Limits.{mostAxes, mostDims};
 ghost use Rattle.rules.specs.Mesh.{span as spanOf};
 ghost use Rattle.rules.specs.Sharding.{divisible as divisibleOf, shardSizes};
 ghost use Rattle.rules.specs.Collectives.{sliced as slicedOf, gathered as gatheredOf};
 ghost use Rattle.rules.specs.PlanFile.{some, allBelow, isTail};
-ghost use Rattle.rules.specs.Types.{dimsOf, shardingOf};
+ghost use Rattle.rules.specs.Types.{axesOf, dimsOf, shardingOf};
+ghost use Rattle.rules.specs.Calls.{Past};
 ghost use Rattle.axes.specs.Mesh.{meshOf, Sized};
 ghost use Rattle.axes.specs.Marks.{StandFor};
 ghost use Rattle.dims.specs.Dims.{sizesOf, Room};
@@ -209,4 +210,54 @@ pub fn words(table: Table) -> usize
         d += 1;
     }
     product
+}
+
+// The list of a dimension, no axes past the rank.
+fn list_at(sharding: Sharding, rank: usize, d: usize) -> AxisList
+    requires { ⌜ d < mostDims ⌝ }
+    ensures { λ r. ⌜ axesOf r ≡ getD (take rank (dimsOf sharding)) d [] ⌝ }
+{
+    if d < rank {
+        sharding.list(Dim(d as u8))
+    } else {
+        AxisList::empty()
+    }
+}
+
+// The sharding of a table of a rank, with no axes past it.
+pub fn lists_within(sharding: Sharding, rank: usize) -> Sharding
+    requires { ⌜ rank ≤ mostDims ⌝ }
+    ensures { λ r. ⌜ (shardingOf rank r ≡ shardingOf rank sharding) × Past [] rank (dimsOf r) ⌝ }
+{
+    let unreduced = sharding.unreduced;
+    Sharding {
+        dims: [
+            list_at(sharding, rank, 0),
+            list_at(sharding, rank, 1),
+            list_at(sharding, rank, 2),
+            list_at(sharding, rank, 3),
+        ],
+        unreduced,
+    }
+}
+
+// The size of a dimension, 0 past the rank.
+fn size_at(table: Table, d: usize) -> u16
+    requires { ⌜ d < mostDims ⌝ }
+    ensures { λ r. ⌜ r ≡ getD (sizesOf table) d 0 ⌝ }
+{
+    if d < table.rank { table.sizes[d] } else { 0 }
+}
+
+// The sizes of a table, 0 past the rank.
+pub fn sizes_within(table: Table) -> [u16; Dim::MOST]
+    requires { ⌜ table .rank ≤ mostDims ⌝ }
+    ensures { λ r. ⌜ (take (table .rank) r ≡ sizesOf table) × Past 0 (table .rank) r ⌝ }
+{
+    [
+        size_at(table, 0),
+        size_at(table, 1),
+        size_at(table, 2),
+        size_at(table, 3),
+    ]
 }

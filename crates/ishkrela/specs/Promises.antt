@@ -7,7 +7,21 @@ use lib.ListN.{take, drop}
 use Rattle.rules.specs.Lists.{All}
 use Rattle.rules.specs.Mesh.{devices, Rearrangement}
 use Rattle.rules.specs.Refusals.{accept, refuse}
-use Rattle.rules.specs.Calls.{checkOf, checkMeaning, placeOf, placeMeaning, groupsOf, groupsLeave, groupsMeaning}
+use Rattle.rules.specs.Calls.{
+  CheckAnswer,
+  CheckedPast,
+  CheckedNone,
+  PlaceAnswer,
+  PlacedPast,
+  PlacedNone,
+  checkOf,
+  checkMeaning,
+  placeOf,
+  placeMeaning,
+  groupsOf,
+  groupsLeave,
+  groupsMeaning,
+}
 use Rattle.rules.specs.Demands.{WholePlan, Spreadable, Locality}
 use Rattle.rules.specs.Ledger.{Holds, ledger}
 use Rattle.rules.specs.Refused.{refusals}
@@ -15,19 +29,20 @@ use Rattle.rules.specs.declared.Checked.{Checked}
 use Rattle.rules.specs.declared.Placed.{Placed}
 use Rattle.rules.specs.declared.GroupsOutcome.{GroupsOutcome}
 use Rattle.rules.specs.declared.RunOutcome.{RunOutcome}
-use Rattle.plan.specs.Parts.{Blank}
-use Rattle.place.specs.Placing.{Unplaced}
 use Rattle.run.specs.Promise as run
 
--- The check: its answer is the definition's. Beside a refusal all axes are replicated and all sizes 0.
+-- The check: its answer is the definition's. Past the rank its arrays have no axes and sizes 0; beside a refusal so has every place, and no axis is
+-- unreduced.
 pub record CheckPromise (file : List ℕ) (r : Checked) : Type 0 where
   pub answers : checkMeaning r ≡ checkOf file
-  pub blank : (n k : ℕ) → checkOf file ≡ refuse n k → Blank (r .sharding) (r .shard)
+  pub past : (a : CheckAnswer) → checkOf file ≡ accept a → CheckedPast (a .rank) r
+  pub blank : (n k : ℕ) → checkOf file ≡ refuse n k → CheckedNone r
 
--- The placement: its answer is the definition's. Beside a refusal all axes are replicated and all sizes and indexes 0.
+-- The placement: its answer is the definition's. Its arrays are as the check's; first indexes are 0 where sizes are.
 pub record PlacePromise (file : List ℕ) (state device : ℕ) (r : Placed) : Type 0 where
   pub answers : placeMeaning r ≡ placeOf file state device
-  pub blank : (n k : ℕ) → placeOf file state device ≡ refuse n k → Unplaced r
+  pub past : (a : PlaceAnswer) → placeOf file state device ≡ accept a → PlacedPast (a .rank) r
+  pub blank : (n k : ℕ) → placeOf file state device ≡ refuse n k → PlacedNone r
 
 -- The group listing: its answer and what it leaves are the definition's. "The D numbers are a rearrangement of 0 to D-1." "Entries after the first D
 -- stay." After a refusal all entries are as they were.

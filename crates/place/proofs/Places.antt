@@ -10,8 +10,8 @@ use lib.ListN.{length, getD, take}
 use lib.Dec.{leb, ltb}
 use Rattle.rules.specs.Lists.{product, Below}
 use Rattle.rules.specs.Mesh.{span, position, devices, deviceCoords}
-use Rattle.rules.specs.Sharding.{firstIndexes}
-use Rattle.rules.specs.Limits.{mostDims, mostWords}
+use Rattle.rules.specs.Sharding.{Sharding, firstIndexes}
+use Rattle.rules.specs.Limits.{mostWords}
 use Rattle.rules.specs.Refusals.{Judged, accept, refuse, _>>=_, _>>_, need, refusedBy}
 use Rattle.rules.specs.PlanFile.{Plan, judge, announced, announcedShape}
 use Rattle.rules.specs.Types.{shardingOf, dimsOf}
@@ -30,7 +30,7 @@ use Rattle.reader.specs.declared.Next.the-variants as next
 use Rattle.axes.specs.Mesh.{meshOf}
 use Rattle.dims.specs.Dims.{sizesOf}
 use Rattle.mesh.specs.Fitting.{IsDevice}
-use Rattle.plan.specs.Parts.{StateAnswer, stateOf, stateBy, stateMeaning}
+use Rattle.plan.specs.Parts.{StateAnswer, stateOf, stateBy, stateMeaning, Shaped}
 use Rattle.plan.specs.declared.State as code
 use Rattle.place.specs.Placing.{Placing}
 
@@ -75,7 +75,6 @@ state-inv file k a e =
 Within : StateAnswer → ℕ → Type 0
 Within a d =
     IsDevice (a .mesh) d × ((j : ℕ) → position (a .mesh) (getD (a .sharding .dims) j []) (deviceCoords (a .mesh) d) * getD (a .shard) j 0 ≤ mostWords)
-    × (a .rank ≤ mostDims)
 
 within : (file : List ℕ) (k d : ℕ) (a : StateAnswer) → stateOf file k ≡ accept a → d < a .devices → Within a d
 unfolding announcedShape Within
@@ -88,17 +87,16 @@ within file k d a e l =
     subst (λ (z : StateAnswer). Within z d) (i .2) (
       record { fits = record { some = g .within .devices-pos; few = g .within .devices-few }; below = lt },
       λ j. le-trans (blocks-few (p .mesh) c (below-coords (p .mesh) d lt) (g .within .words-pos) j) (g .within .words-few),
-      g .within .rank-few,
     )
 
-pub placing : (file : List ℕ) (k d : ℕ) (r : code.State) {at : ℕ} → stateMeaning r ≡ stateOf file k → r .shard .rank ≡ r .table .rank → r .next ≡ next.At at
+pub placing : (file : List ℕ) (k d : ℕ) (r : code.State) {at : ℕ} → stateMeaning r ≡ stateOf file k → Shaped r → r .next ≡ next.At at
     → d < r .devices → Placing (meshOf (r .mesh)) (r .sharding) (r .shard) d
 unfolding Within
 placing file k d r e s h l =
     let w = within file k d _ (sym e ∙ ap (λ (x : Next). stateBy x r) h) l in
     let mesh = meshOf (r .mesh) in
     let Few : ℕ → Type 0 = λ n. (j : ℕ) → position mesh (getD (take n (dimsOf (r .sharding))) j []) (deviceCoords mesh d) * getD (sizesOf (r .shard)) j 0 ≤ mostWords in
-    record { device = w .0; rank = rw s (w .2); few = subst Few (sym s) (w .1) }
+    record { device = w .0; rank = s .rank-few; few = subst Few (sym (s .rank-is)) (w .1) }
 
 -- ---- the placement is a state and a device
 
@@ -133,16 +131,12 @@ module _ (file : List ℕ) (k d : ℕ) (r : code.State) (e : stateMeaning r ≡ 
     unfolding placedIn
     no-device l = place-by-state file k d ∙ rw (← e, h) (simp (le-ltb d (r .devices) l))
 
-    pub place-found : d < r .devices → r .shard .rank ≡ r .table .rank → (first : List ℕ)
+    pub place-found : d < r .devices → r .shard .rank ≡ r .table .rank → (sharding : Sharding) → sharding ≡ shardingOf (r .shard .rank) (r .sharding)
+        → (shard : List ℕ) → shard ≡ sizesOf (r .shard) → (first : List ℕ)
         → first ≡ firstIndexes (meshOf (r .mesh)) (take (r .shard .rank) (dimsOf (r .sharding))) (sizesOf (r .shard)) (deviceCoords (meshOf (r .mesh)) d)
-        → _≡_ {A = Judged PlaceAnswer} (accept (record {
-          rank = r .shard .rank;
-          sharding = shardingOf (r .shard .rank) (r .sharding);
-          shard = sizesOf (r .shard);
-          first = first;
-        })) (placeOf file k d)
+        → _≡_ {A = Judged PlaceAnswer} (accept (record { rank = r .shard .rank; sharding = sharding; shard = shard; first = first })) (placeOf file k d)
     unfolding placedIn
-    place-found l s first q =
+    place-found l s sharding u shard v first q =
         let mesh = meshOf (r .mesh) in
         let lists : ℕ → List (List ℕ) = λ n. take n (dimsOf (r .sharding)) in
         let indexes : ℕ → List ℕ = λ n. firstIndexes mesh (lists n) (sizesOf (r .shard)) (deviceCoords mesh d) in
@@ -154,7 +148,7 @@ module _ (file : List ℕ) (k d : ℕ) (r : code.State) (e : stateMeaning r ≡ 
         }) = place-by-state file k d ∙ rw (← e, h) (simp (lt-ltb d (r .devices) l)) in
         (λ i. accept (record {
           rank = s i;
-          sharding = shardingOf (s i) (r .sharding);
-          shard = sizesOf (r .shard);
+          sharding = (u ∙ ap (λ (n : ℕ). shardingOf n (r .sharding)) s) i;
+          shard = v i;
           first = (q ∙ ap indexes s) i;
         })) ∙ sym answer

@@ -1,24 +1,17 @@
--- What the first indexes ask for, and what stands beside a refusal. Assumes nothing.
+-- What the first indexes ask for. Assumes nothing.
 use Prim.Native.Nat.{ℕ, _*_, _≤_}
-use mathlib.Core.Path.{_≡_}
 use mathlib.Core.List.{List, []}
-use lib.ListN.{getD, take, replicate}
+use lib.ListN.{getD, take}
 use Rattle.rules.specs.Mesh.{position, deviceCoords}
 use Rattle.rules.specs.Limits.{mostDims, mostWords}
 use Rattle.rules.specs.Types.{dimsOf}
-use Rattle.rules.specs.declared.Placed.{Placed}
 use Rattle.rules.specs.declared.Sharding as code
 use Rattle.rules.specs.declared.Table.{Table}
 use Rattle.dims.specs.Dims.{sizesOf}
 use Rattle.mesh.specs.Fitting.{IsDevice}
-use Rattle.plan.specs.Parts.{Blank}
 
 -- a device of the mesh, and shard sizes whose blocks end within the table
 pub record Placing (mesh : List ℕ) (sharding : code.Sharding) (shard : Table) (d : ℕ) : Type 0 where
   pub device : IsDevice mesh d
   pub rank : shard .rank ≤ mostDims
   pub few : (j : ℕ) → position mesh (getD (take (shard .rank) (dimsOf sharding)) j []) (deviceCoords mesh d) * getD (sizesOf shard) j 0 ≤ mostWords
-
--- beside a refusal: all axes replicated, all sizes and indexes 0
-abbrev pub Unplaced : Placed → Type 0
-Unplaced r = Blank (r .sharding) (r .shard) × (r .first ≡ replicate mostDims 0)

@@ -6,11 +6,13 @@ ghost use lib.ListN.{take};
 ghost use Rattle.rules.specs.Mesh.{deviceCoords};
 ghost use Rattle.rules.specs.Sharding.{firstIndexes};
 ghost use Rattle.rules.specs.Limits.{mostWords};
-ghost use Rattle.rules.specs.Refusals.{refuse, refusedBy};
+ghost use Rattle.rules.specs.Refusals.{accept, refuse, refusedBy};
 ghost use Rattle.rules.specs.Types.{dimsOf};
-ghost use Rattle.rules.specs.Calls.{placeMeaning, placeOf};
+ghost use Rattle.rules.specs.Calls.{PlaceAnswer, PlacedPast, PlacedNone, placeMeaning, placeOf};
 ghost use Rattle.dims.specs.Dims.{sizesOf};
-ghost use Rattle.place.specs.Placing.{Placing, Unplaced};
+ghost use Rattle.place.specs.Placing.{Placing};
+use dims::lists_within;
+use dims::sizes_within;
 use mesh::position_of;
 use plan::State;
 use plan::state_after;
@@ -53,7 +55,7 @@ fn first_indexes(mesh: &[u16], sharding: Sharding, shard: Table, device: Device)
 
 // No lists, no sizes and no indexes, beside a refusal.
 fn refused(refusal: Refusal) -> Placed
-    ensures { λ r. ⌜ (placeMeaning r ≡ refusedBy refusal) × Unplaced r ⌝ }
+    ensures { λ r. ⌜ (placeMeaning r ≡ refusedBy refusal) × PlacedNone r ⌝ }
 {
     let sharding = Sharding::replicated();
     Placed {
@@ -67,7 +69,8 @@ fn refused(refusal: Refusal) -> Placed
 // The placement: the file's refusal, then 34, then 32; or the state's sharding, its shard sizes and the device's first indexes.
 pub fn place(file: &[u8], state: u16, device: Device) -> Placed
     ensures { λ r. ⌜ placeMeaning r ≡ placeOf (now (file .entry)) state (device .0) ⌝ }
-    ensures { λ r. ⌜ ((n k : ℕ) → placeOf (now (file .entry)) state (device .0) ≡ refuse n k → Unplaced r) ⌝ }
+    ensures { λ r. ⌜ ((a : PlaceAnswer) → placeOf (now (file .entry)) state (device .0) ≡ accept a → PlacedPast (a .rank) r) ⌝ }
+    ensures { λ r. ⌜ ((n k : ℕ) → placeOf (now (file .entry)) state (device .0) ≡ refuse n k → PlacedNone r) ⌝ }
 {
     let found = state_after(file, state as usize);
     let next = found.next;
@@ -80,15 +83,16 @@ pub fn place(file: &[u8], state: u16, device: Device) -> Placed
     }
     let n = found.mesh.n;
     let mesh = found.mesh.sizes;
-    let sharding = found.sharding;
-    let shard = found.shard;
-    let first = first_indexes(&mesh[..n], sharding, shard, device);
-    let sizes = shard.sizes;
-    let indexes = first.sizes;
+    let announced = found.sharding;
+    let sizes = found.shard;
+    let indexes = first_indexes(&mesh[..n], announced, sizes, device);
+    let sharding = lists_within(announced, sizes.rank);
+    let shard = sizes_within(sizes);
+    let first = sizes_within(indexes);
     Placed {
-        outcome: PlaceOutcome::Found(shard.rank),
+        outcome: PlaceOutcome::Found(sizes.rank),
         sharding,
-        shard: sizes,
-        first: indexes,
+        shard,
+        first,
     }
 }

@@ -1,9 +1,9 @@
 -- What the parts of the check (src/lib.rt) answer, in the rules' own judgements: the sizes, what stands before the steps, one step taken, so many
--- steps in turn. And what stands beside a refusal. Assumes nothing.
+-- steps in turn. Assumes nothing.
 use Prim.Native.Nat.{ℕ, _+_, _*_, _≤_}
 use mathlib.Core.Path.{_≡_}
-use mathlib.Core.List.{List, []}
-use lib.ListN.{length, take, replicate}
+use mathlib.Core.List.{List}
+use lib.ListN.{length, take}
 use lib.Dec.{leb}
 use Rattle.rules.specs.Lists.{tab, inTurn, product, largest}
 use Rattle.rules.specs.Mesh.{devices}
@@ -12,9 +12,8 @@ use Rattle.rules.specs.Collectives.{Step, after}
 use Rattle.rules.specs.Limits.{mostAxes, mostDevices, mostWords, mostDims, mostSteps}
 use Rattle.rules.specs.Refusals.{Judged, accept, _>>=_, _>>_, need, refusedBy}
 use Rattle.rules.specs.PlanFile.{Read, meshOffset, tensorOffset, stepCount, sizesAt, stepAt, judgeStep, stepsAt, Front, judgeFront, Plan, judge, announced, announcedShape, room}
-use Rattle.rules.specs.Types.{axesOf, dimsOf, shardingOf, stepOf}
+use Rattle.rules.specs.Types.{dimsOf, shardingOf, stepOf}
 use Rattle.rules.specs.Calls.{CheckAnswer}
-use Rattle.rules.specs.declared.Sharding as code
 use Rattle.reader.specs.Reading.{reading, headerOf}
 use Rattle.reader.specs.declared.Header.{Header}
 use Rattle.reader.specs.declared.Next.{Next}
@@ -170,14 +169,6 @@ pub record Bounded (w : Whole) : Type 0 where
   pub steps-few : w .steps ≤ mostSteps
   pub room-few : w .devices * w .most ≤ mostDevices * mostWords
 
--- ---- beside a refusal
-
--- all axes replicated, all sizes 0
-pub record Blank (s : code.Sharding) (shard : List ℕ) : Type 0 where
-  pub dims : dimsOf s ≡ replicate mostDims []
-  pub unreduced : axesOf (s .unreduced) ≡ []
-  pub sizes : shard ≡ replicate mostDims 0
-
 -- ---- a state
 
 -- the announced sharding and shard sizes after k steps
@@ -220,4 +211,5 @@ stateMeaning r = stateBy (r .next) r
 -- the places of a state's mesh and shard, refused or not
 pub record Shaped (r : State) : Type 0 where
   pub rank-is : r .shard .rank ≡ r .table .rank
+  pub rank-few : r .shard .rank ≤ mostDims
   pub axes-few : r .mesh .n ≤ mostAxes

@@ -9,14 +9,16 @@ ghost use Rattle.rules.specs.Refusals.{accept, refuse, refusedBy};
 ghost use Rattle.rules.specs.PlanFile.{stepCount, judgeFront};
 ghost use Rattle.rules.specs.Sharding.{shardSizes};
 ghost use Rattle.rules.specs.Types.{dimsOf, shardingOf};
-ghost use Rattle.rules.specs.Calls.{checkMeaning, checkOf};
+ghost use Rattle.rules.specs.Calls.{CheckAnswer, CheckedPast, CheckedNone, checkMeaning, checkOf};
 ghost use Rattle.reader.specs.Reading.{headerOf};
 ghost use Rattle.axes.specs.Mesh.{meshOf};
 ghost use Rattle.dims.specs.Dims.{sizesOf};
 ghost use Rattle.judge.specs.Step.{Ready};
-ghost use Rattle.plan.specs.Parts.{shapeAt, shapeRead, openRead, Counts, Opens, Counted, takeStep, takenRead, walkAt, walkRead, Judges, Keeps, Bounded, answerOf, Blank, stateOf, stateMeaning, Shaped};
+ghost use Rattle.plan.specs.Parts.{shapeAt, shapeRead, openRead, Counts, Opens, Counted, takeStep, takenRead, walkAt, walkRead, Judges, Keeps, Bounded, answerOf, stateOf, stateMeaning, Shaped};
 use axes::Mesh;
+use dims::lists_within;
 use dims::shard_of;
+use dims::sizes_within;
 use dims::span_dims;
 use dims::words;
 use judge::judge_step;
@@ -435,7 +437,7 @@ pub fn judge_file(file: &[u8]) -> Whole
 
 // No lists and no sizes, beside a refusal.
 fn refused(refusal: Refusal) -> Checked
-    ensures { λ r. ⌜ (checkMeaning r ≡ refusedBy refusal) × Blank (r .sharding) (r .shard) ⌝ }
+    ensures { λ r. ⌜ (checkMeaning r ≡ refusedBy refusal) × CheckedNone r ⌝ }
 {
     let sharding = Sharding::replicated();
     Checked {
@@ -448,13 +450,13 @@ fn refused(refusal: Refusal) -> Checked
 // The answer for a plan that passed.
 fn passed(whole: Whole) -> Checked
     requires { ⌜ Bounded whole ⌝ }
-    ensures { λ r. ⌜ checkMeaning r ≡ accept (answerOf whole) ⌝ }
+    ensures { λ r. ⌜ (checkMeaning r ≡ accept (answerOf whole)) × CheckedPast (whole .table .rank) r ⌝ }
 {
     let mesh = whole.mesh;
     let table = whole.table;
-    let sharding = whole.last;
-    let shard = shard_of(table, sharding, mesh);
-    let sizes = shard.sizes;
+    let last = whole.last;
+    let shard = sizes_within(shard_of(table, last, mesh));
+    let sharding = lists_within(last, table.rank);
     let room = whole.devices * whole.most;
     let totals = Totals {
         room: room as u32,
@@ -465,14 +467,15 @@ fn passed(whole: Whole) -> Checked
     Checked {
         outcome: CheckOutcome::Passed(totals),
         sharding,
-        shard: sizes,
+        shard,
     }
 }
 
 // The check: the room, D, the number of steps, the rank, the final sharding and its shard sizes, or the refusal.
 pub fn check(file: &[u8]) -> Checked
     ensures { λ r. ⌜ checkMeaning r ≡ checkOf (now (file .entry)) ⌝ }
-    ensures { λ r. ⌜ ((n k : ℕ) → checkOf (now (file .entry)) ≡ refuse n k → Blank (r .sharding) (r .shard)) ⌝ }
+    ensures { λ r. ⌜ ((a : CheckAnswer) → checkOf (now (file .entry)) ≡ accept a → CheckedPast (a .rank) r) ⌝ }
+    ensures { λ r. ⌜ ((n k : ℕ) → checkOf (now (file .entry)) ≡ refuse n k → CheckedNone r) ⌝ }
 {
     let whole = judge_file(file);
     let next = whole.next;

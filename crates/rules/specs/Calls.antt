@@ -2,18 +2,19 @@
 -- Assumes nothing.
 use Prim.Native.Nat.{ℕ, _+_, _-_}
 use mathlib.Core.Bool.{false}
+use mathlib.Core.Path.{_≡_}
 use mathlib.Core.List.{List, [], _++_}
-use lib.ListN.{length, take, drop, replicate}
+use lib.ListN.{length, getD, take, drop, replicate}
 use lib.Dec.{ltb, leb}
-use Rattle.rules.specs.Lists.{inTurn}
+use Rattle.rules.specs.Lists.{tab, inTurn}
 use Rattle.rules.specs.Mesh.{devices, deviceCoords, listing}
 use Rattle.rules.specs.Sharding.{Sharding, firstIndexes}
 use Rattle.rules.specs.Spread.{tabulate, held, addWords}
 use Rattle.rules.specs.Collectives.{Shards, stepped}
-use Rattle.rules.specs.Limits.{mostDevices}
+use Rattle.rules.specs.Limits.{mostDevices, mostDims}
 use Rattle.rules.specs.Refusals.{Judged, accept, refuse, _>>=_, _>>_, need, refusedBy}
 use Rattle.rules.specs.PlanFile.{Plan, judge, axesAllowed, judgeSizes, judgeAxes, announced, announcedShape, room}
-use Rattle.rules.specs.Types.{shardingOf}
+use Rattle.rules.specs.Types.{axesOf, dimsOf, shardingOf}
 use Rattle.rules.specs.declared.Checked.{Checked}
 use Rattle.rules.specs.declared.CheckOutcome.{CheckOutcome}
 use Rattle.rules.specs.declared.CheckOutcome.the-variants as check
@@ -24,6 +25,16 @@ use Rattle.rules.specs.declared.GroupsOutcome.{GroupsOutcome}
 use Rattle.rules.specs.declared.GroupsOutcome.the-variants as groups
 use Rattle.rules.specs.declared.RunOutcome.{RunOutcome}
 use Rattle.rules.specs.declared.RunOutcome.the-variants as run
+
+-- ---- the arrays beside an outcome
+
+-- an entry for each of four dimensions, z past the list's end
+abbrev pub fourPlaces : {A : Type 0} → A → List A → List A
+fourPlaces z l = tab mostDims (λ d. getD l d z)
+
+-- the places of an array past the rank hold z
+abbrev pub Past : {A : Type 0} → A → ℕ → List A → Type 0
+Past z rank l = l ≡ fourPlaces z (take rank l)
 
 -- ---- the check
 
@@ -63,6 +74,15 @@ checkedBy (check.Refused r) c = refusedBy r
 abbrev pub checkMeaning : Checked → Judged CheckAnswer
 checkMeaning c = checkedBy (c .outcome) c
 
+-- past the rank there are no axes, and sizes are 0
+pub record CheckedPast (rank : ℕ) (c : Checked) : Type 0 where
+  pub lists : Past [] rank (dimsOf (c .sharding))
+  pub sizes : Past 0 rank (c .shard)
+
+-- beside a refusal: all axes replicated, all sizes 0
+abbrev pub CheckedNone : Checked → Type 0
+CheckedNone c = CheckedPast 0 c × (axesOf (c .sharding .unreduced) ≡ [])
+
 -- ---- the placement
 
 -- "The placement call takes a file, a state number (0 is the start) and a device, and returns that state's sharding and shard sizes, and the device's
@@ -97,6 +117,16 @@ placedBy (place.Refused r) c = refusedBy r
 
 abbrev pub placeMeaning : Placed → Judged PlaceAnswer
 placeMeaning c = placedBy (c .outcome) c
+
+-- past the rank there are no axes, and sizes and first indexes are 0
+pub record PlacedPast (rank : ℕ) (c : Placed) : Type 0 where
+  pub lists : Past [] rank (dimsOf (c .sharding))
+  pub sizes : Past 0 rank (c .shard)
+  pub indexes : Past 0 rank (c .first)
+
+-- beside a refusal: all axes replicated, all sizes and first indexes 0
+abbrev pub PlacedNone : Placed → Type 0
+PlacedNone c = PlacedPast 0 c × (axesOf (c .sharding .unreduced) ≡ [])
 
 -- ---- the group listing
 

@@ -1,10 +1,8 @@
 use borrow.Author.Needs.{needs}
-use mathlib.Core.Path.{refl}
+use mathlib.Core.Path.{_∙_}
+use Rattle.capi.proofs.Replies.{counts-past, axes-past}
 use Rattle.capi.proofs.check_passed.Statement.{statement}
 use Rattle.capi.proofs.check_passed.Tie as tie
-
-four-places-requires : tie.Need-four-places-requires
-four-places-requires c κs = search needs
 
 five-counts-requires : tie.Need-five-counts-requires
 five-counts-requires c κs = search needs
@@ -12,14 +10,26 @@ five-counts-requires c κs = search needs
 thirty-axes-requires : tie.Need-thirty-axes-requires
 thirty-axes-requires c κs = search needs
 
-cast-t9 : tie.Need-cast-t9
-cast-t9 c = search needs
+cast-t7 : tie.Need-cast-t7
+cast-t7 c = search needs
 
 returns : tie.Need-returns
 returns c =
-    rw (c .before .before .four-places .ensures, c .before .five-counts .ensures, c .thirty-axes .ensures) refl
+    let s = c .before .before .before .before .before in
+    let t = s .args .totals in
+    let past = s .pre .1 in
+    (λ i. record {
+      refusal = 0;
+      room = t .room;
+      devices = t .devices;
+      steps = t .steps;
+      rank = t .rank;
+      shard = past .sizes i;
+      counts = (c .before .before .five-counts .ensures ∙ counts-past (t .rank) (s .args .checked .sharding) (past .lists)) i;
+      axes = (c .before .thirty-axes .ensures ∙ axes-past (t .rank) (s .args .checked .sharding) (past .lists)) i;
+    })
 
 pub check-passed-spec : {M : Type 1} → statement M
 check-passed-spec =
     tie.close
-    (tie.spec four-places-requires five-counts-requires thirty-axes-requires cast-t9 returns)
+    (tie.spec five-counts-requires thirty-axes-requires cast-t7 returns)

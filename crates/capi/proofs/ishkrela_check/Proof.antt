@@ -16,7 +16,8 @@ enum-known-outcome c = search needs
 check-passed-requires : tie.Need-check-passed-requires
 check-passed-requires c κs =
     let k = c .before .before .before .check in
-    check-rank _ _ (sym (k .ensures .answers) ∙ ap (λ (o : CheckOutcome). checkedBy o (k .result)) (c .before .outcome .given .1))
+    let e = sym (k .ensures .answers) ∙ ap (λ (o : CheckOutcome). checkedBy o (k .result)) (c .before .outcome .given .1) in
+    (check-rank _ _ e, k .ensures .past _ e)
 
 enum-known-outcome-2 : tie.Need-enum-known-outcome-2
 enum-known-outcome-2 c = search needs

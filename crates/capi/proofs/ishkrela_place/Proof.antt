@@ -16,7 +16,8 @@ enum-known-outcome c = search needs
 place-found-requires : tie.Need-place-found-requires
 place-found-requires c κs =
     let k = c .before .before .before .place in
-    place-rank _ _ _ _ (sym (k .ensures .answers) ∙ ap (λ (o : PlaceOutcome). placedBy o (k .result)) (c .before .outcome .given .1))
+    let e = sym (k .ensures .answers) ∙ ap (λ (o : PlaceOutcome). placedBy o (k .result)) (c .before .outcome .given .1) in
+    (place-rank _ _ _ _ e, k .ensures .past _ e)
 
 enum-known-outcome-2 : tie.Need-enum-known-outcome-2
 enum-known-outcome-2 c = search needs

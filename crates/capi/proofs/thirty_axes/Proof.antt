@@ -6,7 +6,7 @@ use mathlib.Core.List.{_++_}
 use lib.ListN.{drop, replicate, length}
 use borrow.Rule.Slice.PartMut.{same-len-mid}
 use Rattle.rules.specs.Lists.{tab}
-use Rattle.rules.specs.Limits.{mostAxes}
+use Rattle.rules.specs.Limits.{mostAxes, mostDims}
 use Rattle.rules.specs.Types.{axesOf, shardingOf}
 use Rattle.rules.proofs.Fronts.{front-part, part-cut, part-length, next-part}
 use Rattle.groups.proofs.Lists.{Filling}
@@ -16,10 +16,10 @@ use Rattle.capi.proofs.thirty_axes.Statement.{statement}
 use Rattle.capi.proofs.thirty_axes.Tie as tie
 
 abbrev Inv-loop : tie.InvT-loop
-Inv-loop sharding rank axes₀ d₀ axes d = Filling (axisIn (shardingOf rank sharding)) axes₀ axes (d * mostAxes) × (length axes₀ ≡ places) × (d ≤ lists)
+Inv-loop sharding axes₀ d₀ axes d = Filling (axisIn (shardingOf mostDims sharding)) axes₀ axes (d * mostAxes) × (length axes₀ ≡ places) × (d ≤ lists)
 
 abbrev μ-loop : tie.MeasureT-loop
-μ-loop sharding rank axes₀ d₀ axes d = lists - d
+μ-loop sharding axes₀ d₀ axes d = lists - d
 
 loop-holds : tie.Need-loop-holds Inv-loop μ-loop
 loop-holds c = (record { same = refl; long = refl }, refl, omega arith)
@@ -59,7 +59,7 @@ loop-again c =
     let a = l .before .args in
     let g = l .loop .inv in
     let at = l .loop .d * mostAxes in
-    let s = shardingOf (a .rank) (a .sharding) in
+    let s = shardingOf mostDims (a .sharding) in
     let o = c .before .before .list-of in
     let r = c .before .put-axes in (
       record {
@@ -77,7 +77,7 @@ returns c =
     let l = c .before .loop in
     let a = c .before .before .args in
     let all : l .d ≡ lists = omega arith in
-    l .inv .0 .same ∙ ap (λ (k : ℕ). tab (k * mostAxes) (axisIn (shardingOf (a .rank) (a .sharding))) ++ drop (k * mostAxes) (replicate places 0)) all
+    l .inv .0 .same ∙ ap (λ (k : ℕ). tab (k * mostAxes) (axisIn (shardingOf mostDims (a .sharding))) ++ drop (k * mostAxes) (replicate places 0)) all
 
 pub thirty-axes-spec : {M : Type 1} → statement M
 thirty-axes-spec =

@@ -1,4 +1,5 @@
 use borrow.Author.Needs.{needs}
+use native.Mathlib.Omega.{arith}
 use mathlib.Core.Path.{sym, _∙_}
 use Rattle.plan.proofs.Wholes.{plan-held, whole-stopped, bounded}
 use Rattle.plan.proofs.States.{state-stops, no-such-state, state-is}
@@ -46,9 +47,10 @@ returns-3 c =
     let i = c .before .before .before .before in
     let t = i .before .before .before in
     let j = t .before .before .judge-keeping .ensures in
-    let h = plan-held _ _ (j .0) (t .next .given .1) in (
+    let h = plan-held _ _ (j .0) (t .next .given .1) in
+    let f = bounded _ h .fits in (
       state-is _ _ h (i .if1 .left) (j .1) (c .shard-of .result) (c .shard-of .ensures .1),
-      record { rank-is = c .shard-of .ensures .0; axes-few = bounded _ h .fits .axes },
+      record { rank-is = c .shard-of .ensures .0; rank-few = omega (arith, c .shard-of .ensures .0, f .rank); axes-few = f .axes },
     )
 
 pub state-after-spec : {M : Type 1} → statement M
