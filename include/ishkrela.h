@@ -82,6 +82,7 @@
  *
  * All memory is the caller's. It is used during the call only; nothing is allocated or kept. On a
  * refusal every other field of the answer is 0, and memory lent for writing is as it was.
+ * Compare two answers field by field, not as bytes: what lies between fields has no value.
  *
  * A pointer and the length after it, which counts elements and not bytes, are a slice: the pointer
  * is aligned for its type, and that many elements may be read (and written, where it is not const)

@@ -11,6 +11,8 @@ use Rattle.rules.specs.Refused as files
 use Rattle.rules.specs.declared.GroupsOutcome.{GroupsOutcome}
 use Rattle.rules.proofs.Whole as whole
 use Rattle.rules.proofs.Locality as local
+use Rattle.rules.proofs.Groups as group
+use Rattle.rules.proofs.Sums as sums
 use Rattle.groups.proofs.Listing.{lists-all}
 use Rattle.ishkrela.specs.Promises.{GroupsPromise, RulesPromise}
 
@@ -34,6 +36,8 @@ rules-promise = record {
   whole-plan = whole.whole-plan;
   spreadable = whole.spreadable;
   locality = local.locality;
+  group-by-position = λ mesh L distinct of-axes x b. group.group-by-position mesh L distinct of-axes b;
+  sum-of-words = sums.addWords-total;
   worked = table.worked;
   refused = files.refused;
 }

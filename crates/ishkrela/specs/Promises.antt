@@ -1,5 +1,5 @@
 -- The promises of the library's four calls, on any input; then what the rules promise of themselves (`RulesPromise`; proofs/Promises.antt proves it).
--- Definitions are in crates/rules/specs. Assumes nothing.
+-- Definitions are in crates/rules/specs. `file`, `mesh` and `axes` are lent with `&`, so no call can change them. Assumes nothing.
 use Prim.Native.Nat.{ℕ}
 use mathlib.Core.Path.{_≡_}
 use mathlib.Core.List.{List}
@@ -22,7 +22,7 @@ use Rattle.rules.specs.Calls.{
   groupsLeave,
   groupsMeaning,
 }
-use Rattle.rules.specs.Demands.{WholePlan, Spreadable, Locality}
+use Rattle.rules.specs.Demands.{WholePlan, Spreadable, Locality, GroupByPosition, SumOfWords}
 use Rattle.rules.specs.Ledger.{Holds, ledger}
 use Rattle.rules.specs.Refused.{refusals}
 use Rattle.rules.specs.declared.Checked.{Checked}
@@ -60,11 +60,13 @@ pub record GroupsPromise (mesh axes out : List ℕ) (r : GroupsOutcome) (outAfte
 abbrev pub RunPromise : (file work spare : List ℕ) → RunOutcome → (workAfter spareAfter : List ℕ) → Type 0
 RunPromise file work spare r workAfter spareAfter = run.RunPromise file work spare r workAfter spareAfter
 
--- What the rules promise of themselves: demand 3 for every plan that passes, and that it speaks of something; a step's locality; the ledger W1 to W10;
--- a file for each refusal number.
+-- What the rules promise of themselves: demand 3 for every plan that passes, and that it speaks of something; a step's locality; what a group and a
+-- sum of words are; the ledger W1 to W10; a file for each refusal number.
 pub record RulesPromise : Type 1 where
   pub whole-plan : WholePlan
   pub spreadable : Spreadable
   pub locality : Locality
+  pub group-by-position : GroupByPosition
+  pub sum-of-words : SumOfWords
   pub worked : All Holds ledger
   pub refused : All Holds refusals

@@ -1,12 +1,12 @@
--- What the rules promise of themselves: demand 3 over an accepted plan's whole list of steps, that it speaks of something, and the locality of one
--- step. These are statements; proofs/Whole.antt and proofs/Locality.antt prove them. Assumes nothing.
-use Prim.Native.Nat.{ℕ, _+_, _*_, _≤_, _<_, _^_}
+-- What the rules promise of themselves: demand 3 over an accepted plan's whole list of steps, that it speaks of something, the locality of one step,
+-- and what groups and sums of words are. These are statements; proofs/Whole.antt, Locality.antt, Groups.antt and Sums.antt prove them. Assumes nothing.
+use Prim.Native.Nat.{ℕ, _+_, _*_, _%_, _≤_, _<_, _^_}
 use mathlib.Core.Path.{_≡_}
 use mathlib.Core.Logic.{_↔_}
 use mathlib.Core.List.{List, [], _∷_}
 use lib.ListN.{length, getD, take, drop}
-use Rattle.rules.specs.Lists.{product, Below}
-use Rattle.rules.specs.Mesh.{devices, SameGroup}
+use Rattle.rules.specs.Lists.{product, total, In, Distinct, All, Below}
+use Rattle.rules.specs.Mesh.{devices, SameGroup, IsGroup}
 use Rattle.rules.specs.Spread.{StateOf, Faithful, addWords, held}
 use Rattle.rules.specs.Sharding.{IsSharding}
 use Rattle.rules.specs.Collectives.{Step, stepAxes, stepped}
@@ -74,3 +74,13 @@ Locality =
     → (W : Type 0) (addAll : List W → W) (v w : StateOf W) (x : List ℕ) → Below x (p .mesh)
     → ((y i : List ℕ) → Below y (p .mesh) → Below i (announcedShape p k) → SameGroup (stepAxes t) x y → v y i ≡ w y i)
     → (i : List ℕ) → Below i (announcedShape p (k + 1)) → newWords addAll p k t v x i ≡ newWords addAll p k t w x i
+
+-- "For a list of distinct axes, two devices are in one group when their coordinates agree on every axis outside the list": the group of a device by
+-- position is all of these, each once.
+abbrev pub GroupByPosition : Type 0
+GroupByPosition =
+    (mesh L : List ℕ) → Distinct L → ((a : ℕ) → In a L → a < length mesh) → (x : List ℕ) → Below x mesh → IsGroup mesh L x
+
+-- "the word-by-word sum, modulo 2^32"
+abbrev pub SumOfWords : Type 0
+SumOfWords = (l : List ℕ) → All (λ w. w < 2 ^ 32) l → addWords l ≡ total l % 2 ^ 32

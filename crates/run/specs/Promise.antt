@@ -15,7 +15,8 @@ use Rattle.rules.specs.declared.RunOutcome.{RunOutcome}
 use Rattle.rules.specs.declared.RunOutcome.the-variants as run
 
 -- Demand 3 of a plan that passed and of the words given, over its whole list of steps in running order. `shardsAfter p work k` is what step k left;
--- before the first step, the shards that work holds.
+-- before the first step, the shards that work holds. `in-order`, `shapes` and `spreads` speak of these states of the plan; `leaves`, and `work-is` and
+-- `spare-is` of `RunPromise`, tie the words of the run to them.
 pub record PlanPromise (p : Plan) (work : List ℕ) (outcome : RunOutcome) (workAfter : List ℕ) : Type 0 where
   -- "Each later step is given the shards that the step before it left."
   pub in-order : (k : ℕ) (t : Step) (rest : List Step) → drop k (p .steps) ≡ t ∷ rest → shardsAfter p work (k + 1) ≡ stepped addWords (p .mesh) t (shardsAfter p work k)
