@@ -11,6 +11,7 @@ use native.Mathlib.Decide.{ℕ-discrete}
 use lib.ListN.{length, getD, set, replicate, length-replicate}
 use lib.Seq.{getD-set-other, getD-set-same, ext-getD}
 use lib.Arith.{digits-lt, digits-div, digits-mod}
+use Rattle.rules.specs.Demands.{GroupByPosition}
 use Rattle.rules.specs.Lists.{tab, flat, product, mem, without, In, Distinct, Below, none, more}
 use Rattle.rules.specs.Mesh.{deviceNumber, deviceCoords, devices, span, position, member, members, remaining, firsts, listing, IsGroup, Rearrangement}
 use Rattle.rules.proofs.Lists.{
@@ -91,6 +92,9 @@ module _ (mesh L : List ℕ) (distinct : Distinct L) (of-axes : (a : ℕ) → In
     where
       at : (q : ℕ) → q < span mesh L → position mesh L (member mesh L q x) ≡ q
       at q l = position-member mesh L q x distinct (λ a i. rw (below-length bx) (of-axes a i)) l
+
+pub groups-by-position : GroupByPosition
+groups-by-position mesh L distinct of-axes x b = group-by-position mesh L distinct of-axes b
 
 -- ---- the sizes of groups
 

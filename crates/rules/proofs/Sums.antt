@@ -12,6 +12,7 @@ use lib.ListN.{getD, set}
 use lib.Seq.{set-comm}
 use lib.Arith.{digits-div, digits-mod}
 use lib.Dec.{lit<}
+use Rattle.rules.specs.Demands.{SumOfWords}
 use Rattle.rules.specs.Lists.{tab, total, without, In, Distinct, All, Below}
 use Rattle.rules.specs.Mesh.{span, member, members, SameGroup}
 use Rattle.rules.specs.Spread.{addWords}
@@ -177,7 +178,7 @@ total-members f mesh L x d =
 -- ---- words
 
 -- "the word-by-word sum, modulo 2^32"
-pub addWords-total : (l : List ℕ) → All (λ w. w < 2 ^ 32) l → addWords l ≡ total l % 2 ^ 32
+pub addWords-total : SumOfWords
 unfolding addWords
 addWords-total [] h = refl
 addWords-total (w ∷ []) h = sym (ap (λ (z : ℕ). z % 2 ^ 32) (add-zero w) ∙ mod-eq-of-lt (h .0))

@@ -1,13 +1,15 @@
 -- What the answers of the code stand for, on plans of the ledger: each call's answer as the types of the code hold it, beside the answer of the rules.
--- Places past a list's count, and past the rank, hold nines: they stand for nothing. Assumes nothing.
+-- Places past a list's count, and past the rank, hold nines: they stand for nothing. What the library's own answers hold there is `pasts`.
+-- Assumes nothing.
 use Prim.Native.Nat.{ℕ, _-_}
 use mathlib.Core.Path.{_≡_, refl}
 use mathlib.Core.List.{List, [], _∷_, _++_, map}
 use lib.ListN.{length, replicate}
 use Rattle.rules.specs.Collectives.{allSlice, allGather, allReduce, allToAll}
 use Rattle.rules.specs.Limits.{mostAxes, mostDims}
-use Rattle.rules.specs.Types.{dimsOf, stepOf}
-use Rattle.rules.specs.Calls.{checkOf, checkMeaning, placeOf, placeMeaning, groupsOf, groupsMeaning, runOf, runMeaning}
+use Rattle.rules.specs.Types.{axesOf, dimsOf, stepOf}
+use Rattle.rules.specs.Calls.{checkOf, checkMeaning, CheckedPast, CheckedNone, placeOf, placeMeaning, PlacedPast, PlacedNone}
+use Rattle.rules.specs.Calls.{groupsOf, groupsMeaning, runOf, runMeaning}
 use Rattle.rules.specs.Ledger.{fileOf, w1, w4, nines}
 use Rattle.rules.specs.declared.Axis.{Axis}
 use Rattle.rules.specs.declared.AxisList.{AxisList}
@@ -71,3 +73,35 @@ pub meanings :
     × (stepOf 2 (step AllToAll 0 1 (lists [] (0 ∷ []))) ≡ allToAll 0 1 (0 ∷ []))
 unfolding fileOf checkOf placeOf groupsOf runOf dimsOf
 meanings = (refl, refl, refl, refl, refl, refl, refl, refl, refl, refl, refl, refl, refl)
+
+-- ---- past the rank
+
+-- the sharding of W1's last state, with no axes past the rank; and no sharding
+abbrev pub within : Sharding
+within = record { dims = map axes ((0 ∷ []) ∷ [] ∷ [] ∷ [] ∷ []); unreduced = axes [] }
+
+abbrev pub nowhere : Sharding
+nowhere = record { dims = replicate mostDims (axes []); unreduced = axes [] }
+
+-- the check and the placement of W1, of device 3, as the library answers them; then refused
+pub pasts :
+    CheckedPast 2 (record {
+      outcome = check.Passed (record { room = 32; devices = 4; steps = 1; rank = 2 });
+      sharding = within;
+      shard = 2 ∷ 4 ∷ 0 ∷ 0 ∷ [];
+    })
+    × CheckedNone (record { outcome = check.Refused (refusal NotTail 1); sharding = nowhere; shard = replicate mostDims 0 })
+    × PlacedPast 2 (record { outcome = place.Found 2; sharding = within; shard = 2 ∷ 4 ∷ 0 ∷ 0 ∷ []; first = 2 ∷ 0 ∷ 0 ∷ 0 ∷ [] })
+    × PlacedNone (record {
+      outcome = place.Refused (refusal NoSuchDevice 0);
+      sharding = nowhere;
+      shard = replicate mostDims 0;
+      first = replicate mostDims 0;
+    })
+unfolding dimsOf axesOf
+pasts = (
+  record { lists = refl; sizes = refl },
+  (record { lists = refl; sizes = refl }, refl),
+  record { lists = refl; sizes = refl; indexes = refl },
+  (record { lists = refl; sizes = refl; indexes = refl }, refl),
+)
