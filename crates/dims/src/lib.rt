@@ -1,4 +1,5 @@
 // Dimension by dimension: the tests and changes of one axis list for each dimension, and shard sizes. One loop over the dimensions each.
+// At the end, the arrays of an answer, with nothing past the rank.
 ghost use mathlib.Core.Path.{_≡_};
 ghost use mathlib.Core.List.{List, [], _++_};
 ghost use Prim.Native.Nat.{ℕ, _+_, _/_, _%_, _≤_, _<_};

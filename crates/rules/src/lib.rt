@@ -224,7 +224,7 @@ pub enum CheckOutcome {
     Refused(Refusal),
 }
 
-// The check's answer: beside the outcome, the final sharding and its shard sizes.
+// The check's answer: beside the outcome, the final sharding and its shard sizes. Past the rank there are no axes, and sizes are 0.
 pub struct Checked {
     pub outcome: CheckOutcome,
     pub sharding: Sharding,
@@ -237,7 +237,7 @@ pub enum PlaceOutcome {
     Refused(Refusal),
 }
 
-// The placement's answer: beside the outcome, the state's sharding and shard sizes, and the device's first indexes.
+// The placement's answer: beside the outcome, the state's sharding and shard sizes, and the device's first indexes; past the rank as the check's.
 pub struct Placed {
     pub outcome: PlaceOutcome,
     pub sharding: Sharding,
