@@ -485,7 +485,7 @@ fn all_to_alls() -> Vec<Case> {
     cases
 }
 
-/// Axes 2, 3 and 4 have one device each: to reduce them is to copy the state.
+/// Axes 2, 3 and 4 have one device each: to reduce them changes no word.
 fn reductions() -> Vec<Case> {
     let mut cases = Vec::new();
     for group in GROUPS {
@@ -653,7 +653,15 @@ fn steps_alone(bench: &mut Bench) {
     );
     say!(
         bench.page,
-        "with one over groups of one device, which copies."
+        "with one over groups of one device, which changes no word: the reference copies"
+    );
+    say!(
+        bench.page,
+        "the state there, and the library, which reduces in place, leaves it. The addition"
+    );
+    say!(
+        bench.page,
+        "beside it writes its sums into another buffer, as the reference does."
     );
     columns(&mut bench.page, None);
     for (slice, _) in &slices_and_gathers() {

@@ -1,5 +1,5 @@
 -- What the judgement of a step stands for, and what is asked of the sharding before it. An accepted start gives it, and each step that is
--- fine gives it again: proofs/Kept.antt. Assumes nothing.
+-- fine gives it again: `sound-after` of plan/proofs/Walks.antt. Assumes nothing.
 use Prim.Native.Nat.{ℕ}
 use mathlib.Core.List.{List}
 use Rattle.rules.specs.Sharding.{Sharding, IsSharding}

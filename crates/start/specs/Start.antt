@@ -1,4 +1,4 @@
--- What a verdict stands for, and what is asked of a mesh and a table. An accepted file gives it: crate judge, proofs/Kept.antt.
+-- What a verdict stands for, and what is asked of a mesh and a table. An accepted file gives it: `fits` of plan/proofs/Opens.antt.
 -- Assumes nothing.
 use Prim.Native.Nat.{ℕ, _≤_}
 use mathlib.Core.Bool.{not}
