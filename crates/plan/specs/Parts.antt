@@ -11,7 +11,7 @@ use Rattle.rules.specs.Sharding.{Sharding, shardSizes}
 use Rattle.rules.specs.Collectives.{Step, after}
 use Rattle.rules.specs.Limits.{mostAxes, mostDevices, mostWords, mostDims, mostSteps}
 use Rattle.rules.specs.Refusals.{Judged, accept, _>>=_, _>>_, need, refusedBy}
-use Rattle.rules.specs.PlanFile.{Read, meshOffset, tensorOffset, stepCount, sizesAt, stepAt, judgeStep, stepsAt, Front, judgeFront, Plan, judge, announced, announcedShape, room}
+use Rattle.rules.specs.PlanFile.{Read, meshOffset, tensorOffset, stepCount, sizesAt, stepAt, judgeStep, stepsAt, Front, judgeFront, Plan, judge, judgeBy, announced, announcedShape, room}
 use Rattle.rules.specs.Types.{dimsOf, shardingOf, stepOf}
 use Rattle.rules.specs.Calls.{CheckAnswer}
 use Rattle.reader.specs.Reading.{reading, headerOf}
@@ -181,7 +181,7 @@ pub record StateAnswer : Type 0 where
   pub shard : List ℕ
 
 unfoldable pub stateOf : List ℕ → ℕ → Judged StateAnswer
-unfolding judge announced announcedShape
+unfolding judgeBy announced announcedShape
 stateOf file k = do
   p ← judge file
   need (leb k (length (p .steps))) 34

@@ -8,7 +8,7 @@ use Rattle.rules.specs.Lists.{pick}
 use Rattle.rules.specs.Refusals.{Judged, accept, _>>_, refusedBy}
 use Rattle.rules.specs.Sharding.{Sharding}
 use Rattle.rules.specs.Collectives.{Step}
-use Rattle.rules.specs.PlanFile.{Read, judgeHeader, axisCount, rankCount, stepCount}
+use Rattle.rules.specs.PlanFile.{Read, judgeHeader, judgeHeaderBy, axisCount, rankCount, stepCount}
 use Rattle.rules.specs.Types.{axesOf, dimsOf, shardingOf, stepOf}
 use Rattle.rules.specs.declared.Kind.{Kind}
 use Rattle.rules.specs.declared.Kind.the-variants.{AllSlice, AllGather, AllReduce, AllToAll, Unknown}
@@ -42,7 +42,7 @@ nextRefusal (next.Refused r) = r
 -- ---- the header, with its counts
 
 unfoldable pub headerOf : List ℕ → Judged Header
-unfolding judgeHeader
+unfolding judgeHeaderBy
 headerOf file = do
   judgeHeader file
   accept (record { axes = axisCount file; rank = rankCount file; steps = stepCount file })

@@ -27,6 +27,7 @@ use Rattle.rules.specs.PlanFile.{
   stepsOffset,
   totalLength,
   judgeHeader,
+  judgeHeaderBy,
   judgeSizes,
   sizesAt,
   shardingAt,
@@ -37,8 +38,10 @@ use Rattle.rules.specs.PlanFile.{
   stepsAt,
   Front,
   judgeFront,
+  judgeFrontBy,
   Plan,
   judge,
+  judgeBy,
 }
 use Rattle.rules.proofs.Lists.{T-and, length-tab, not-mem, distinct-append, in-append}
 use Rattle.rules.proofs.Judging.{accept-inj, need-inv, need-true, then-inv, bind-inv}
@@ -158,7 +161,7 @@ pub record HeaderFacts (file : List ℕ) : Type 0 where
   pub steps-few : stepCount file ≤ mostSteps
 
 pub header-facts : (file : List ℕ) → judgeHeader file ≡ accept tt → HeaderFacts file
-unfolding judgeHeader
+unfolding judgeHeaderBy
 header-facts file e =
     let a = need-inv 0 (leb leastBytes (length file)) 1 _ tt e in
     let b = need-inv 0 (leb (length file) mostBytes) 2 _ tt (a .1) in
@@ -208,7 +211,7 @@ pub record AcceptedFront (file : List ℕ) (f : Front) : Type 0 where
   pub steps-few : stepCount file ≤ mostSteps
 
 pub front-accepted : (file : List ℕ) (f : Front) → judgeFront file ≡ accept f → AcceptedFront file f
-unfolding judgeFront
+unfolding judgeFrontBy
 front-accepted file f e =
     let h0 = then-inv (judgeHeader file) _ f e in
     let h : HeaderFacts file = header-facts file (h0 .0 .1) in
@@ -246,7 +249,7 @@ pub record AcceptedPlan (p : Plan) : Type 0 where
 
 -- THE FACTS OF AN ACCEPTED FILE
 pub accepted : (file : List ℕ) (p : Plan) → judge file ≡ accept p → AcceptedPlan p
-unfolding judge
+unfolding judgeBy
 accepted file p e =
     let f = bind-inv (judgeFront file) _ p e in
     let a : AcceptedFront file (f .0) = front-accepted file (f .0) (f .1) in

@@ -13,7 +13,7 @@ use Rattle.rules.specs.Spread.{tabulate, held, addWords}
 use Rattle.rules.specs.Collectives.{Shards, stepped}
 use Rattle.rules.specs.Limits.{mostDevices, mostDims}
 use Rattle.rules.specs.Refusals.{Judged, accept, refuse, _>>=_, _>>_, need, refusedBy}
-use Rattle.rules.specs.PlanFile.{Plan, judge, axesAllowed, judgeSizes, judgeAxes, announced, announcedShape, room}
+use Rattle.rules.specs.PlanFile.{Plan, judge, judgeBy, axesAllowed, judgeSizes, judgeAxes, announced, announcedShape, room}
 use Rattle.rules.specs.Types.{axesOf, dimsOf, shardingOf}
 use Rattle.rules.specs.declared.Checked.{Checked}
 use Rattle.rules.specs.declared.CheckOutcome.{CheckOutcome}
@@ -48,7 +48,7 @@ pub record CheckAnswer : Type 0 where
   pub shard : List ℕ
 
 unfoldable pub checkOf : List ℕ → Judged CheckAnswer
-unfolding judge announced announcedShape room
+unfolding judgeBy announced announcedShape room
 checkOf file = do
   p ← judge file
   accept (record {
@@ -94,7 +94,7 @@ pub record PlaceAnswer : Type 0 where
   pub first : List ℕ
 
 unfoldable pub placeOf : List ℕ → ℕ → ℕ → Judged PlaceAnswer
-unfolding judge announced announcedShape
+unfolding judgeBy announced announcedShape
 placeOf file state device = do
   p ← judge file
   need (leb state (length (p .steps))) 34
@@ -169,7 +169,7 @@ lastState p work = tabulate (p .mesh) (shardsAfter p work (length (p .steps)) .s
 
 -- "The run takes a file and two lent buffers, work and spare." "Then .. 30, 31."
 unfoldable pub runnable : List ℕ → (work spare : List ℕ) → Judged Plan
-unfolding judge room
+unfolding judgeBy room
 runnable file work spare = do
   p ← judge file
   need (leb (room p) (length work)) 30

@@ -24,3 +24,13 @@ leastBytes = 18
 
 abbrev pub mostBytes : ℕ
 mostBytes = 4096
+
+-- What a reader of plan files takes. Later readers take more (document 02); each is an instance of the one judgement (PlanFile).
+pub record Reader : Type 0 where
+  pub devices : ℕ
+  pub words : ℕ
+  pub bytes : ℕ
+
+-- the present reader
+abbrev pub present : Reader
+present = record { devices = mostDevices; words = mostWords; bytes = mostBytes }

@@ -1,5 +1,6 @@
 -- Document 01, "The plan file", and "Order" of "Refusal numbers": reading and judging a file, test by test in that order.
--- A file is the list of its bytes; `at` is where the next byte is read. Assumes nothing.
+-- A file is the list of its bytes; `at` is where the next byte is read. What a reader takes is a parameter of the judgement (`..By`): `judge` is that of
+-- the present reader. Assumes nothing.
 use Prim.Native.Nat.{ℕ, zero, suc, _+_, _-_, _*_}
 use mathlib.Core.Bool.{Bool, true, false, not, _&&_}
 use mathlib.Core.List.{List, [], _∷_}
@@ -9,7 +10,7 @@ use Rattle.rules.specs.Lists.{tab, both, flat, pick, inTurn, product, la
 use Rattle.rules.specs.Mesh.{devices}
 use Rattle.rules.specs.Sharding.{Sharding, named, divisible, shardSizes}
 use Rattle.rules.specs.Collectives.{Step, allSlice, allGather, allReduce, allToAll, stepAxes, only, sliced, gathered, reduced, after}
-use Rattle.rules.specs.Limits.{mostAxes, mostDevices, mostDims, mostWords, mostSteps, leastBytes, mostBytes}
+use Rattle.rules.specs.Limits.{mostAxes, mostDims, mostSteps, leastBytes, Reader, present}
 use Rattle.rules.specs.Refusals.{Judged, accept, refuse, _>>=_, _>>_, need, needAt}
 use Rattle.rules.specs.declared.Kind.{Kind}
 use Rattle.rules.specs.declared.Kind.the-variants.{AllSlice, AllGather, AllReduce, AllToAll, Unknown}
@@ -62,16 +63,19 @@ abbrev pub rankAllowed : ℕ → Bool
 rankAllowed rank = leb 1 rank && leb rank mostDims
 
 -- "Order: 1, 2, 3, 4, 5."
-unfoldable pub judgeHeader : List ℕ → Judged (Unit {0})
+unfoldable pub judgeHeaderBy : Reader → List ℕ → Judged (Unit {0})
 unfolding u16At
-judgeHeader file = do
+judgeHeaderBy r file = do
   need (leb leastBytes (length file)) 1
-  need (leb (length file) mostBytes) 2
+  need (leb (length file) (r .bytes)) 2
   need (eqb (edition file) 1) 3
   need (eqb (totalLength file) (length file)) 4
   need (axesAllowed (axisCount file)) 5
   need (rankAllowed (rankCount file)) 5
   need (leb (stepCount file) mostSteps) 5
+
+abbrev pub judgeHeader : List ℕ → Judged (Unit {0})
+judgeHeader file = judgeHeaderBy present file
 
 -- ---- mesh and tensor sizes
 
@@ -274,16 +278,19 @@ pub record Front : Type 0 where
   pub next : ℕ
 
 -- "Then mesh, tensor, sharding and steps." "the mesh sizes start at 18" "Every offset is where the section before it ends"
-unfoldable pub judgeFront : List ℕ → Judged Front
-unfolding u16At judgeHeader sizesAt shardingAt judgeStart
-judgeFront file = do
-  judgeHeader file
-  m ← sizesAt mostDevices 10 11 (axisCount file) (meshOffset file) file 18
-  t ← sizesAt mostWords 12 13 (rankCount file) (tensorOffset file) file (m .next)
+unfoldable pub judgeFrontBy : Reader → List ℕ → Judged Front
+unfolding u16At judgeHeaderBy sizesAt shardingAt judgeStart
+judgeFrontBy r file = do
+  judgeHeaderBy r file
+  m ← sizesAt (r .devices) 10 11 (axisCount file) (meshOffset file) file 18
+  t ← sizesAt (r .words) 12 13 (rankCount file) (tensorOffset file) file (m .next)
   s ← shardingAt (axisCount file) (rankCount file) (shardingOffset file) file (t .next)
   need (eqb (stepsOffset file) (s .next)) 6
   judgeStart (m .value) (t .value) (s .value)
   accept (record { mesh = m .value; sizes = t .value; start = s .value; next = s .next })
+
+abbrev pub judgeFront : List ℕ → Judged Front
+judgeFront file = judgeFrontBy present file
 
 -- "A plan names a device mesh, a table (tensor), a starting sharding and a list of collectives."
 pub record Plan : Type 0 where
@@ -293,13 +300,16 @@ pub record Plan : Type 0 where
   pub steps : List Step
 
 -- "After the last step 9."
-unfoldable pub judge : List ℕ → Judged Plan
-unfolding u16At judgeFront stepsAt
-judge file = do
-  f ← judgeFront file
+unfoldable pub judgeBy : Reader → List ℕ → Judged Plan
+unfolding u16At judgeFrontBy stepsAt
+judgeBy r file = do
+  f ← judgeFrontBy r file
   ts ← stepsAt (f .mesh) (f .sizes) 1 (stepCount file) file (f .next) (f .start)
   need (eqb (ts .next) (length file)) 9
   accept (record { mesh = f .mesh; sizes = f .sizes; start = f .start; steps = ts .value })
+
+abbrev pub judge : List ℕ → Judged Plan
+judge file = judgeBy present file
 
 -- ---- what a plan announces
 
