@@ -8,9 +8,9 @@
  *
  * These calls judge a plan, say where its shards lie, run it, and list device groups. Their code is
  * proved to answer what the rules define on every input: any bytes may be handed over, nothing
- * asks for a valid plan, and no call stops the program. Build and link:
+ * asks for a valid plan, and no call stops the program. Build (for x86-64 Linux) and link:
  *
- *     rt staticlib capi
+ *     tools/build
  *     cc -I include program.c target/staticlib/libcapi.a
  *
  *
@@ -46,13 +46,34 @@
  * crates/rules/specs/PlanFile.antt has them, test by test.
  *
  *
+ * THE FOUR STEPS
+ *
+ * Numbers in parentheses are refusals. Every step names at least one axis (21), and axes of the
+ * mesh alone (22). docs/COLLECTIVES.md draws each step before and after.
+ *
+ * all-slice   splits further. It has a list for each dimension, of axes that are replicated and
+ *             named once (23); each list is joined to the end of its dimension's list. Of its shard
+ *             a device keeps, along each dimension, the piece whose number is its position for the
+ *             step's list. The pieces are equal: the present shard size is divisible (25)
+ * all-gather  joins again. It has a list for each dimension, the tail of its dimension's list in
+ *             the same order (24), and that tail is cut off. A device's new shard joins, along each
+ *             dimension, the shards of its group in order of position for the step's list
+ * all-reduce  adds. It has one strictly increasing list (26) of unreduced axes (27), which become
+ *             replicated. Each device gets the word-by-word sum over its group, modulo 2^32; the
+ *             shard's sizes stay
+ * all-to-all  moves a split from a source dimension to another, the target (28). Its one list is
+ *             gathered off the source (24) and then sliced on the target (25), as one step: there
+ *             is no state between, and no room is needed for one
+ *
+ *
  * REFUSALS
  *
  * Each call answers a refusal as one number, 0 for none. Otherwise it is
  *
  *     refusal number + 256 * step        ISHKRELA_NUMBER(refusal), ISHKRELA_STEP(refusal)
  *
- * where steps count from 1; the step is 0 for numbers outside 20 to 28.
+ * where steps count from 1; the step is 0 for numbers outside 20 to 28. docs/REFUSALS.md has an
+ * example of each number, and what to do.
  *
  *      1  fewer than 18 bytes                  2  more than 4,096 bytes
  *      3  the edition is not 1                 4  total length is not the number of bytes given
@@ -74,8 +95,8 @@
  *     27  all-reduce: an axis is not unreduced
  *     28  all-to-all: source or target is no dimension, or they are equal
  *     30  work is shorter than the room       31  spare is shorter than the room
- *     32  no such device                      33  the group output is shorter than D
- *     34  no such state
+ *     32  no such device                      34  no such state
+ *     33  the group output is shorter than the number of devices
  *
  *
  * MEMORY
@@ -90,6 +111,9 @@
  * memory that is only read may overlap. Nothing is read or written through a pointer whose length
  * is 0, so it may be null. The calls keep no state of their own: threads may call at once where none
  * lends memory for writing that another uses.
+ *
+ * A call takes less than 8 KiB of stack: on the cases of tests/ at most 6,568 bytes for a run, 2,128
+ * for a placement, 2,048 for a check, 208 for a group listing (tests/stack.c, which tools/try_c runs).
  */
 #ifndef ISHKRELA_H
 #define ISHKRELA_H

@@ -33,8 +33,12 @@ check, place, groups and run are the calls of the verified library, which answer
 define on every input and raises Refused where they refuse. plan_file, spread, moved and picture
 are plain Python beside it.
 
+A plan file is any bytes-like object, taken whole: bytes, a bytearray, a memoryview, an array. Memory
+that is lent for writing is a writable buffer without gaps: an array.array, or a memoryview, a ctypes
+or a numpy array of the same type.
+
 The library is target/libishkrela.so of this project, which tools/build makes, or the file that the
-environment variable ISHKRELA_LIBRARY names.
+environment variable ISHKRELA_LIBRARY names. Python 3.8 or newer; the standard library alone.
 """
 import array
 import ctypes
@@ -43,6 +47,7 @@ import math
 import os
 import struct
 from dataclasses import dataclass
+from typing import Any, Iterable, List, Optional, Sequence, Tuple, Union
 
 __all__ = [
     "AllGather", "AllReduce", "AllSlice", "AllToAll", "Checked", "Placed", "Refused", "Sharding",
@@ -73,7 +78,7 @@ TEXTS = {
     17: "start: a dimension is not divisible",
     20: "unknown kind of step",
     21: "a step names no axis",
-    22: "no such axis",
+    22: "step: no such axis",
     23: "all-slice: the axis is not replicated, or was named earlier in this step",
     24: "the gathered list is not the tail of the dimension's list",
     25: "a dimension's shard size is not divisible",
@@ -88,25 +93,36 @@ TEXTS = {
 }
 
 
-class Refused(Exception):
-    """A refusal: its number, the step that it is given in (from 1; 0 outside the steps), and a text."""
+Bytes = Union[bytes, bytearray, memoryview, array.array]
+Lent = Union[array.array, memoryview, ctypes.Array]
+Axes = Sequence[int]
+Lists = Sequence[Axes]
 
-    def __init__(self, number, step=0):
+
+class Refused(Exception):
+    """A refusal: its number, the step that it is given in (from 1; 0 outside the steps), and a text.
+
+    docs/REFUSALS.md says of each number when it is given and what to do.
+    """
+
+    def __init__(self, number: int, step: int = 0) -> None:
         self.number, self.step = number, step
         self.text = TEXTS.get(number, "unknown refusal")
         super().__init__(f"{number}: {self.text}" + (f" (step {step})" if step else ""))
+
+    def __reduce__(self) -> Tuple[type, Tuple[int, int]]:
+        return type(self), (self.number, self.step)  # so that it comes whole out of another process
 
 
 @dataclass(frozen=True)
 class Sharding:
     """For each dimension the axes that split it, outer to inner; and the unreduced axes."""
 
-    dims: tuple
-    unreduced: tuple = ()
+    dims: Lists
+    unreduced: Axes = ()
 
-    def __post_init__(self):
-        object.__setattr__(self, "dims", tuple(map(tuple, self.dims)))
-        object.__setattr__(self, "unreduced", tuple(self.unreduced))
+    def __post_init__(self) -> None:
+        _keep(self, dims=_tuples(self.dims), unreduced=tuple(self.unreduced))
 
 
 @dataclass(frozen=True)
@@ -117,7 +133,7 @@ class Checked:
     devices: int
     steps: int
     sharding: Sharding
-    shard: tuple
+    shard: Tuple[int, ...]
 
 
 @dataclass(frozen=True)
@@ -125,48 +141,51 @@ class Placed:
     """The placement's answer: a state's sharding and shard sizes, and where in the table a device's shard begins."""
 
     sharding: Sharding
-    shard: tuple
-    first: tuple
+    shard: Tuple[int, ...]
+    first: Tuple[int, ...]
 
 
 # ---- the calls of the library
 
 
-def check(file):
-    """Judges a plan file (bytes). Answers Checked."""
-    answer = _library().ishkrela_check(bytes(file), len(file))
+def check(file: Bytes) -> Checked:
+    """Judges a plan file. Answers Checked."""
+    answer = _library().ishkrela_check(*_read(file))
     _raise(answer.refusal)
     return Checked(answer.room, answer.devices, answer.steps, _sharding(answer), _front(answer.shard, answer.rank))
 
 
-def place(file, state, device):
+def place(file: Bytes, state: int, device: int) -> Placed:
     """Announces a state of a plan (0 is the start) and where a device's shard begins. Answers Placed."""
-    answer = _library().ishkrela_place(bytes(file), len(file), _number(state, 16), _number(device, 16))
+    answer = _library().ishkrela_place(*_read(file), _number(state, 16), _number(device, 16))
     _raise(answer.refusal)
     return Placed(_sharding(answer), _front(answer.shard, answer.rank), _front(answer.first, answer.rank))
 
 
-def groups(mesh, axes, out=None):
+def groups(mesh: Iterable[int], axes: Iterable[int], out: Optional[Lent] = None) -> List[List[int]]:
     """Lists the devices of a mesh by groups along a list of axes, each in order of position: a list for each group.
 
-    `out`, an array.array("H") where it is given, is lent to the call: its first entries become the
-    device numbers, one for each device of the mesh, and the others stay.
+    `out`, 16-bit words such as an array.array("H") where it is given, is lent to the call: its first
+    entries become the device numbers, one for each device of the mesh, and the others stay.
     """
-    mesh, axes = array.array("H", mesh), array.array("B", axes)
-    out = array.array("H", bytes(2 * MOST_DEVICES)) if out is None else out
-    _raise(_library().ishkrela_groups(*_lent(mesh, "H"), *_lent(axes, "B"), *_lent(out, "H")))
-    size = math.prod(mesh[axis] for axis in axes)
-    return [list(out[at:at + size]) for at in range(0, math.prod(mesh), size)]
+    sizes, along = array.array("H", [*mesh]), array.array("B", [*axes])
+    listing = array.array("H", bytes(2 * MOST_DEVICES)) if out is None else out
+    _raise(_library().ishkrela_groups(*_lent(sizes, "H"), *_lent(along, "B"), *_lent(listing, "H")))
+    devices, size = math.prod(sizes), math.prod(sizes[axis] for axis in along)
+    listed = array.array("H", memoryview(listing).tobytes()[:2 * devices]).tolist()
+    return [listed[at:at + size] for at in range(0, devices, size)]
 
 
-def run(file, work, spare):
+def run(file: Bytes, work: Lent, spare: Lent) -> None:
     """Runs a plan on the words in `work`, each device's shard after the other.
 
-    `work` and `spare`, each an array.array("I") with at least the check's `room` of words, are lent
-    to the call. Afterwards the last state stands at the front of work; the rest of work and all of
-    spare are 0. A refusal leaves both as they were.
+    `work` and `spare`, 32-bit words such as an array.array("I"), each with at least the check's `room`
+    of them, are lent to the call and share no memory. Afterwards the last state stands at the front of
+    work; the rest of work and all of spare are 0. A refusal leaves both as they were.
     """
-    _raise(_library().ishkrela_run(bytes(file), len(file), *_lent(work, "I"), *_lent(spare, "I")))
+    if _overlap(_lent(work, "I")[0], _lent(spare, "I")[0]):
+        raise ValueError("work and spare overlap: lend two buffers that share no memory")
+    _raise(_library().ishkrela_run(*_read(file), *_lent(work, "I"), *_lent(spare, "I")))
 
 
 # ---- plan files
@@ -176,9 +195,12 @@ def run(file, work, spare):
 class AllSlice:
     """Splits each dimension further, along replicated axes: a list for each dimension."""
 
-    lists: tuple
+    lists: Lists
 
-    def encode(self):
+    def __post_init__(self) -> None:
+        _keep(self, lists=_tuples(self.lists))
+
+    def encode(self) -> bytes:
         return b"\1" + _lists(self.lists)
 
 
@@ -186,9 +208,12 @@ class AllSlice:
 class AllGather:
     """Joins shards along the last axes of each dimension's list: a list for each dimension."""
 
-    lists: tuple
+    lists: Lists
 
-    def encode(self):
+    def __post_init__(self) -> None:
+        _keep(self, lists=_tuples(self.lists))
+
+    def encode(self) -> bytes:
         return b"\2" + _lists(self.lists)
 
 
@@ -196,9 +221,12 @@ class AllGather:
 class AllReduce:
     """Adds the shards along unreduced axes."""
 
-    axes: tuple
+    axes: Axes
 
-    def encode(self):
+    def __post_init__(self) -> None:
+        _keep(self, axes=tuple(self.axes))
+
+    def encode(self) -> bytes:
         return b"\3" + _lists([self.axes])
 
 
@@ -208,17 +236,29 @@ class AllToAll:
 
     source: int
     target: int
-    axes: tuple
+    axes: Axes
 
-    def encode(self):
-        return b"\4" + bytes([self.source, self.target]) + _lists([self.axes])
+    def __post_init__(self) -> None:
+        _keep(self, axes=tuple(self.axes))
+
+    def encode(self) -> bytes:
+        return b"\4" + _bytes([self.source, self.target]) + _lists([self.axes])
 
 
-def plan_file(mesh, table, start, steps=()):
+Step = Union[AllSlice, AllGather, AllReduce, AllToAll]
+
+
+def plan_file(mesh: Iterable[int], table: Iterable[int], start: Sharding, steps: Iterable[Step] = ()) -> bytes:
     """The bytes of a plan: mesh sizes, table sizes, the Sharding at the start, and steps.
 
-    Writes what it is given and judges nothing: a plan that the rules refuse has a file too.
+    Judges nothing: a plan that the rules refuse has a file too. But a file has no place for how many
+    lists there are, so one list for each dimension of the table is asked for (ValueError).
     """
+    mesh, table, steps = [*mesh], [*table], [*steps]
+    _count_lists("the sharding", start.dims, len(table))
+    for number, step in enumerate(steps, 1):
+        if isinstance(step, (AllSlice, AllGather)):
+            _count_lists(f"step {number}, {type(step).__name__},", step.lists, len(table))
     sections = [
         _numbers(mesh),
         _numbers(table),
@@ -230,22 +270,25 @@ def plan_file(mesh, table, start, steps=()):
     return _numbers(header) + b"".join(sections)
 
 
-def moved(file, words):
+def moved(file: Bytes, words: Iterable[int]) -> List[int]:
     """The words of a plan's last state, from those of its start."""
     answer = check(file)
-    work, spare = array.array("I", words), array.array("I", bytes(4 * answer.room))
+    work, spare = array.array("I", [*words]), array.array("I", bytes(4 * answer.room))
+    _count_words(file, 0, work)
     work.extend(itertools.repeat(0, answer.room - len(work)))
     run(file, work, spare)
     return work[:answer.devices * math.prod(answer.shard)].tolist()
 
 
-def spread(file, table):
+def spread(file: Bytes, table: Iterable[int]) -> List[int]:
     """The words of a table (row-major) spread as at the start of a plan, each device's shard after the other.
 
     Of the devices along an unreduced axis the first holds the table's words and the others 0.
     """
     mesh, sizes = _sizes(file)
-    table = list(table)
+    table = [*table]
+    if len(table) != math.prod(sizes):
+        raise ValueError(f"a table of {_by(sizes)} has {math.prod(sizes)} words: {len(table)} were given")
     words = []
     for device in itertools.product(*map(range, mesh)):
         at = place(file, 0, _row_major(mesh, device))
@@ -255,7 +298,7 @@ def spread(file, table):
     return words
 
 
-def picture(file, state, words):
+def picture(file: Bytes, state: int, words: Iterable[int]) -> str:
     """A drawing of a state's words: the last axis of the mesh runs across, the others run down.
 
     Of a shard the last dimension runs across; planes of the other dimensions stand below each other.
@@ -263,7 +306,8 @@ def picture(file, state, words):
     of more than two are named above it, where the names fit.
     """
     mesh, _ = _sizes(file)
-    shard = place(file, state, 0).shard
+    words = [*words]
+    shard = _count_words(file, state, words)
     width = max(len(str(word)) for word in words)
     across, down = shard[-1], math.prod(shard[:-1])
     cell = (width + 1) * across + 1
@@ -306,19 +350,19 @@ class _Placed(ctypes.Structure):
 _loaded = None
 
 
-def _library():
+def _library() -> Any:
     """The shared object, with the types of include/ishkrela.h."""
     global _loaded
     if _loaded is None:
-        here = os.path.dirname(os.path.abspath(__file__))
-        path = os.environ.get("ISHKRELA_LIBRARY", os.path.join(here, "..", "target", "libishkrela.so"))
+        root = os.path.dirname(os.path.dirname(os.path.abspath(__file__)))
+        path = os.environ.get("ISHKRELA_LIBRARY", os.path.join(root, "target", "libishkrela.so"))
         if not os.path.exists(path):
             raise ImportError(f"{path} is not there: tools/build makes it")
         _loaded = _typed(ctypes.CDLL(path))
     return _loaded
 
 
-def _typed(library):
+def _typed(library: Any) -> Any:
     slice_of = [ctypes.c_void_p, ctypes.c_size_t]
     file = [ctypes.c_char_p, ctypes.c_size_t]
     calls = {
@@ -333,60 +377,120 @@ def _typed(library):
     return library
 
 
-def _raise(refusal):
+def _raise(refusal: int) -> None:
     if refusal:
         raise Refused(refusal % 256, refusal // 256)
 
 
-def _number(number, bits):
+def _number(number: int, bits: int) -> int:
     # ctypes would cut a number that is too large, and so call for another state or device.
     if not 0 <= number < 2 ** bits:
         raise OverflowError(f"{number} is not a number of {bits} bits")
     return number
 
 
-def _lent(buffer, code):
-    if not isinstance(buffer, array.array) or buffer.typecode != code:
-        raise TypeError(f'lend an array.array("{code}")')
-    return buffer.buffer_info()
+def _read(file: Bytes) -> Tuple[bytes, int]:
+    """All bytes of a file, whatever its elements and steps are, and how many."""
+    whole = memoryview(file).tobytes()
+    return whole, len(whole)
 
 
-def _front(places, rank):
+def _lent(buffer: Lent, code: str) -> Tuple[Any, int]:
+    """The memory of a buffer that is lent for writing, and its length. While the memory is held the buffer keeps its size."""
+    wanted = f'lend an array.array("{code}"), or another writable buffer of its type without gaps'
+    try:
+        view = memoryview(buffer)
+    except TypeError:
+        raise TypeError(f"{wanted}, not a {type(buffer).__name__}") from None
+    if view.format.lstrip("@=<") != code or view.readonly or not view.c_contiguous:
+        raise TypeError(wanted)
+    return (ctypes.c_char * view.nbytes).from_buffer(view), view.nbytes // view.itemsize
+
+
+def _overlap(one: Any, other: Any) -> bool:
+    first, second = ctypes.addressof(one), ctypes.addressof(other)
+    return max(first, second) < min(first + len(one), second + len(other))
+
+
+def _front(places: Any, rank: int) -> Tuple[int, ...]:
     return tuple(places[:rank])
 
 
-def _sharding(answer):
+def _sharding(answer: Any) -> Sharding:
     lists = [tuple(answer.axes[MOST_AXES * d:][:count]) for d, count in enumerate(answer.counts)]
     return Sharding(lists[:answer.rank], lists[MOST_DIMS])
 
 
-def _numbers(numbers):
+def _keep(made: Any, **fields: Any) -> None:
+    """Sets fields of a frozen dataclass: as tuples they are compared and hashed, however they were given."""
+    for name, value in fields.items():
+        object.__setattr__(made, name, value)
+
+
+def _tuples(lists: Lists) -> Tuple[Tuple[int, ...], ...]:
+    return tuple(map(tuple, lists))
+
+
+def _numbers(numbers: Iterable[int]) -> bytes:
     return b"".join(_number(number, 16).to_bytes(2, "little") for number in numbers)
 
 
-def _lists(lists):
-    return b"".join(bytes([len(axes), *axes]) for axes in lists)
+def _bytes(numbers: Iterable[int]) -> bytes:
+    return bytes(_number(number, 8) for number in numbers)
 
 
-def _sizes(file):
+def _lists(lists: Lists) -> bytes:
+    return b"".join(_bytes([len(axes), *axes]) for axes in lists)
+
+
+def _count_lists(whose: str, lists: Lists, rank: int) -> None:
+    if len(lists) != rank:
+        raise ValueError(
+            f"{whose} has {_some(len(lists), 'list')} for a table of {_some(rank, 'dimension')}: "
+            "give a list of axes for each dimension, [] for one without"
+        )
+
+
+def _some(number: int, of: str) -> str:
+    return f"{number} {of}" + ("" if number == 1 else "s")
+
+
+def _count_words(file: Bytes, state: int, words: Sequence[int]) -> Tuple[int, ...]:
+    """The shard sizes of a state, which has as many words as are given."""
+    devices, shard = check(file).devices, place(file, state, 0).shard
+    asked = devices * math.prod(shard)
+    if len(words) != asked:
+        raise ValueError(
+            f"state {state} has {asked} words, a shard of {_by(shard)} on each of {_some(devices, 'device')}: "
+            f"{len(words)} were given"
+        )
+    return shard
+
+
+def _sizes(file: Bytes) -> Tuple[Tuple[int, ...], Tuple[int, ...]]:
     """The sizes of mesh and table of a plan that is accepted."""
     check(file)
-    axes, rank = struct.unpack_from("<2H", file, 2)
-    return struct.unpack_from(f"<{axes}H", file, 18), struct.unpack_from(f"<{rank}H", file, 18 + 2 * axes)
+    whole, _ = _read(file)
+    axes, rank = struct.unpack_from("<2H", whole, 2)
+    return struct.unpack_from(f"<{axes}H", whole, 18), struct.unpack_from(f"<{rank}H", whole, 18 + 2 * axes)
 
 
-def _row_major(sizes, index):
+def _by(sizes: Iterable[int]) -> str:
+    return "x".join(map(str, sizes))
+
+
+def _row_major(sizes: Iterable[int], index: Iterable[int]) -> int:
     number = 0
     for size, place in zip(sizes, index):
         number = number * size + place
     return number
 
 
-def _device(*coordinates):
+def _device(*coordinates: int) -> str:
     return f"device ({', '.join(map(str, coordinates))})"
 
 
-def _above(devices, cell):
+def _above(devices: int, cell: int) -> List[str]:
     """The names of a row of devices, in two lines, each name over its shard."""
     names = [["device"] * devices, [f"({device})" for device in range(devices)]]
     return [" " + "".join(name.ljust(cell + 1) for name in line).rstrip() for line in names]

@@ -3,11 +3,17 @@
     python3 -m unittest discover python
 """
 import array
+import ast
 import ctypes
 import doctest
+import glob
+import inspect
 import json
 import os
+import pickle
+import re
 import subprocess
+import typing
 import unittest
 
 import ishkrela
@@ -166,8 +172,20 @@ class Boundary(Case):
     """What include/ishkrela.h says of the answers and of the memory lent."""
 
     def test_layout(self):
-        for answer in (ishkrela._Checked, ishkrela._Placed):
-            self.assertEqual((ctypes.sizeof(answer), answer.counts.offset, answer.axes.offset), (60, 22, 27))
+        checked, placed = ishkrela._Checked, ishkrela._Placed
+        self.assertEqual([ctypes.sizeof(checked), ctypes.sizeof(placed)], [60, 60])
+        self.assertEqual(self.offsets(checked), [0, 4, 8, 10, 12, 14, 22, 27])
+        self.assertEqual(self.offsets(placed), [0, 4, 6, 14, 22, 27])
+
+    def offsets(self, answer):
+        return [getattr(answer, name).offset for name, _ in answer._fields_]
+
+    def test_each_field_where_it_is_not_0(self):
+        start = Sharding([[5, 0], [1], [4], [2]], [3])
+        steps = [AllGather([[0], [], [], []]), AllSlice([[0], [], [], []])]
+        file = plan_file([2, 3, 2, 2, 3, 2], [12, 6, 15, 2], start, steps)
+        self.assertEqual(check(file), ishkrela.Checked(8640, 144, 2, start, (3, 2, 5, 1)))
+        self.assertEqual(place(file, 2, 143), ishkrela.Placed(start, (3, 2, 5, 1), (9, 4, 10, 1)))
 
     def test_beside_a_refusal_every_field_is_0(self):
         library = ishkrela._library()
@@ -218,6 +236,145 @@ class Boundary(Case):
 
     def test_no_steps_keep_the_words(self):
         self.assertEqual(moved(w4(), [4, 3, 2, 1]), [4, 3, 2, 1])
+
+
+class Given(Case):
+    """What Python takes, and what it refuses before the library is called."""
+
+    def test_buffers_that_overlap(self):
+        words = array.array("I", range(64))
+        whole = memoryview(words)
+        for work, spare in ((words, words), (words, whole), (whole[:40], whole[39:]), (whole[8:48], whole[:64])):
+            with self.assertRaisesRegex(ValueError, "overlap"):
+                run(W1, work, spare)
+        self.assertEqual(list(words), list(range(64)))
+
+    def test_buffers_side_by_side(self):
+        whole = memoryview(array.array("I", [*range(1, 17), *(48 * [7])]))
+        run(W1, whole[:32], whole[32:])
+        self.assertEqual(whole.tolist(), moved(W1, range(1, 17)) + 32 * [0])
+
+    def test_buffers_of_other_kinds(self):
+        work, spare = (ctypes.c_uint32 * 8)(10, 30, 20, 40), array.array("I", 8 * [7])
+        run(w4(AllGather([[0]])), work, spare)
+        self.assertEqual(list(work), 2 * [10, 20, 30, 40])
+        out = (ctypes.c_uint16 * 5)(9, 9, 9, 9, 9)
+        self.assertEqual((groups([2, 2], [0], out), list(out)), ([[0, 2], [1, 3]], [0, 2, 1, 3, 9]))
+
+    def test_what_cannot_be_lent(self):
+        words = array.array("I", 64 * [7])
+        for work in (list(words), bytes(256), array.array("Q", words), array.array("i", words),
+                     memoryview(words)[::2], memoryview(words).toreadonly()):
+            for lent in ((work, array.array("I", words)), (array.array("I", words), work)):
+                with self.assertRaisesRegex(TypeError, r'array\.array\("I"\)'):
+                    run(W1, *lent)
+
+    def test_a_refusal_keeps_no_hold_of_the_buffers(self):
+        work, spare = array.array("I", [7]), array.array("I", [7])
+        try:
+            run(W1, work, spare)
+        except Refused as refused:
+            work.extend(range(31))
+            self.assertEqual((refused.number, len(work)), (30, 32))
+
+    def test_files_of_any_kind(self):
+        file = w4()
+        apart = memoryview(bytes(byte for byte in file for _ in range(2)))[::2]
+        for given in (bytearray(file), memoryview(file), memoryview(file).cast("H"), array.array("H", file), apart):
+            self.assertEqual(check(given), check(file))
+            self.assertEqual(place(given, 0, 1), place(file, 0, 1))
+            self.assertEqual(moved(given, [1, 2, 3, 4]), [1, 2, 3, 4])
+            self.assertEqual(picture(given, 0, spread(given, [1, 2, 3, 4])), picture(file, 0, [1, 3, 2, 4]))
+
+    def test_what_is_no_file(self):
+        for given in (35, "a plan", list(W1), None):
+            with self.assertRaises(TypeError):
+                check(given)
+
+    def test_a_list_for_each_dimension(self):
+        both = Sharding([[0], [1]])
+        for start, steps, whose in (
+            (Sharding([[0]]), [], "the sharding has 1 list for a table of 2 dimensions"),
+            (Sharding([[0], [1], []]), [], "the sharding has 3 lists"),
+            (both, [AllGather([[]])], "step 1, AllGather, has 1 list"),
+            (both, [AllGather([[], [1]]), AllSlice([])], "step 2, AllSlice, has 0 lists"),
+        ):
+            with self.assertRaisesRegex(ValueError, whose + ".*: give a list of axes for each dimension"):
+                plan_file([2, 2], [4, 4], start, steps)
+
+    def test_numbers_of_a_file_that_do_not_fit(self):
+        for mesh, start, steps in (([65536], Sharding([[]]), []), ([2], Sharding([[256]]), []),
+                                   ([2], Sharding([[]]), [AllToAll(0, 256, [0])])):
+            with self.assertRaises(OverflowError):
+                plan_file(mesh, [2], start, steps)
+
+    def test_the_number_of_words(self):
+        for count in (15, 17, 0, 32):
+            words = [1] * count
+            for call, given in ((moved, (W1, words)), (spread, (W1, words)), (picture, (W1, 0, words))):
+                with self.assertRaisesRegex(ValueError, f"has 16 words.*: {count} were given"):
+                    call(*given)
+        with self.assertRaisesRegex(ValueError, "state 1 has 32 words, a shard of 2x4 on each of 4 devices: 16 were"):
+            picture(W1, 1, range(16))
+
+    def test_numbers_from_any_iterable(self):
+        self.assertEqual(plan_file(iter([2, 2]), iter([4, 4]), Sharding([[0], [1]]), iter([AllGather([[], [1]])])), W1)
+        self.assertEqual(groups(b"\2\2", b"\0"), [[0, 2], [1, 3]])
+        self.assertEqual(moved(w4(), bytes([4, 3, 2, 1])), [4, 3, 2, 1])
+
+    def test_steps_are_values(self):
+        steps = [AllSlice([[], [1]]), AllGather([[], [1]]), AllReduce([0]), AllToAll(0, 1, [0])]
+        again = [AllSlice(((), (1,))), AllGather([(), [1]]), AllReduce((0,)), AllToAll(0, 1, iter([0]))]
+        self.assertEqual(steps, again)
+        self.assertEqual(len({*steps, *again}), 4)
+        self.assertEqual(Sharding([[0], []]), Sharding(((0,), ()), []))
+        self.assertEqual(eval(repr(steps)), steps)
+
+    def test_a_refusal_comes_whole_out_of_a_pickle(self):
+        refused = pickle.loads(pickle.dumps(Refused(24, 1)))
+        self.assertEqual((refused.number, refused.step, str(refused)), (24, 1, str(Refused(24, 1))))
+
+    def test_hints(self):
+        for name in ishkrela.__all__:
+            call = getattr(ishkrela, name)
+            call = call.__init__ if inspect.isclass(call) else call
+            named = {*inspect.signature(call).parameters, "return"} - {"self"}
+            self.assertEqual(named, {*typing.get_type_hints(call)}, name)
+
+    def test_the_syntax_of_python_3_8(self):
+        for path in glob.glob(os.path.join(ROOT, "python", "*.py")) + glob.glob(os.path.join(ROOT, "tools", "*")):
+            with open(path, encoding="utf-8") as file:
+                source = file.read()
+            if path.endswith(".py") or "python3" in source.split("\n")[0]:
+                ast.parse(source, path, feature_version=(3, 8))
+
+
+class Refusals(Case):
+    """docs/REFUSALS.md: a row for each number, with the text of Refused and of the header, and an example of it."""
+
+    def setUp(self):
+        with open(os.path.join(ROOT, "docs", "REFUSALS.md"), encoding="utf-8") as page:
+            self.page = page.read()
+
+    def rows(self):
+        found = re.findall(r"^\| (\d+) \| (.*?) \| .*? \| `(.*)` \|$", self.page, re.M)
+        return [(int(number), text, example) for number, text, example in found]
+
+    def test_each_number_and_its_text(self):
+        self.assertEqual({number: text for number, text, _ in self.rows()}, ishkrela.TEXTS)
+
+    def test_the_header_has_the_texts(self):
+        with open(os.path.join(ROOT, "include", "ishkrela.h"), encoding="utf-8") as header:
+            table = header.read().split("MEMORY")[0]
+        for number, text in ishkrela.TEXTS.items():
+            self.assertIn(f" {number}  {text}", table)
+
+    def test_examples(self):
+        names = {}
+        exec(self.page.split("```python\n")[1].split("```")[0], names)
+        for number, _, example in self.rows():
+            with self.subTest(example):
+                self.assertRefused(number, 1 if 20 <= number <= 28 else 0, eval, example, names)
 
 
 class Pictures(Case):

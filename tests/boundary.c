@@ -1,20 +1,60 @@
-/* What include/ishkrela.h says, tried from C: the layout of the answers, lists by their macros,
- * fields beside a refusal, empty slices at null, and memory after a refusal. Prints nothing. */
+/* What include/ishkrela.h says, tried from C: the layout of the answers and each field of them,
+ * lists by their macros, fields beside a refusal, empty slices at null, and memory after a refusal.
+ * Prints nothing. */
 #include <assert.h>
 #include <string.h>
 #include "ishkrela.h"
 
-_Static_assert(sizeof(ishkrela_checked) == 60 && offsetof(ishkrela_checked, shard) == 14, "layout");
-_Static_assert(offsetof(ishkrela_checked, counts) == 22 && offsetof(ishkrela_checked, axes) == 27, "layout");
-_Static_assert(sizeof(ishkrela_placed) == 60 && offsetof(ishkrela_placed, shard) == 6, "layout");
-_Static_assert(offsetof(ishkrela_placed, first) == 14 && offsetof(ishkrela_placed, counts) == 22, "layout");
-_Static_assert(offsetof(ishkrela_placed, axes) == 27, "layout");
+#define FIELD(type, field, offset, size) \
+    _Static_assert(offsetof(type, field) == (offset) && sizeof(((type *)0)->field) == (size), #type "." #field)
+
+FIELD(ishkrela_checked, refusal, 0, 4);
+FIELD(ishkrela_checked, room, 4, 4);
+FIELD(ishkrela_checked, devices, 8, 2);
+FIELD(ishkrela_checked, steps, 10, 2);
+FIELD(ishkrela_checked, rank, 12, 2);
+FIELD(ishkrela_checked, shard, 14, 8);
+FIELD(ishkrela_checked, counts, 22, 5);
+FIELD(ishkrela_checked, axes, 27, 30);
+_Static_assert(sizeof(ishkrela_checked) == 60, "ishkrela_checked");
+
+FIELD(ishkrela_placed, refusal, 0, 4);
+FIELD(ishkrela_placed, rank, 4, 2);
+FIELD(ishkrela_placed, shard, 6, 8);
+FIELD(ishkrela_placed, first, 14, 8);
+FIELD(ishkrela_placed, counts, 22, 5);
+FIELD(ishkrela_placed, axes, 27, 30);
+_Static_assert(sizeof(ishkrela_placed) == 60, "ishkrela_placed");
 
 /* mesh 2x2, table of 4, sharding [[1, 0]], gather of [0], and of [1], which is not the tail */
 static const uint8_t tail[] = {1, 0, 2, 0, 1, 0, 1, 0, 18, 0, 22, 0, 24, 0, 28, 0, 31, 0,
                                2, 0, 2, 0, 4, 0, 2, 1, 0, 0, 2, 1, 0};
 static const uint8_t front[] = {1, 0, 2, 0, 1, 0, 1, 0, 18, 0, 22, 0, 24, 0, 28, 0, 31, 0,
                                 2, 0, 2, 0, 4, 0, 2, 1, 0, 0, 2, 1, 1};
+
+/* mesh 2x3x2x2x3x2, table 12x6x15x2, sharding [[5, 0], [1], [4], [2]] with unreduced [3]; gather of
+ * [0] off dimension 0, and slice of it on again */
+static const uint8_t full[] = {1, 0, 6, 0, 4, 0, 2, 0, 18, 0, 30, 0, 38, 0, 49, 0, 61, 0,
+                               2, 0, 3, 0, 2, 0, 2, 0, 3, 0, 2, 0, 12, 0, 6, 0, 15, 0, 2, 0,
+                               2, 5, 0, 1, 1, 1, 4, 1, 2, 1, 3, 2, 1, 0, 0, 0, 0, 1, 1, 0, 0, 0, 0};
+
+/* Each field where it is not 0, and with a value that tells it from the others. */
+static void fields(void)
+{
+    const uint16_t shard[4] = {3, 2, 5, 1}, first[4] = {9, 4, 10, 1};
+    const uint8_t counts[5] = {2, 1, 1, 1, 1};
+    const uint8_t axes[30] = {5, 0, 0, 0, 0, 0, 1, 0, 0, 0, 0, 0, 4, 0, 0, 0, 0, 0, 2, 0, 0, 0, 0, 0, 3};
+    ishkrela_checked checked = ishkrela_check(full, sizeof full);
+    assert(checked.refusal == 0 && checked.room == 8640 && checked.devices == 144);
+    assert(checked.steps == 2 && checked.rank == 4 && memcmp(checked.shard, shard, sizeof shard) == 0);
+    assert(memcmp(checked.counts, counts, sizeof counts) == 0 && memcmp(checked.axes, axes, sizeof axes) == 0);
+    ishkrela_placed placed = ishkrela_place(full, sizeof full, 2, 143);
+    assert(placed.refusal == 0 && placed.rank == 4);
+    assert(memcmp(placed.shard, shard, sizeof shard) == 0 && memcmp(placed.first, first, sizeof first) == 0);
+    assert(memcmp(placed.counts, counts, sizeof counts) == 0 && memcmp(placed.axes, axes, sizeof axes) == 0);
+    assert(ishkrela_check(full, sizeof full - 1).refusal == 4);
+    assert(ishkrela_place(full, sizeof full, 2, 144).refusal == 32);
+}
 
 static void answers(void)
 {
@@ -75,6 +115,7 @@ static void empty(void)
 
 int main(void)
 {
+    fields();
     answers();
     refusals();
     groups();

@@ -1,17 +1,29 @@
 //! moved PLAN: runs a plan on the words 1, 2, 3, .. and prints the words of each device, before
 //! and after. Needs the archive (`tools/build`).
 
+use std::process::ExitCode;
+
+fn main() -> ExitCode {
+    match moved() {
+        Ok(()) => ExitCode::SUCCESS,
+        Err(message) => {
+            eprintln!("moved: {message}");
+            ExitCode::FAILURE
+        }
+    }
+}
+
 #[cfg(library)]
-fn main() {
+fn moved() -> Result<(), String> {
     use bench::answers::Device;
     use bench::library;
 
-    let path = std::env::args().nth(1).expect("usage: moved PLAN");
-    let file = std::fs::read(path).expect("a plan file");
-    let (plan, start) = match library::check(&file) {
-        Ok(plan) => (plan, library::place(&file, 0, Device(0)).expect("state 0")),
-        Err(refusal) => return println!("{refusal}"),
-    };
+    let wanted = "name a plan file, such as examples/gather_tail.plan";
+    let path = std::env::args().nth(1).ok_or(wanted)?;
+    let file = std::fs::read(&path).map_err(|error| format!("{path}: {error}: {wanted}"))?;
+    let plan = library::check(&file)
+        .map_err(|refusal| format!("{path}: {refusal}: docs/REFUSALS.md says what that is"))?;
+    let start = library::place(&file, 0, Device(0)).expect("state 0");
     let words = |shard: &[u16]| {
         shard
             .iter()
@@ -32,10 +44,10 @@ fn main() {
     library::run(&file, &mut work, &mut spare).expect("buffers of the room");
     println!("after {} steps, shards of {:?}", plan.steps, plan.shard);
     print(&work, &plan.shard);
+    Ok(())
 }
 
 #[cfg(not(library))]
-fn main() {
-    eprintln!("tools/build makes the library first");
-    std::process::exit(1);
+fn moved() -> Result<(), String> {
+    Err("target/staticlib/libcapi.a is not there: tools/build makes it".into())
 }

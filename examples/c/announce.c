@@ -1,8 +1,10 @@
 /* announce PLAN: prints what a plan announces, and where each device's shard begins.
  *
  * Judges the file, and prints for each state its sharding and shard sizes, and the first indexes
- * of the devices. Ends with status 1 where the plan is refused. */
+ * of the devices. Ends with status 1 where the plan is refused or cannot be read. */
+#include <errno.h>
 #include <stdio.h>
+#include <string.h>
 #include "ishkrela.h"
 
 static void print_list(const uint8_t *counts, const uint8_t *axes, int list)
@@ -44,15 +46,25 @@ static void print_state(const uint8_t *file, size_t len, uint16_t state, uint16_
     printf("\n");
 }
 
+static int unread(const char *path)
+{
+    fprintf(stderr, "announce: %s: %s: name a plan file, such as examples/gather_tail.plan\n", path, strerror(errno));
+    return 1;
+}
+
 int main(int argc, char **argv)
 {
-    uint8_t file[4097]; /* one byte more than a plan may have: a longer file is refused, not cut */
-    FILE *in = argc == 2 ? fopen(argv[1], "rb") : NULL;
-    if (!in) {
-        fprintf(stderr, "usage: announce PLAN\n");
-        return 2;
+    if (argc != 2) {
+        fprintf(stderr, "usage: announce PLAN; PLAN is a file such as examples/gather_tail.plan\n");
+        return 1;
     }
+    FILE *in = fopen(argv[1], "rb");
+    if (!in)
+        return unread(argv[1]);
+    uint8_t file[4097]; /* one byte more than a plan may have: a longer file is refused, not cut */
     size_t len = fread(file, 1, sizeof file, in);
+    if (ferror(in))
+        return unread(argv[1]);
     fclose(in);
 
     ishkrela_checked plan = ishkrela_check(file, len);

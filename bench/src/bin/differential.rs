@@ -71,8 +71,8 @@ fn main() -> ExitCode {
         .map_while(|text| text.parse().ok())
         .collect();
     let [seed, files, runs] = arguments[..] else {
-        eprintln!("usage: differential SEED FILES RUNS");
-        return ExitCode::from(2);
+        eprintln!("usage: differential SEED FILES RUNS; three numbers, such as 1 20000 2000");
+        return ExitCode::FAILURE;
     };
     if library().is_none() {
         println!("The library is not linked: the reference alone is tried, on demand 3.");

@@ -1,6 +1,6 @@
 //! Times the calls of the library beside the reference and plain copies, all in one run.
 //!
-//! An argument sets the number of rounds. A round measures everything, each row in a few tries:
+//! Needs the archive (`tools/build`). An argument sets the number of rounds. A round measures everything, each row in a few tries:
 //! the reference and the library take turns, and the copies for the row follow at once. Every
 //! time printed is the least of all. What is printed is Markdown, which `tools/benchmarks` puts
 //! into docs/BENCHMARKS.md.
@@ -12,6 +12,7 @@ use bench::{library, Implementation, Reference};
 use std::env;
 use std::fmt::Write;
 use std::hint::black_box;
+use std::process::ExitCode;
 use std::time::Instant;
 
 const ROUNDS: usize = 12;
@@ -26,9 +27,19 @@ macro_rules! say {
     };
 }
 
-fn main() {
-    let rounds = env::args().nth(1).and_then(|text| text.parse().ok());
-    let rounds: usize = rounds.unwrap_or(ROUNDS);
+fn main() -> ExitCode {
+    let given = env::args().nth(1);
+    let rounds = given.map_or(Some(ROUNDS), |text| text.parse().ok());
+    let Some(rounds @ 1..) = rounds else {
+        eprintln!(
+            "speed: the argument is not a number of rounds: give one from 1, or none for {ROUNDS}"
+        );
+        return ExitCode::FAILURE;
+    };
+    if library().is_none() {
+        eprintln!("speed: target/staticlib/libcapi.a is not there: tools/build makes it");
+        return ExitCode::FAILURE;
+    }
     let mut bench = Bench::new();
     for _ in 0..rounds {
         bench.begin_round();
@@ -40,6 +51,7 @@ fn main() {
         bench.limits.tell(&mut bench.page);
     }
     print!("{}", bench.page);
+    ExitCode::SUCCESS
 }
 
 fn preface(page: &mut String, rounds: usize) {
@@ -60,9 +72,6 @@ fn preface(page: &mut String, rounds: usize) {
         "`copy` is memcpy (copy_from_slice) of as many words as the steps write, between"
     );
     say!(page, "buffers of that length.");
-    if library().is_none() {
-        say!(page, "\nThe library is not linked: its columns stay empty.");
-    }
 }
 
 /// A ratio that is to stay below some number, and what was seen of it.

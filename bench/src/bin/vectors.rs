@@ -26,13 +26,22 @@ type Compare = fn(&dyn Implementation, &[&str]) -> Result<bool, String>;
 fn main() -> ExitCode {
     let arguments: Vec<PathBuf> = env::args_os().skip(1).map(PathBuf::from).collect();
     if arguments.is_empty() {
-        eprintln!("usage: vectors PATH ...");
-        return ExitCode::from(2);
+        eprintln!("usage: vectors PATH ..; a file of vectors or a folder of some, such as tests");
+        return ExitCode::FAILURE;
     }
-    let files: Vec<PathBuf> = arguments.iter().flat_map(|path| files_at(path)).collect();
-    let mut sound = !files.is_empty();
-    for file in &files {
-        sound &= report(compare_file(file));
+    let mut sound = true;
+    for path in &arguments {
+        let files = files_at(path);
+        if files.is_empty() {
+            eprintln!(
+                "{}: no vectors in this folder: name one such as tests",
+                path.display()
+            );
+            sound = false;
+        }
+        for file in &files {
+            sound &= report(compare_file(file));
+        }
     }
     if sound {
         ExitCode::SUCCESS
@@ -46,7 +55,7 @@ fn report(outcome: Result<usize, String>) -> bool {
     match outcome {
         Ok(differences) => differences == 0,
         Err(message) => {
-            println!("{message}");
+            eprintln!("{message}");
             false
         }
     }
@@ -67,9 +76,15 @@ fn compare_file(path: &Path) -> Result<usize, String> {
         "run.txt" | "runs.txt" => compare_run,
         "place.txt" | "placements.txt" => compare_place,
         "groups.txt" => compare_groups,
-        _ => return Err(format!("{name}: no kind of vectors has this name")),
+        _ => {
+            let names = NAMES.join(", ");
+            return Err(format!("{}: name one of {names}", path.display()));
+        }
     };
-    let text = fs::read_to_string(path).map_err(|error| format!("{name}: {error}"))?;
+    let text = fs::read_to_string(path).map_err(|error| {
+        let path = path.display();
+        format!("{path}: {error}: name a file of vectors, such as tests/plans.txt")
+    })?;
     let mut all = 0;
     for implementation in implementations() {
         let mut cases = 0;

@@ -1,0 +1,129 @@
+"""What the tools say where something is missing: one line on standard error that says what to do, and status 1.
+
+    python3 -m unittest discover python
+"""
+import os
+import shutil
+import subprocess
+import sys
+import tempfile
+import unittest
+
+ROOT = os.path.join(os.path.dirname(os.path.abspath(__file__)), "..")
+KEPT = ("tools", "python/ishkrela.py", "tests/plans.txt")
+
+
+class Missing(unittest.TestCase):
+    """A copy of the project in which nothing is built, with no program on the path but those linked there."""
+
+    def setUp(self):
+        self.home = tempfile.mkdtemp()
+        self.addCleanup(shutil.rmtree, self.home)
+        for kept in KEPT:
+            there = os.path.join(self.home, kept)
+            os.makedirs(os.path.dirname(there), exist_ok=True)
+            copy = shutil.copytree if os.path.isdir(os.path.join(ROOT, kept)) else shutil.copy
+            copy(os.path.join(ROOT, kept), there)
+        self.write("bin/python3", f'#!/bin/sh\nexec "{sys.executable}" "$@"\n')
+        for name in ("bash", "env", "dirname"):
+            os.symlink(shutil.which(name), os.path.join(self.home, "bin", name))
+
+    def write(self, path, text=""):
+        path = os.path.join(self.home, path)
+        os.makedirs(os.path.dirname(path), exist_ok=True)
+        with open(path, "w", encoding="utf-8") as file:
+            file.write(text)
+        os.chmod(path, 0o755)
+
+    def put_on_the_path(self, *names):
+        for name in names:
+            self.write(os.path.join("bin", name), "#!/bin/sh\n")
+
+    def assertStops(self, said, *command, printed=""):
+        there = {"PATH": os.path.join(self.home, "bin")}
+        tool, *given = command
+        tool = os.path.join(self.home, "tools", tool)
+        done = subprocess.run([tool, *given], cwd=self.home, env=there, capture_output=True, text=True)
+        self.assertEqual((done.returncode, done.stdout), (1, printed), done.stderr)
+        self.assertEqual(done.stderr.count("\n"), 1, done.stderr)
+        self.assertIn(said, done.stderr)
+
+    def test_build(self):
+        self.assertStops("rt is not on the path: add the bin folder of the Rattle kit", "build")
+        self.put_on_the_path("rt")
+        self.assertStops("cc is not on the path: install a C compiler", "build")
+
+    def test_try_c(self):
+        self.assertStops("cc is not on the path: install a C compiler", "try_c")
+        self.put_on_the_path("cc")
+        self.assertStops("libcapi.a is not there: tools/build makes it", "try_c")
+
+    def test_benchmarks(self):
+        self.put_on_the_path("rt", "cc", "cargo")
+        self.assertStops("rustc is not on the path: add it", "benchmarks")
+        self.put_on_the_path("rustc")
+        self.assertStops("libcapi.a is not there: tools/build makes it", "benchmarks")
+
+    def test_pictures(self):
+        self.assertStops("libishkrela.so is not there: tools/build makes it", "pictures")
+
+    def test_vectors(self):
+        self.assertStops("usage: tools/vectors CASES", "vectors")
+        self.assertStops("none.txt: No such file or directory: name a file of cases", "vectors", "none.txt")
+        self.assertStops("tests: Is a directory: name a file of cases", "vectors", "tests")
+        self.assertStops("`rt check plancheck` proves and builds", "vectors", "tests/plans.txt")
+        for line in ("0|1|2", "zz|no 1 0", "-|0|70000|no 1 0", "[2|[]|2|ok 0 1", "-|-1|0|no 1 0"):
+            self.write("cases.txt", f"# a case\n{line}\n")
+            self.assertStops("cases.txt, line 2: not a case: `tools/vectors --help` shows", "vectors", "cases.txt")
+
+    def test_pack(self):
+        self.assertStops("usage: tools/pack CASES FOLDER", "pack")
+        self.assertStops("none: not a folder: name that of a program", "pack", "tests/plans.txt", "none")
+        self.assertStops("none.txt: No such file or directory: name a file of cases", "pack", "none.txt", "tests")
+
+    def test_edits(self):
+        self.write("crates/one/src/lib.rt", "fn one() {\n    let a = 1;\n    let b = 1;\n    let c = 12;\n}\n")
+        self.write("crates/one/must-fail/fine.edit", "One.\nfile: src/lib.rt\nold: b = 1\nnew: b = 2\n")
+        for edit, said in (
+            ("file: src/lib.rt\nold:     let b = 2;\nnew: \n", "1.edit:2: the text after `old:` is not in crates/one/src/lib.rt"),
+            ("file: src/lib.rt\nold:     let b = 2;\nnew: \n", "line 3 is the nearest, `let b = 1;`: write the edit anew"),
+            ("\nfile: src/lib.rt\nold: = 1;\nnew: = 2;\n", "1.edit:3: the text after `old:` is in crates/one/src/lib.rt at lines 2, 3"),
+            ("file: src/lib.rt\nold: a\nnew: a\n", "1.edit:2: `new:` is the same as `old:`"),
+            ("file: src/none.rt\nold: a\nnew: b\n", "1.edit:2: crates/one/src/none.rt is not there"),
+            ("file: ../lib.rt\nold: a\nnew: b\n", "1.edit:2: `file: ../lib.rt` is not below src/"),
+            ("file: src/lib.rt\nnew: b\n", "1.edit:2: `new:` has no `old:` before it"),
+            ("file: src/lib.rt\nold: a\n", "1.edit:1: no `old:` and `new:` lines"),
+        ):
+            self.write("crates/one/must-fail/1.edit", edit)
+            self.assertStops(said, "edits", printed="1 of 2 must-fail edits apply\n")
+
+
+class Plancheck(unittest.TestCase):
+    """What the fixtures of the program don't run."""
+
+    def setUp(self):
+        self.program = os.path.join(ROOT, "target", "bin", "plancheck")
+        if not os.path.exists(self.program):
+            self.skipTest("`rt check plancheck` builds the program")
+
+    def printed(self, *given, **read):
+        done = subprocess.run([self.program, *given], capture_output=True, **read)
+        return done.stdout.decode(), done.stderr.decode()
+
+    def test_an_argument(self):
+        said = "plancheck reads standard input and takes no argument: plancheck < FILE\n"
+        self.assertEqual(self.printed("file"), ("", said))
+
+    def test_the_longest_input_and_a_longer_one(self):
+        self.assertEqual(self.printed(input=bytes(4096)), ("no 3 0\n", ""))
+        self.assertEqual(self.printed(input=bytes(4097)), ("no 2 0\n", ""))
+        self.assertEqual(self.printed(input=bytes(100000)), ("no 2 0\n", ""))
+
+    def test_a_failed_read_is_the_end(self):
+        folder = os.open(ROOT, os.O_RDONLY)
+        self.addCleanup(os.close, folder)
+        self.assertEqual(self.printed(stdin=folder), ("no 1 0\n", ""))
+
+
+if __name__ == "__main__":
+    unittest.main()
