@@ -77,9 +77,17 @@ class Missing(unittest.TestCase):
             self.assertStops("cases.txt, line 2: not a case: `tools/vectors --help` shows", "vectors", "cases.txt")
 
     def test_pack(self):
-        self.assertStops("usage: tools/pack CASES FOLDER", "pack")
-        self.assertStops("none: not a folder: name that of a program", "pack", "tests/plans.txt", "none")
-        self.assertStops("none.txt: No such file or directory: name a file of cases", "pack", "none.txt", "tests")
+        self.assertStops("usage: tools/pack, with no argument", "pack", "tests/plans.txt")
+        self.assertStops("placements.txt: No such file or directory: name a file of cases", "pack")
+
+    def test_json_cases(self):
+        self.assertStops("usage: tools/json_cases FILE.jsonl", "json_cases")
+        self.assertStops("none.jsonl: No such file or directory: name a file of cases", "json_cases", "none.jsonl")
+        for line in ("no JSON", "[]", '{"file": "00"}', '{"file": 0, "check": {}}'):
+            self.write("cases.jsonl", line)
+            self.assertStops("cases.jsonl, line 1: not a case: `tools/json_cases --help` shows", "json_cases", "cases.jsonl")
+        self.write("cases.jsonl", '{"file": "00", "check": {"no": [1, 0]}}')
+        self.assertStops("libishkrela.so is not there: tools/build makes it", "json_cases", "cases.jsonl")
 
     def test_edits(self):
         self.write("crates/one/src/lib.rt", "fn one() {\n    let a = 1;\n    let b = 1;\n    let c = 12;\n}\n")

@@ -1,16 +1,16 @@
 // What the programs print of a plan file: `no NUMBER STEP`, or `ok STEPS` and a line for each state, its number and
-// its shard sizes. Numbers and sizes are those of `plan::check` and `plan::state_after`, which answer document 01's
+// its shard sizes. Numbers and sizes are those of `ishkrela::check` and `plan::state_after`, which answer document 01's
 // definitions; that the lines are 01's is tested (tests/plans.txt).
 ghost use mathlib.Core.Path.{_≡_};
 ghost use Rattle.rules.specs.Refusals.{numberOf};
-ghost use Rattle.rules.specs.Calls.{checkMeaning, checkOf};
+ghost use Rattle.ishkrela.specs.Promises.{CheckPromise};
+use ishkrela::CheckOutcome;
+use ishkrela::Checked;
+use ishkrela::Dim;
+use ishkrela::Refusal;
+use ishkrela::check;
 use libc::STDOUT_FILENO;
-use plan::check;
 use plan::state_after;
-use rules::CheckOutcome;
-use rules::Checked;
-use rules::Dim;
-use rules::Refusal;
 use rules::Table;
 
 fn print_number(n: u64) {
@@ -68,7 +68,7 @@ fn print_passed(file: &[u8], steps: u16) {
 
 // Prints the outcome for a plan file. Answers what the check answered.
 pub fn print_answer(file: &[u8]) -> Checked
-    ensures { λ r. ⌜ checkMeaning r ≡ checkOf (now (file .entry)) ⌝ }
+    ensures { λ r. ⌜ CheckPromise (now (file .entry)) r ⌝ }
 {
     let checked = check(file);
     let outcome = checked.outcome;
