@@ -1,4 +1,4 @@
--- What the calls below promise is what the library promises (`groups-promise`), and the rules' own promises hold (`rules-promise`). Assumes nothing.
+-- What the calls below promise is what the library promises (`groups-promise`). Assumes nothing.
 use Prim.Native.Nat.{ℕ}
 use mathlib.Core.Path.{_≡_, sym, ap, _∙_}
 use mathlib.Core.List.{List}
@@ -6,15 +6,9 @@ use lib.ListN.{take, drop}
 use Rattle.rules.specs.Mesh.{Rearrangement}
 use Rattle.rules.specs.Refusals.{Judged, accept, refuse}
 use Rattle.rules.specs.Calls.{groupsOf, groupsOut, groupsLeave, groupsMeaning}
-use Rattle.rules.specs.Ledger as table
-use Rattle.rules.specs.Refused as files
 use Rattle.rules.specs.declared.GroupsOutcome.{GroupsOutcome}
-use Rattle.rules.proofs.Whole as whole
-use Rattle.rules.proofs.Locality as local
-use Rattle.rules.proofs.Groups as group
-use Rattle.rules.proofs.Sums as sums
 use Rattle.groups.proofs.Listing.{lists-all}
-use Rattle.ishkrela.specs.Promises.{GroupsPromise, RulesPromise}
+use Rattle.ishkrela.specs.Promises.{GroupsPromise}
 
 leave-refused : (mesh axes out : List ℕ) {n k : ℕ} → groupsOf mesh axes out ≡ refuse n k → groupsLeave mesh axes out ≡ out
 unfolding groupsLeave
@@ -29,15 +23,4 @@ groups-promise mesh axes out r {after} e l = record {
   rearranged = λ d q. rw l (lists-all mesh axes out d (sym e ∙ q) .rearranged);
   stay = λ d q. rw l (lists-all mesh axes out d (sym e ∙ q) .stay);
   refused = λ n k q. l ∙ leave-refused mesh axes out (sym e ∙ q);
-}
-
-pub rules-promise : RulesPromise
-rules-promise = record {
-  whole-plan = whole.whole-plan;
-  spreadable = whole.spreadable;
-  locality = local.locality;
-  group-by-position = group.groups-by-position;
-  sum-of-words = sums.addWords-total;
-  worked = table.worked;
-  refused = files.refused;
 }

@@ -14,7 +14,10 @@ pub mod Judging
 pub mod Steps
 pub mod Accepted
 pub mod Room
+pub mod Next
 pub mod Whole
+pub mod Refusing
 pub mod Locality
 pub mod Moved
 pub mod Moves
+pub mod Promises

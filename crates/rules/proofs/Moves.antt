@@ -47,7 +47,7 @@ use Rattle.rules.proofs.Steps.{
   after-shape,
   shape-length,
 }
-use Rattle.rules.proofs.Whole.{step-ready}
+use Rattle.rules.proofs.Next.{step-ready}
 pub use Rattle.rules.proofs.Moved.{moved}
 
 -- ---- along each dimension, one of two lists is empty

@@ -1,14 +1,14 @@
 -- Demand 3: a plan's whole list of steps (`whole-plan`), from the judgement of its file alone; and that every table has a faithful spread under an
--- accepted plan's start (`spreadable`). Assumes nothing.
-use Prim.Native.Nat.{ℕ, zero, _+_, _-_, _*_, _/_, _%_, _<_, _≤_, _^_}
+-- accepted plan's start (`spreadable`), in buffers with the plan's room (`startable`), which is limited (`room-limit`). Assumes nothing.
+use Prim.Native.Nat.{ℕ, zero, suc, _+_, _-_, _*_, _/_, _%_, _<_, _≤_, _^_}
 use mathlib.Core.Path.{_≡_, refl, sym, ap, ap₂, _∙_, subst}
 use mathlib.Core.Logic.{⊎-elim, _↔_}
 use mathlib.Core.Bool.{Bool, true, false}
-use mathlib.Core.List.{List, [], _∷_, _++_, append-nil}
+use mathlib.Core.List.{List, [], _∷_, _++_}
 use native.Mathlib.Nat.{mod-lt}
 use native.Mathlib.Omega.{arith}
-use lib.ListN.{length, getD, take, replicate, List·getD-eq-default}
-use lib.Seq.{take-at}
+use lib.ListN.{length, getD, take, drop, replicate, length-append, length-replicate, List·getD-eq-default}
+use lib.Seq.{take-at, take-append-seam, length-take-le}
 use lib.Dec.{T, ltb, leb, ltb→lt, nltb→le, leb→le, le→leb, lit<}
 use Rattle.rules.specs.Lists.{each, inTurn, flat, product, In, Below}
 use Rattle.rules.specs.Mesh.{devices}
@@ -24,6 +24,7 @@ use Rattle.rules.specs.Collectives.{
   cutTail,
   after,
   shapeAfter,
+  WithoutRemainder,
   sources,
   made,
   Shards,
@@ -32,12 +33,12 @@ use Rattle.rules.specs.Collectives.{
 use Rattle.rules.specs.Refusals.{Judged, accept, _>>_, _>>=_, need}
 use Rattle.rules.specs.PlanFile.{Plan, judge, announced, announcedShape, room}
 use Rattle.rules.specs.Calls.{shardsAfter, lastState, runnable, Ran, runLeaves, runOf}
-use Rattle.rules.specs.Demands.{Words, Fits, SpreadAt, returned, WholePlan, Spreadable}
+use Rattle.rules.specs.Ledger.{fileOf}
+use Rattle.rules.specs.Demands.{Words, Fits, SpreadAt, returned, startWords, WholePlan, Spreadable, Startable, RoomLimit}
 use Rattle.rules.proofs.Lists.{T?, T→true, in-right, distinct-split, length-tab, getD-tab}
 use Rattle.rules.proofs.Positions.{pos-of-lt, div-lt}
 use Rattle.rules.proofs.Buffers.{below-coords, held-tabulate, tabulate-held, length-tabulate}
-use Rattle.rules.proofs.Shapes.{Cut}
-use Rattle.rules.proofs.Sources.{Ready, WordsIn, step-words}
+use Rattle.rules.proofs.Sources.{WordsIn, step-words}
 use Rattle.rules.proofs.Spreads.{faithful-cong, slice-faithful, gather-faithful, all-to-all-faithful, reduce-faithful, spread-exists}
 use Rattle.rules.proofs.Judging.{never}
 use Rattle.rules.proofs.Steps.{
@@ -54,24 +55,14 @@ use Rattle.rules.proofs.Steps.{
   after-shape,
 }
 use Rattle.rules.proofs.Accepted.{Fine, AcceptedPlan, accepted}
-use Rattle.rules.proofs.Room.{fine-take, state}
+use Rattle.rules.proofs.Room.{fine-take, state, room-few}
+use Rattle.rules.proofs.Next.{step-ready, in-turn-next, next-divides}
 
 -- ---- one accepted step
 
 module _ (mesh sizes : List ℕ) (pos : (a : ℕ) → zero < getD mesh a 1) where
   abbrev shapeOf : Sharding → List ℕ
   shapeOf s = shardSizes mesh sizes (s .dims)
-
-  pub step-ready : (t : Step) (s : Sharding) → IsSharding mesh sizes s → AcceptedStep mesh sizes t s → Ready mesh t (shapeOf s)
-  step-ready (allSlice Ss) s h f = slice-sharding mesh sizes pos Ss s h (f .axes) (f .by-kind) .pieces
-  step-ready (allGather Gs) s h f = gather-sharding mesh sizes pos Gs s h (f .by-kind) .wholes
-  step-ready (allReduce L) s h f = tt
-  step-ready (allToAll source target L) s h f =
-      let w : ToAll mesh sizes pos source target L s = to-all-sharding mesh sizes pos source target L s h (f .axes) (f .by-kind) in
-      rw (shape-length mesh sizes pos s h) (
-        w .first .wholes,
-        subst (λ (z : List ℕ). Cut mesh (only (length (s .dims)) target L) z (shardSizes mesh z (only (length (s .dims)) target L))) (sym (w .first .announced)) (w .second .pieces),
-      )
 
   -- an accepted step makes a faithful spread of the same table, under the sharding after it
   step-spread : (t : Step) (s : Sharding) (table : List ℕ → ℕ) (w : StateOf ℕ) → IsSharding mesh sizes s → AcceptedStep mesh sizes t s
@@ -94,7 +85,7 @@ module _ (mesh sizes : List ℕ) (pos : (a : ℕ) → zero < getD mesh a 1) wher
       (k .first .cut-off a (subst (In a) (sym (flat-only (length (s .dims)) source L (f .by-kind .source-lt))) i)) j in
       all-to-all-faithful (λ a. refl) source target L (sym n)
       (subst (λ (r : ℕ). each _++_ (each cutTail (s .dims) (only r source L)) (only r source L) ≡ s .dims) (sym n) (k .first .joined))
-      (step-ready (allToAll source target L) s h f) off (h .once) (h .of-mesh) F
+      (step-ready mesh sizes pos (allToAll source target L) s h f) off (h .once) (h .of-mesh) F
 
   -- ---- steps in turn
 
@@ -117,7 +108,7 @@ module _ (mesh sizes : List ℕ) (pos : (a : ℕ) → zero < getD mesh a 1) wher
       let g : shapeAfter mesh t (shapeOf s) ≡ shapeOf (after t s) = after-shape mesh sizes pos t s h (f .0) in
       let new : StateOf ℕ = made addWords (sources mesh t (shapeOf s)) (v .words) in
       let same : new ≡ made addWords (sources mesh t (v .shape)) (v .words) = ap (λ (z : List ℕ). made addWords (sources mesh t z) (v .words)) (sym e) in
-      let words : WordsIn mesh (shapeOf (after t s)) new = subst (λ (z : List ℕ). WordsIn mesh z new) g (step-words mesh t (shapeOf s) (v .words) (step-ready t s h (f .0)) ws) in
+      let words : WordsIn mesh (shapeOf (after t s)) new = subst (λ (z : List ℕ). WordsIn mesh z new) g (step-words mesh t (shapeOf s) (v .words) (step-ready mesh sizes pos t s h (f .0)) ws) in
       let spread : Faithful addWords mesh (after t s) (shapeOf (after t s)) table new =
       subst (λ (z : List ℕ). Faithful addWords mesh (after t s) z table new) g (step-spread t s table (v .words) h (f .0) ws F) in
       steps-spread ts (after t s) table (stepped addWords mesh t v) (after-sharding mesh sizes pos t s h (f .0)) (f .1) (ap (shapeAfter mesh t) e ∙ g)
@@ -171,8 +162,15 @@ module _ (file : List ℕ) (p : Plan) (e : judge file ≡ accept p) (work spare 
 
 -- ---- demand 3
 
+-- the shape and the words of the last state
+abbrev lastShape : Plan → List ℕ
+lastShape p = announcedShape p (length (p .steps))
+
+abbrev lastWords : Plan → List ℕ → StateOf ℕ
+lastWords p work = shardsAfter p work (length (p .steps)) .words
+
 module _ {p : Plan} (a : AcceptedPlan p) where
-  plan-shapes : (work : List ℕ) (k : ℕ) → shardsAfter p work k .shape ≡ announcedShape p k
+  pub plan-shapes : (work : List ℕ) (k : ℕ) → shardsAfter p work k .shape ≡ announcedShape p k
   unfolding shardsAfter announcedShape announced
   plan-shapes work k =
       steps-shape (p .mesh) (p .sizes) (a .within .sizes-pos) addWords (take k (p .steps)) (p .start) _ (a .start-is)
@@ -185,49 +183,88 @@ module _ {p : Plan} (a : AcceptedPlan p) where
       steps-spread (p .mesh) (p .sizes) (a .within .sizes-pos) (take k (p .steps)) (p .start) table _ (a .start-is)
       (fine-take (p .mesh) (p .sizes) k (p .start) (p .steps) (a .fine)) refl (λ x i bx bi. ws _) F
 
-  -- work begins with the last state at the return
-  plan-leaves : (file : List ℕ) → judge file ≡ accept p → (work spare : List ℕ) → Fits p work spare → (x i : List ℕ) → Below x (p .mesh)
-      → Below i (announcedShape p (length (p .steps))) → returned file p work spare x i ≡ shardsAfter p work (length (p .steps)) .words x i
+  -- the buffer of the last state: its shape is the one announced last
+  pub last-buffer : (work : List ℕ) → lastState p work ≡ tabulate (p .mesh) (lastShape p) (lastWords p work)
   unfolding lastState
-  plan-leaves file e work spare f x i bx bi =
-      let n : ℕ = length (p .steps) in
-      let v : Shards ℕ = shardsAfter p work n in
-      ap (λ (b : List ℕ). held 0 (p .mesh) (announcedShape p n) b x i) (ap (λ (r : Ran). r .work) (run-fits file p e work spare f)
-      ∙ ap (λ (z : List ℕ). tabulate (p .mesh) z (v .words) ++ replicate (length work - length (lastState p work)) 0) (plan-shapes work n))
-      ∙ held-tabulate (p .mesh) (announcedShape p n) 0 (v .words) _ bx bi
+  last-buffer work = ap (λ (shape : List ℕ). tabulate (p .mesh) shape (lastWords p work)) (plan-shapes work (length (p .steps)))
 
-  -- with no steps the state is the words given
-  plan-stays : (file : List ℕ) → judge file ≡ accept p → p .steps ≡ [] → (work spare : List ℕ) → Fits p work spare
-      → take (devices (p .mesh) * product (announcedShape p 0)) (runOf file work spare .work) ≡ take (devices (p .mesh) * product (announcedShape p 0)) work
+  pub last-length : (work : List ℕ) → length (lastState p work) ≡ devices (p .mesh) * product (lastShape p)
+  last-length work = ap length (last-buffer work) ∙ length-tabulate (p .mesh) (lastShape p) (lastWords p work)
+
+  -- with no steps it is that of the words given
+  last-given : p .steps ≡ [] → (work : List ℕ) → room p ≤ length work → lastState p work ≡ take (startWords p) work
   unfolding lastState shardsAfter
-  plan-stays file e none work spare f =
-      let shape : List ℕ = announcedShape p 0 in
-      let n : ℕ = devices (p .mesh) * product shape in
-      let b : List ℕ = tabulate (p .mesh) shape (held 0 (p .mesh) shape work) in
-      let l : n ≤ length work = omega (arith, state a 0 .fits (omega arith), f .0) in
-      let s : lastState p work ≡ b =
-      ap (λ (ts : List Step). tabulate (p .mesh) (go ts .shape) (go ts .words)) (ap (λ (ts : List Step). take (length ts) ts) none) in
-      ap (take n) (ap (λ (r : Ran). r .work) (run-fits file p e work spare f) ∙ ap (λ (z : List ℕ). z ++ replicate (length work - length (lastState p work)) 0) s)
-      ∙ take-at b _ n (length-tabulate (p .mesh) shape (held 0 (p .mesh) shape work)) ∙ tabulate-held (p .mesh) shape 0 work l
+  last-given none work f =
+      ap (λ (ts : List Step). tabulate (p .mesh) (go ts .shape) (go ts .words)) (ap (λ (ts : List Step). take (length ts) ts) none)
+      ∙ tabulate-held (p .mesh) (announcedShape p 0) 0 work (omega (arith, state a 0 .fits (omega arith), f))
     where
       go : List Step → Shards ℕ
       go ts = inTurn (stepped addWords (p .mesh)) ts (record { shape = announcedShape p 0; words = held 0 (p .mesh) (announcedShape p 0) work })
 
+  module _ (work : List ℕ) where
+    begins : shardsAfter p work 0 ≡ record { shape = announcedShape p 0; words = held 0 (p .mesh) (announcedShape p 0) work }
+    unfolding shardsAfter
+    begins = refl
+
+    in-order : (k : ℕ) (t : Step) (rest : List Step) → drop k (p .steps) ≡ t ∷ rest
+        → shardsAfter p work (k + 1) ≡ stepped addWords (p .mesh) t (shardsAfter p work k)
+    unfolding shardsAfter
+    in-order k t rest d = in-turn-next (stepped addWords (p .mesh)) k t (p .steps) rest _ d
+
+  -- what work begins with at the return
+  module _ (file : List ℕ) (e : judge file ≡ accept p) (work spare : List ℕ) (f : Fits p work spare) where
+    abbrev ran : Ran
+    ran = runOf file work spare
+
+    abbrev rest : List ℕ
+    rest = replicate (length work - length (lastState p work)) 0
+
+    work-left : ran .work ≡ lastState p work ++ rest
+    work-left = ap (λ (r : Ran). r .work) (run-fits file p e work spare f)
+
+    leaves : take (length (lastState p work)) (ran .work) ≡ lastState p work
+    leaves = ap (take (length (lastState p work))) work-left ∙ take-append-seam (lastState p work) rest
+
+    holds : (x i : List ℕ) → Below x (p .mesh) → Below i (lastShape p) → returned p ran x i ≡ lastWords p work x i
+    holds x i bx bi =
+        ap (λ (b : List ℕ). held 0 (p .mesh) (lastShape p) b x i) (work-left ∙ ap (λ (b : List ℕ). b ++ rest) (last-buffer work))
+        ∙ held-tabulate (p .mesh) (lastShape p) 0 (lastWords p work) rest bx bi
+
+    stays : p .steps ≡ [] → take (startWords p) (ran .work) ≡ take (startWords p) work
+    stays none =
+        let l : startWords p ≤ length work = omega (arith, state a 0 .fits (omega arith), f .0) in
+        let g : lastState p work ≡ take (startWords p) work = last-given none work (f .0) in
+        ap (take (startWords p)) work-left ∙ take-at (lastState p work) rest (startWords p) (ap length g ∙ length-take-le (startWords p) work l) ∙ g
+
 -- THE CLAIM OVER A WHOLE PLAN
 pub whole-plan : WholePlan
-whole-plan file p e =
+whole-plan file p e work spare words =
     let a : AcceptedPlan p = accepted file p e in
     record {
-      ends = run-ends file p e;
-      stops = run-stops file p e;
+      ends = run-ends file p e work spare;
+      stops = run-stops file p e work spare;
       shardings = λ k h. state a k .sharding;
-      shapes = λ work k h. plan-shapes a work k;
-      leaves = plan-leaves a file e;
-      stays = plan-stays a file e;
-      spreads = λ table work ws F k h. plan-spreads a table work ws F k;
-      returns = λ table work spare ws f F.
-          faithful-cong (λ x i bx bi. sym (plan-leaves a file e work spare f x i bx bi)) (plan-spreads a table work ws F (length (p .steps)));
+      starts = begins a work;
+      in-order = in-order a work;
+      divides = λ k t rest d. subst (WithoutRemainder (p .mesh) t) (sym (plan-shapes a work k)) (next-divides a k t rest d);
+      shapes = λ k h. plan-shapes a work k;
+      leaves = leaves a file e work spare;
+      holds = holds a file e work spare;
+      stays = λ none f. stays a file e work spare f none;
+      spreads = λ table F k h. plan-spreads a table work words F k;
+      returns = λ f table F.
+          faithful-cong (λ x i bx bi. sym (holds a file e work spare f x i bx bi)) (plan-spreads a table work words F (length (p .steps)));
     }
+
+-- ---- there is a spread
+
+-- zeros behind a buffer read as what is not there
+getD-zeros : (l : List ℕ) (n j : ℕ) → getD (l ++ replicate n 0) j 0 ≡ getD l j 0
+getD-zeros [] zero j = refl
+getD-zeros [] (suc n) zero = refl
+getD-zeros [] (suc n) (suc j) = getD-zeros [] n j
+getD-zeros (w ∷ l) n zero = refl
+getD-zeros (w ∷ l) n (suc j) = getD-zeros l n j
 
 -- the buffer of a state of words holds words
 tabulate-words : (mesh shape : List ℕ) (w : StateOf ℕ) → WordsIn mesh shape w → Words (tabulate mesh shape w)
@@ -239,19 +276,35 @@ tabulate-words mesh shape w ws j = ⊎-elim
     (λ t. subst (λ z. z < 2 ^ 32) (sym (List·getD-eq-default (tabulate mesh shape w) 0 (subst (λ z. z ≤ j) (sym (length-tab (devices mesh * product shape) _)) (nltb→le j (devices mesh * product shape) t)))) (lit< tt))
     (T? (ltb j (devices mesh * product shape)))
 
--- Every table of words has a faithful spread under an accepted plan's start.
+-- Every table of words has a faithful spread under an accepted plan's start, in a buffer of any length that holds it.
 pub spreadable : Spreadable
 unfolding shardsAfter announced
-spreadable file p e table words =
+spreadable file p e table words len l =
     let a : AcceptedPlan p = accepted file p e in
     let shape : List ℕ = announcedShape p 0 in
     let s : Sharding = p .start in
     let h : IsSharding (p .mesh) (p .sizes) s = a .start-is in
     let w : (w : StateOf ℕ) × WordsIn (p .mesh) shape w × Faithful addWords (p .mesh) s shape table w =
     spread-exists (p .mesh) s shape table (h .once) (λ b i. h .of-mesh b (in-right b (flat (s .dims)) (s .unreduced) i)) (λ x i bx bi. words _) in
-    let work : List ℕ = tabulate (p .mesh) shape (w .0) in (
-      work,
-      length-tabulate (p .mesh) shape (w .0),
-      tabulate-words (p .mesh) shape (w .0) (w .1),
-      faithful-cong (λ x i bx bi. sym (ap (λ (b : List ℕ). held 0 (p .mesh) shape b x i) (sym (append-nil work)) ∙ held-tabulate (p .mesh) shape 0 (w .0) [] bx bi)) (w .2),
+    let front : List ℕ = tabulate (p .mesh) shape (w .0) in
+    let rest : List ℕ = replicate (len - startWords p) 0 in (
+      front ++ rest,
+      length-append front rest ∙ omega (arith, length-tabulate (p .mesh) shape (w .0), length-replicate {A = ℕ} (len - startWords p) 0),
+      λ j. subst (λ z. z < 2 ^ 32) (sym (getD-zeros front (len - startWords p) j)) (tabulate-words (p .mesh) shape (w .0) (w .1) j),
+      faithful-cong (λ x i bx bi. sym (held-tabulate (p .mesh) shape 0 (w .0) rest bx bi)) (w .2),
     )
+
+-- and so in buffers with the plan's room
+pub startable : Startable
+startable file p e table words =
+    let w = spreadable file p e table words (room p) (state (accepted file p e) 0 .fits (omega arith)) in
+    (w .0, replicate (room p) 0, (omega (arith, w .1), omega (arith, length-replicate {A = ℕ} (room p) 0)), w .2, w .3)
+
+-- "so at most 1,048,576 words"
+pub room-limit : RoomLimit
+room-limit file p e = room-few (accepted file p e)
+
+-- 256 devices with all 4,096 words each have that room
+room-reached : (p : Plan) × (judge (fileOf (256 ∷ []) (4096 ∷ []) ([] ∷ [] ∷ []) []) ≡ accept p) × (room p ≡ 1_048_576)
+unfolding fileOf judge room
+room-reached = (record { mesh = 256 ∷ []; sizes = 4096 ∷ []; start = record { dims = [] ∷ []; unreduced = [] }; steps = [] }, refl, refl)

@@ -4,9 +4,10 @@
 use Prim.Native.Nat.{ℕ, _+_, _-_, _*_, _/_, _%_}
 use mathlib.Core.List.{List, [], _∷_, _++_, map}
 use lib.ListN.{length, set, take, replicate}
+use lib.Dec.{T}
 use Rattle.rules.specs.Lists.{each, flat, without}
 use Rattle.rules.specs.Mesh.{span, member, members}
-use Rattle.rules.specs.Sharding.{Sharding, shardSizes, firstIndexes}
+use Rattle.rules.specs.Sharding.{Sharding, divisible, shardSizes, firstIndexes}
 use Rattle.rules.specs.Spread.{StateOf, from}
 
 -- "All-slice has one axis list per dimension", "All-gather has one list per dimension", "All-reduce has one list", "All-to-all has a source
@@ -66,6 +67,14 @@ shapeAfter mesh (allGather Gs) shape = grown mesh Gs shape
 shapeAfter mesh (allReduce L) shape = shape
 shapeAfter mesh (allToAll source target L) shape =
     shardSizes mesh (grown mesh (only (length shape) source L) shape) (only (length shape) target L)
+
+-- "without remainder": of an all-slice, the sizes that it is given; of an all-to-all, those that its gather leaves
+abbrev pub WithoutRemainder : List ℕ → Step → List ℕ → Type 0
+WithoutRemainder mesh (allSlice Ss) shape = T (divisible mesh shape Ss)
+WithoutRemainder mesh (allGather Gs) shape = Unit {0}
+WithoutRemainder mesh (allReduce L) shape = Unit {0}
+WithoutRemainder mesh (allToAll source target L) shape =
+    T (divisible mesh (grown mesh (only (length shape) source L) shape) (only (length shape) target L))
 
 -- ---- the words after a step; `shape` is the shards' shape before it
 

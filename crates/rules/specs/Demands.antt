@@ -1,18 +1,21 @@
--- What the rules promise of themselves: demand 3 over an accepted plan's whole list of steps, that it speaks of something, the locality of one step,
--- and what groups and sums of words are. These are statements; proofs/Whole.antt, Locality.antt, Groups.antt and Sums.antt prove them. Assumes nothing.
+-- What the rules promise of themselves: demand 3 over an accepted plan's whole list of steps, that it speaks of something, the room's limit, the
+-- numbers of refusals, the locality of one step, and what groups and sums of words are. These are statements; proofs/Whole.antt, Refusing.antt,
+-- Locality.antt, Groups.antt and Sums.antt prove them. Assumes nothing.
 use Prim.Native.Nat.{ℕ, _+_, _*_, _%_, _≤_, _<_, _^_}
 use mathlib.Core.Path.{_≡_}
-use mathlib.Core.Logic.{_↔_}
+use mathlib.Core.Logic.{_↔_, _⊎_}
 use mathlib.Core.List.{List, [], _∷_}
 use lib.ListN.{length, getD, take, drop}
-use Rattle.rules.specs.Lists.{product, total, In, Distinct, All, Below}
+use Rattle.rules.specs.Lists.{tab, product, total, In, Distinct, All, Below}
 use Rattle.rules.specs.Mesh.{devices, SameGroup, IsGroup}
 use Rattle.rules.specs.Spread.{StateOf, Faithful, addWords, held}
 use Rattle.rules.specs.Sharding.{IsSharding}
-use Rattle.rules.specs.Collectives.{Step, stepAxes, stepped}
-use Rattle.rules.specs.Refusals.{accept}
-use Rattle.rules.specs.PlanFile.{Plan, judge, announced, announcedShape, room}
-use Rattle.rules.specs.Calls.{shardsAfter, runOf}
+use Rattle.rules.specs.Collectives.{Step, stepAxes, WithoutRemainder, stepped}
+use Rattle.rules.specs.Refusals.{accept, refuse}
+use Rattle.rules.specs.PlanFile.{stepCount, Plan, judge, announced, announcedShape, room}
+use Rattle.rules.specs.Calls.{checkOf, placeOf, groupsOf, shardsAfter, lastState, Ran, runOf}
+
+-- ---- demand 3
 
 -- every entry of a buffer is a 32-bit word
 abbrev pub Words : List ℕ → Type 0
@@ -26,42 +29,87 @@ Fits p work spare = (room p ≤ length work) × (room p ≤ length spare)
 abbrev pub SpreadAt : Plan → (table : List ℕ → ℕ) → ℕ → StateOf ℕ → Type 0
 SpreadAt p table k w = Faithful addWords (p .mesh) (announced p k) (announcedShape p k) table w
 
--- the words that work begins with at the return, as a state in the shape announced last
-abbrev pub returned : (file : List ℕ) → Plan → (work spare : List ℕ) → StateOf ℕ
-returned file p work spare = held 0 (p .mesh) (announcedShape p (length (p .steps))) (runOf file work spare .work)
+-- the words that work begins with after a run, as a state in the shape announced last
+abbrev pub returned : Plan → Ran → StateOf ℕ
+returned p ran = held 0 (p .mesh) (announcedShape p (length (p .steps))) (ran .work)
 
--- Demand 3, of a file that the check passed and its plan: one claim over the whole list of steps. Step k + 1 is given what the first k steps left.
-pub record Demand3 (file : List ℕ) (p : Plan) : Type 0 where
+-- the words of the start's state
+abbrev pub startWords : Plan → ℕ
+startWords p = devices (p .mesh) * product (announcedShape p 0)
+
+-- Demand 3, of a plan that the check passed, the words in two buffers, and what a run on them answers and leaves: one claim over the whole list of
+-- steps in running order. `shardsAfter p work k` is what step k left.
+pub record Demand3 (p : Plan) (work spare : List ℕ) (ran : Ran) : Type 0 where
   -- "the run reaches the end exactly when neither buffer is shorter than the room the check named"
-  pub ends : (work spare : List ℕ) → (runOf file work spare .outcome ≡ accept tt) ↔ Fits p work spare
+  pub ends : (ran .outcome ≡ accept tt) ↔ Fits p work spare
   -- "a run that stops at a short buffer takes no step"
-  pub stops : (work spare : List ℕ) → ¬ Fits p work spare → (runOf file work spare .work ≡ work) × (runOf file work spare .spare ≡ spare)
+  pub stops : ¬ Fits p work spare → (ran .work ≡ work) × (ran .spare ≡ spare)
   -- every announced sharding is one: no axis twice, and each dimension divides without remainder
   pub shardings : (k : ℕ) → k ≤ length (p .steps) → IsSharding (p .mesh) (p .sizes) (announced p k)
+  -- "Before the first step each device has its shard from work, in the start's shard sizes."
+  pub starts : shardsAfter p work 0 ≡ record { shape = announcedShape p 0; words = held 0 (p .mesh) (announcedShape p 0) work }
+  -- "Each later step is given the shards that the step before it left."
+  pub in-order : (k : ℕ) (t : Step) (rest : List Step) → drop k (p .steps) ≡ t ∷ rest
+      → shardsAfter p work (k + 1) ≡ stepped addWords (p .mesh) t (shardsAfter p work k)
+  -- "All-slice divides each size, without remainder": of the shape that the step itself is given
+  pub divides : (k : ℕ) (t : Step) (rest : List Step) → drop k (p .steps) ≡ t ∷ rest → WithoutRemainder (p .mesh) t (shardsAfter p work k .shape)
   -- "Every step is given and leaves shards of exactly the announced shape."
-  pub shapes : (work : List ℕ) (k : ℕ) → k ≤ length (p .steps) → shardsAfter p work k .shape ≡ announcedShape p k
-  -- "At the return the work buffer begins with the words that the last step left, word for word as defined."
-  pub leaves : (work spare : List ℕ) → Fits p work spare → (x i : List ℕ) → Below x (p .mesh) → Below i (announcedShape p (length (p .steps)))
-      → returned file p work spare x i ≡ shardsAfter p work (length (p .steps)) .words x i
+  pub shapes : (k : ℕ) → k ≤ length (p .steps) → shardsAfter p work k .shape ≡ announcedShape p k
+  -- "At the return the work buffer begins with the words that the last step left, word for word as defined.": as a buffer, and as a state
+  pub leaves : Fits p work spare → take (length (lastState p work)) (ran .work) ≡ lastState p work
+  pub holds : Fits p work spare → (x i : List ℕ) → Below x (p .mesh) → Below i (announcedShape p (length (p .steps)))
+      → returned p ran x i ≡ shardsAfter p work (length (p .steps)) .words x i
   -- "With no steps, the first D times m words stay as given."
-  pub stays : p .steps ≡ [] → (work spare : List ℕ) → Fits p work spare
-      → take (devices (p .mesh) * product (announcedShape p 0)) (runOf file work spare .work) ≡ take (devices (p .mesh) * product (announcedShape p 0)) work
+  pub stays : p .steps ≡ [] → Fits p work spare → take (startWords p) (ran .work) ≡ take (startWords p) work
   -- "A faithful spread of a table at the start is, after every step and at the return, a faithful spread of that same table under the announced
   -- sharding."
-  pub spreads : (table : List ℕ → ℕ) (work : List ℕ) → Words work → SpreadAt p table 0 (shardsAfter p work 0 .words)
+  pub spreads : (table : List ℕ → ℕ) → SpreadAt p table 0 (shardsAfter p work 0 .words)
       → (k : ℕ) → k ≤ length (p .steps) → SpreadAt p table k (shardsAfter p work k .words)
-  pub returns : (table : List ℕ → ℕ) (work spare : List ℕ) → Words work → Fits p work spare → SpreadAt p table 0 (shardsAfter p work 0 .words)
-      → SpreadAt p table (length (p .steps)) (returned file p work spare)
+  pub returns : Fits p work spare → (table : List ℕ → ℕ) → SpreadAt p table 0 (shardsAfter p work 0 .words)
+      → SpreadAt p table (length (p .steps)) (returned p ran)
 
+-- "For any plan that the check passed, whatever its steps, and any two buffers": of 32-bit words
 abbrev pub WholePlan : Type 0
-WholePlan = (file : List ℕ) (p : Plan) → judge file ≡ accept p → Demand3 file p
+WholePlan = (file : List ℕ) (p : Plan) → judge file ≡ accept p → (work spare : List ℕ) → Words work → Demand3 p work spare (runOf file work spare)
 
--- Demand 3 speaks of something: every table of words has a buffer that is a faithful spread of it under an accepted plan's start, unreduced axes or
--- not, with as many words as the start's state.
+-- Demand 3 speaks of something: every table of words has a work buffer that is a faithful spread of it under an accepted plan's start, unreduced axes
+-- or not, of every length from the start's state on; and there are two buffers with the plan's room, work such a spread.
 abbrev pub Spreadable : Type 0
 Spreadable =
+    (file : List ℕ) (p : Plan) → judge file ≡ accept p → (table : List ℕ → ℕ) → ((i : List ℕ) → table i < 2 ^ 32) → (len : ℕ) → startWords p ≤ len
+    → (work : List ℕ) × (length work ≡ len) × Words work × SpreadAt p table 0 (shardsAfter p work 0 .words)
+
+abbrev pub Startable : Type 0
+Startable =
     (file : List ℕ) (p : Plan) → judge file ≡ accept p → (table : List ℕ → ℕ) → ((i : List ℕ) → table i < 2 ^ 32)
-    → (work : List ℕ) × (length work ≡ devices (p .mesh) * product (announcedShape p 0)) × Words work × SpreadAt p table 0 (shardsAfter p work 0 .words)
+    → (work spare : List ℕ) × Fits p work spare × Words work × SpreadAt p table 0 (shardsAfter p work 0 .words)
+
+-- "so at most 1,048,576 words"
+abbrev pub RoomLimit : Type 0
+RoomLimit = (file : List ℕ) (p : Plan) → judge file ≡ accept p → room p ≤ 1_048_576
+
+-- ---- refusals
+
+-- the numbers of a file's refusals outside its steps, and inside them
+abbrev pub fileNumbers : List ℕ
+fileNumbers = tab 17 (λ i. i + 1)
+
+abbrev pub stepNumbers : List ℕ
+stepNumbers = tab 9 (λ i. i + 20)
+
+-- "A refusal is a reason together with a step number, counted from 1; the step number is 0 for every refusal outside 20 to 28.": refusal n with step k
+-- has one of the numbers, outside the steps, or is inside one of so many steps.
+abbrev pub Numbered : (numbers : List ℕ) → (steps n k : ℕ) → Type 0
+Numbered numbers steps n k = (In n numbers × (k ≡ 0)) ⊎ (In n stepNumbers × (1 ≤ k) × (k ≤ steps))
+
+-- the refusals of the four calls, on any input
+pub record RefusalNumbers : Type 0 where
+  pub check : (file : List ℕ) (n k : ℕ) → checkOf file ≡ refuse n k → Numbered fileNumbers (stepCount file) n k
+  pub place : (file : List ℕ) (state device n k : ℕ) → placeOf file state device ≡ refuse n k → Numbered (32 ∷ 34 ∷ fileNumbers) (stepCount file) n k
+  pub groups : (mesh axes out : List ℕ) (n k : ℕ) → groupsOf mesh axes out ≡ refuse n k → Numbered (5 ∷ 10 ∷ 11 ∷ 14 ∷ 15 ∷ 33 ∷ []) 0 n k
+  pub run : (file work spare : List ℕ) (n k : ℕ) → runOf file work spare .outcome ≡ refuse n k → Numbered (30 ∷ 31 ∷ fileNumbers) (stepCount file) n k
+
+-- ---- one step, groups, sums
 
 -- "A device's new shard after one step depends on no word outside its group along the step's axes. Two buffers that agree on that group give that
 -- device the same shard.": of step k + 1 of an accepted plan, for words of every type.

@@ -13,3 +13,4 @@ pub mod Demands
 pub mod Ledger
 pub mod Refused
 pub mod Meanings
+pub mod Promises

@@ -283,7 +283,8 @@ refused = (
 )
 
 -- 34, 32; 5, 10, 11, 14, 15, 33; 30, 31. A refused call leaves all that it was lent.
-pub refused-calls :
+abbrev pub RefusedCalls : Type 0
+RefusedCalls =
     (placeOf w1 2 9 ≡ refuse 34 0)
     × (placeOf w1 1 4 ≡ refuse 32 0)
     × (placeOf (but 0 2) 2 9 ≡ refuse 3 0)
@@ -298,5 +299,7 @@ pub refused-calls :
     × (runOf w1 (nines 31) (nines 31) ≡ record { outcome = refuse 30 0; work = nines 31; spare = nines 31 })
     × (runOf w1 (nines 32) (nines 31) ≡ record { outcome = refuse 31 0; work = nines 32; spare = nines 31 })
     × (runOf (but 0 2) [] [] ≡ record { outcome = refuse 3 0; work = []; spare = [] })
+
+pub refused-calls : RefusedCalls
 unfolding placeOf groupsOf groupsLeave runOf
 refused-calls = (refl, refl, refl, refl, refl, refl, refl, refl, refl, refl, refl, refl, refl, refl)

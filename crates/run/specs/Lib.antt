@@ -1,3 +1,2 @@
--- The run's promise, and what its parts ask for and leave.
-pub mod Promise
+-- What the run's parts ask for and leave.
 pub mod Turns

@@ -1,15 +1,15 @@
 // The run of a plan: its judgement, the tests of the two buffers, the steps in turn, and zeros behind the last state.
-// What it answers and leaves is defined in rules/specs/Calls.antt (runOf); specs/Promise.antt is its promise, specs/Turns.antt has what the parts
+// What it answers and leaves is defined in rules/specs/Calls.antt (runOf); rules/specs/Promises.antt has its promise, specs/Turns.antt what the parts
 // ask for and leave.
 ghost use mathlib.Core.Path.{_≡_};
 ghost use Prim.Native.Nat.{_*_, _≤_};
 ghost use lib.ListN.{length, take, replicate};
 ghost use Rattle.rules.specs.Lists.{pick, product};
 ghost use Rattle.rules.specs.Limits.{mostDevices, mostWords};
+ghost use Rattle.rules.specs.Promises.{RunPromise};
 ghost use Rattle.plan.specs.Parts.{Bounded, answerOf};
 ghost use Rattle.step.specs.Stepping.{inPlace};
 ghost use Rattle.run.specs.Turns.{Runs, Turn, Takes, nextBuffer, standsAfter, BeginsWithLast};
-ghost use Rattle.run.specs.Promise.{RunPromise};
 use dims::shard_of;
 use dims::words;
 use plan::Taken;

@@ -9,8 +9,9 @@ use Rattle.rules.specs.PlanFile.{room}
 use Rattle.rules.specs.Calls.{runMeaning}
 use Rattle.rules.specs.declared.RunOutcome.{RunOutcome}
 use Rattle.rules.specs.declared.RunOutcome.the-variants.{Finished}
+use Rattle.rules.proofs.Promises.{run-promise}
 use Rattle.plan.proofs.Wholes.{plan-held, whole-stopped, bounded}
-use Rattle.run.proofs.Promises.{stops-file, stops-work, stops-spare, finishes, last-size, last-fits, promise}
+use Rattle.run.proofs.Returns.{stops-file, stops-work, stops-spare, finishes, last-size, last-fits}
 use Rattle.run.proofs.Zeros.{cleared-behind}
 use Rattle.run.proofs.run.Statement.{statement}
 use Rattle.run.proofs.run.Tie as tie
@@ -32,7 +33,7 @@ returns c =
     let j = c .before .before .before in
     let s = j .before .before .before .before in
     let e = whole-stopped _ _ (j .judge-file .ensures) (c .before .enum-told .given .1) (c .refusal .ensures) in
-    promise _ _ _ _ (λ i. j .before .before .slice-known .given i .fits) (stops-file _ (now (s .args .work)) (now (s .args .spare)) e)
+    run-promise _ _ _ _ (λ i. j .before .before .slice-known .given i .fits) (stops-file _ (now (s .args .work)) (now (s .args .spare)) e)
 
 mul-room : tie.Need-mul-room
 mul-room c =
@@ -48,7 +49,7 @@ returns-2 c =
     let s = j .before .before .before .before in
     let h = plan-held _ _ (j .judge-file .ensures) (c .before .before .before .before .next .given .1) in
     let l : length (now (s .args .work)) < room (h .0) = omega (arith, h .2 .room-is, c .before .if1 .taken) in
-    promise _ _ _ (c .refused .result) (λ i. j .before .before .slice-known .given i .fits)
+    run-promise _ _ _ (c .refused .result) (λ i. j .before .before .slice-known .given i .fits)
     (stops-work _ (now (s .args .work)) (now (s .args .spare)) (h .1) l
     ∙ ap (λ (o : RunOutcome). record { outcome = runMeaning o; work = now (s .args .work); spare = now (s .args .spare) }) (sym (c .refused .ensures)))
 
@@ -62,7 +63,7 @@ returns-3 c =
     let h = plan-held _ _ (j .judge-file .ensures) (c .before .before .before .before .before .next .given .1) in
     let w : room (h .0) ≤ length (now (s .args .work)) = omega (arith, h .2 .room-is, c .before .before .if1 .left) in
     let l : length (now (s .args .spare)) < room (h .0) = omega (arith, h .2 .room-is, c .before .if2 .taken) in
-    promise _ _ _ (c .refused2 .result) (λ i. j .before .before .slice-known .given i .fits)
+    run-promise _ _ _ (c .refused2 .result) (λ i. j .before .before .slice-known .given i .fits)
     (stops-spare _ (now (s .args .work)) (now (s .args .spare)) (h .1) w l
     ∙ ap (λ (o : RunOutcome). record { outcome = runMeaning o; work = now (s .args .work); spare = now (s .args .spare) }) (sym (c .refused2 .ensures)))
 
@@ -139,7 +140,7 @@ returns-4 c =
     let f = ap (λ (n : ℕ). take n (g .bring-home .last .1 .1 .0)) (sym e) ∙ g .bring-home .ensures .1
     ∙ ap (λ (n : ℕ). take n (pick (r .run-steps .result) (r .run-steps .last .1 .1 .1 .0) (r .run-steps .last .1 .1 .1 .1 .0))) e
     ∙ r .run-steps .ensures (h .0) (h .1) in
-    promise _ _ _ Finished (λ i. j .before .before .slice-known .given i .fits)
+    run-promise _ _ _ Finished (λ i. j .before .before .slice-known .given i .fits)
     (finishes _ work spare (h .1) (w, q) (cleared-behind _ work _ _ _ e (sub-clear (c .before .before .before .before)) lw f (c .before .before .clear .ensures))
     (g .bring-home .ensures .0 ∙ ap (λ (n : ℕ). replicate n 0) ls))
 

@@ -1,0 +1,61 @@
+-- The promises: what each call answers and leaves, on any input, as the `ensures` of its function and of the library's; and what the rules promise of
+-- themselves (`RulesPromise`; proofs/Promises.antt proves it). Assumes nothing.
+use Prim.Native.Nat.{ℕ, _≤_}
+use mathlib.Core.Path.{_≡_}
+use mathlib.Core.Logic.{_↔_}
+use mathlib.Core.List.{List}
+use lib.ListN.{length}
+use Rattle.rules.specs.Lists.{All}
+use Rattle.rules.specs.Refusals.{accept}
+use Rattle.rules.specs.PlanFile.{Plan, judge}
+use Rattle.rules.specs.Calls.{CheckAnswer, checkOf, runOf, runMeaning}
+use Rattle.rules.specs.Demands.{
+  Demand3,
+  WholePlan,
+  Spreadable,
+  Startable,
+  RoomLimit,
+  RefusalNumbers,
+  Locality,
+  GroupByPosition,
+  SumOfWords,
+}
+use Rattle.rules.specs.Ledger.{Holds, ledger}
+use Rattle.rules.specs.Refused.{refusals, RefusedCalls}
+use Rattle.rules.specs.declared.Refusal.{Refusal}
+use Rattle.rules.specs.declared.RunOutcome.{RunOutcome}
+use Rattle.rules.specs.declared.RunOutcome.the-variants as run
+
+-- ---- the run
+
+-- Of any file and any two buffers of words: what the run answers, and what the buffers hold after it.
+pub record RunPromise (file work spare : List ℕ) (outcome : RunOutcome) (workAfter spareAfter : List ℕ) : Type 0 where
+  -- "a bad plan gets the refusal number and step number that the rules name": the outcome is the definition's
+  pub answers : runMeaning outcome ≡ runOf file work spare .outcome
+  -- "the words are fixed for unfaithful buffers as well": both buffers at the return are the definition's
+  pub work-is : workAfter ≡ runOf file work spare .work
+  pub spare-is : spareAfter ≡ runOf file work spare .spare
+  -- "and no word of a borrowed buffer is changed"
+  pub refused : (r : Refusal) → outcome ≡ run.Refused r → (workAfter ≡ work) × (spareAfter ≡ spare)
+  -- "the run reaches the end exactly when" the check passes the file and "neither buffer is shorter than the room the check named"
+  pub ends : (outcome ≡ run.Finished) ↔ ((c : CheckAnswer) × (checkOf file ≡ accept c) × (c .room ≤ length work) × (c .room ≤ length spare))
+  -- demand 3, of what the run answered and left
+  pub demand-3 : (p : Plan) → judge file ≡ accept p
+      → Demand3 p work spare (record { outcome = runMeaning outcome; work = workAfter; spare = spareAfter })
+
+-- ---- what the rules promise of themselves
+
+-- Demand 3 for every plan that passes, and that it speaks of something; the room's limit; the numbers of refusals; a step's locality; what a group
+-- and a sum of words are; the ledger W1 to W10; a file or a call for each refusal number.
+pub record RulesPromise : Type 1 where
+  pub whole-plan : WholePlan
+  pub spreadable : Spreadable
+  pub startable : Startable
+  pub room-limit : RoomLimit
+  pub refusal-numbers : RefusalNumbers
+  pub locality : Locality
+  pub group-by-position : GroupByPosition
+  pub sum-of-words : SumOfWords
+  pub worked : All Holds ledger
+  pub refused : All Holds refusals
+  pub refused-calls : RefusedCalls
