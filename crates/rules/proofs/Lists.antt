@@ -10,7 +10,7 @@ use native.Mathlib.Decide.{ℕ-discrete}
 use lib.ListN.{length, getD, take, replicate, length-append, List·getD-append}
 use lib.Seq.{getD-at}
 use lib.Dec.{T, T-not, not-T, eqb, eqb-refl, eqb→eq}
-use Rattle.rules.specs.Lists.{tab, each, both, pick, flat, mem, keep, without, In, Distinct, All, Below, none, more}
+use Rattle.rules.specs.Lists.{tab, each, both, pick, flat, mem, keep, without, In, Distinct, All, done, _&_, Below, none, more}
 
 -- ---- tabulated lists
 
@@ -58,25 +58,25 @@ any-default (b ∷ l) (suc a) x y h = any-default l a x y (omega arith)
 -- ---- P of each entry
 
 pub all-append : {A : Type 0} (P : A → Type 0) (l m : List A) → All P l → All P m → All P (l ++ m)
-all-append P [] m p q = q
-all-append P (a ∷ l) m p q = (p .0, all-append P l m (p .1) q)
+all-append P [] m done q = q
+all-append P (a ∷ l) m (h & p) q = h & all-append P l m p q
 
 pub all-tab : {A : Type 0} (P : A → Type 0) (n : ℕ) (f : ℕ → A) → ((k : ℕ) → k < n → P (f k)) → All P (tab n f)
-all-tab P zero f h = tt
-all-tab P (suc n) f h = all-append P (tab n f) (f n ∷ []) (all-tab P n f (λ k l. h k (omega arith))) (h n (omega arith), tt)
+all-tab P zero f h = done
+all-tab P (suc n) f h = all-append P (tab n f) (f n ∷ []) (all-tab P n f (λ k l. h k (omega arith))) (h n (omega arith) & done)
 
 pub all-map : {A B : Type 0} (P : B → Type 0) (f : A → B) (l : List A) → All (λ a. P (f a)) l → All P (map f l)
-all-map P f [] h = tt
-all-map P f (a ∷ l) h = (h .0, all-map P f l (h .1))
+all-map P f [] done = done
+all-map P f (a ∷ l) (h & p) = h & all-map P f l p
 
 pub all-imp : {A : Type 0} (P Q : A → Type 0) (l : List A) → ((a : A) → P a → Q a) → All P l → All Q l
-all-imp P Q [] f h = tt
-all-imp P Q (a ∷ l) f h = (f a (h .0), all-imp P Q l f (h .1))
+all-imp P Q [] f done = done
+all-imp P Q (a ∷ l) f (h & p) = f a h & all-imp P Q l f p
 
 -- two functions that agree on a list's entries make one list of it
 pub map-all : {A B : Type 0} (f g : A → B) (l : List A) → All (λ a. f a ≡ g a) l → map f l ≡ map g l
-map-all f g [] h = refl
-map-all {B = B} f g (a ∷ l) h = ap₂ (λ (b : B) (m : List B). b ∷ m) (h .0) (map-all f g l (h .1))
+map-all f g [] done = refl
+map-all {B = B} f g (a ∷ l) (h & p) = ap₂ (λ (b : B) (m : List B). b ∷ m) h (map-all f g l p)
 
 -- ---- membership
 

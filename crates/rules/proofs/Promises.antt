@@ -10,7 +10,8 @@ use Rattle.rules.specs.PlanFile.{Plan, judge, announced, announcedShape,
 use Rattle.rules.specs.Calls.{CheckAnswer, checkOf, runnable, Ran, runLeaves, runOf, runMeaning}
 use Rattle.rules.specs.Demands.{Words, Demand3}
 use Rattle.rules.specs.Ledger as table
-use Rattle.rules.specs.Refused as files
+use Rattle.rules.specs.WorkedRefusals as files
+use Rattle.rules.specs.WorkedLimits as sizes
 use Rattle.rules.specs.Promises.{RunPromise, RulesPromise}
 use Rattle.rules.specs.declared.Refusal.{Refusal}
 use Rattle.rules.specs.declared.RunOutcome.{RunOutcome}
@@ -119,6 +120,7 @@ rules-promise = record {
   group-by-position = group.groups-by-position;
   sum-of-words = sums.addWords-total;
   worked = table.worked;
+  beside = table.worked-beside;
   refused = files.refused;
-  refused-calls = files.refused-calls;
+  limited = sizes.limited;
 }

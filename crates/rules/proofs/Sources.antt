@@ -6,7 +6,7 @@ use mathlib.Core.Path.{_≡_, refl, sym, ap, fun-ext}
 use mathlib.Core.Logic.{⊎-elim}
 use mathlib.Core.List.{List, [], _∷_, map}
 use lib.ListN.{length, replicate}
-use Rattle.rules.specs.Lists.{flat, In, All, Below}
+use Rattle.rules.specs.Lists.{flat, In, All, done, _&_, Below}
 use Rattle.rules.specs.Mesh.{members, SameGroup}
 use Rattle.rules.specs.Sharding.{shardSizes, firstIndexes}
 use Rattle.rules.specs.Spread.{StateOf, addWords, from}
@@ -107,28 +107,29 @@ module _ (mesh : List ℕ) where
   pub sources-near : (t : Step) (shape x i : List ℕ) → Ready mesh t shape → Below x mesh → Below i (shapeAfter mesh t shape)
       → All (Near mesh shape (stepAxes t) x) (sources mesh t shape x i)
   unfolding sources slicePlace gatherPlace
-  sources-near (allSlice Ss) shape x i c bx bi = (record { device-below = bx; index-below = piece-below mesh c bx bi; in-group = λ a off. refl }, tt)
-  sources-near (allGather Gs) shape x i c bx bi = (
-    record {
-      device-below = below-owner mesh c bi bx;
-      index-below = below-within mesh c bi;
-      in-group = λ a off. sym (owner-other mesh Gs shape i x a off);
-    },
-    tt,
-  )
+  sources-near (allSlice Ss) shape x i c bx bi =
+      let near : Near mesh shape (flat Ss) x (slicePlace mesh Ss shape x i) = record {
+        device-below = bx;
+        index-below = piece-below mesh c bx bi;
+        in-group = λ a off. refl;
+      } in near & done
+  sources-near (allGather Gs) shape x i c bx bi =
+      let near : Near mesh shape (flat Gs) x (gatherPlace mesh Gs shape x i) = record {
+        device-below = below-owner mesh c bi bx;
+        index-below = below-within mesh c bi;
+        in-group = λ a off. sym (owner-other mesh Gs shape i x a off);
+      } in near & done
   sources-near (allReduce L) shape x i c bx bi = reduce-near L shape x i bx bi
   sources-near (allToAll source target L) shape x i c bx bi =
       let Gs : List (List ℕ) = only (length shape) source L in
       let Ss : List (List ℕ) = only (length shape) target L in
       let j : List ℕ = from (firstIndexes mesh Ss (shardSizes mesh (grown mesh Gs shape) Ss) x) i in
-      let bj : Below j (grown mesh Gs shape) = piece-below mesh (c .1) bx bi in (
-        record {
-          device-below = below-owner mesh (c .0) bj bx;
-          index-below = below-within mesh (c .0) bj;
-          in-group = λ a off. sym (owner-other mesh Gs shape j x a (λ u. off (in-only a (length shape) source L u)));
-        },
-        tt,
-      )
+      let bj : Below j (grown mesh Gs shape) = piece-below mesh (c .1) bx bi in
+      let near : Near mesh shape L x (gatherPlace mesh Gs shape x j) = record {
+        device-below = below-owner mesh (c .0) bj bx;
+        index-below = below-within mesh (c .0) bj;
+        in-group = λ a off. sym (owner-other mesh Gs shape j x a (λ u. off (in-only a (length shape) source L u)));
+      } in near & done
 
   -- "Two buffers that agree on that group give that device the same shard."
   pub step-local : {W : Type 0} (addAll : List W → W) (t : Step) (shape : List ℕ) (v w : StateOf W) (x i : List ℕ) → Ready mesh t shape → Below x mesh

@@ -13,7 +13,7 @@ use lib.Seq.{set-comm}
 use lib.Arith.{digits-div, digits-mod}
 use lib.Dec.{lit<}
 use Rattle.rules.specs.Demands.{SumOfWords}
-use Rattle.rules.specs.Lists.{tab, total, without, In, Distinct, All, Below}
+use Rattle.rules.specs.Lists.{tab, total, without, In, Distinct, All, _&_, Below}
 use Rattle.rules.specs.Mesh.{span, member, members, SameGroup}
 use Rattle.rules.specs.Spread.{addWords}
 use Rattle.rules.proofs.Lists.{
@@ -181,13 +181,13 @@ total-members f mesh L x d =
 pub addWords-total : SumOfWords
 unfolding addWords
 addWords-total [] h = refl
-addWords-total (w ∷ []) h = sym (ap (λ (z : ℕ). z % 2 ^ 32) (add-zero w) ∙ mod-eq-of-lt (h .0))
+addWords-total (w ∷ []) (l & h) = sym (ap (λ (z : ℕ). z % 2 ^ 32) (add-zero w) ∙ mod-eq-of-lt l)
 addWords-total (w ∷ v ∷ l) h = refl
 
 pub addWords-lt : (l : List ℕ) → All (λ w. w < 2 ^ 32) l → addWords l < 2 ^ 32
 unfolding addWords
 addWords-lt [] h = lit< tt
-addWords-lt (w ∷ []) h = h .0
+addWords-lt (w ∷ []) (l & h) = l
 addWords-lt (w ∷ v ∷ l) h = mod-lt _ (lit< tt)
 
 pub addWords-mod : (l : List ℕ) → addWords l % 2 ^ 32 ≡ total l % 2 ^ 32

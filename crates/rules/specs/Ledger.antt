@@ -1,17 +1,18 @@
--- Document 01, "Ledger of worked plans": W1 (the check's answer) to W10 as one table under one statement, of the definitions that the calls'
--- promises cite. Beside it, W3's second group, W4 with gather [0] and then [1], and plans at the limits. Assumes nothing.
+-- Document 01, "Ledger of worked plans": W1 (the check's answer) to W10 as one table (`ledger`) under one statement (`worked`), of the definitions
+-- that the calls' promises cite. A second table in the same form (`beside`) has what the ledger leaves open: words that are no faithful spread, for
+-- each kind of step; states that shrink; states between the first and the last. WorkedRefusals.antt has the refusals, WorkedLimits.antt the limits.
+-- Assumes nothing.
 use Prim.Native.Nat.{ℕ, _+_, _-_, _*_, _/_, _%_}
 use mathlib.Core.Path.{_≡_, refl}
 use mathlib.Core.List.{List, [], _∷_, _++_}
-use lib.ListN.{length, take, drop, replicate}
-use Rattle.rules.specs.Lists.{tab, flat, All}
-use Rattle.rules.specs.Mesh.{span, firsts}
+use lib.ListN.{length, replicate}
+use Rattle.rules.specs.Lists.{tab, flat, All, done, _&_}
 use Rattle.rules.specs.Refusals.{Judged, accept, refuse}
-use Rattle.rules.specs.Calls.{CheckAnswer, checkOf, PlaceAnswer, placeOf, groupsOf, groupsLeave, runOf}
+use Rattle.rules.specs.Calls.{CheckAnswer, checkOf, PlaceAnswer, placeOf, groupsOf, groupsLeave, Ran, runOf}
 
 -- ---- files
 
--- a 16-bit number, and an axis list, as bytes
+-- 16-bit numbers, and axis lists, as bytes
 abbrev pub u16Bytes : List ℕ → List ℕ
 u16Bytes [] = []
 u16Bytes (n ∷ ns) = n % 256 ∷ n / 256 ∷ u16Bytes ns
@@ -20,7 +21,8 @@ abbrev pub listBytes : List (List ℕ) → List ℕ
 listBytes [] = []
 listBytes (L ∷ Ls) = length L ∷ (L ++ listBytes Ls)
 
--- the file of a plan, from its mesh, its table, its starting lists (the unreduced ones last) and its steps, each as its bytes
+-- The bytes of the file that has the mesh, the table's sizes, the start's lists (one for each dimension, then the unreduced one) and the steps, each
+-- step as its own bytes. The header follows from these, whatever they are: a file that breaks a rule is made like any other.
 unfoldable pub fileOf : (mesh sizes : List ℕ) → (lists steps : List (List ℕ)) → List ℕ
 fileOf mesh sizes lists steps =
     let tensorAt = 18 + 2 * length mesh in
@@ -39,6 +41,11 @@ w1 =
     0x01 ∷ 0x00 ∷ 0x02 ∷ 0x00 ∷ 0x02 ∷ 0x00 ∷ 0x01 ∷ 0x00 ∷ 0x12 ∷ 0x00 ∷ 0x16 ∷ 0x00 ∷ 0x1a ∷ 0x00 ∷ 0x1f ∷ 0x00 ∷ 0x23 ∷ 0x00 ∷ 0x02 ∷ 0x00 ∷ 0x02 ∷ 0x00
     ∷ 0x04 ∷ 0x00 ∷ 0x04 ∷ 0x00 ∷ 0x01 ∷ 0x00 ∷ 0x01 ∷ 0x01 ∷ 0x00 ∷ 0x02 ∷ 0x00 ∷ 0x01 ∷ 0x01 ∷ []
 
+-- `fileOf` makes these bytes
+w1-bytes : fileOf (2 ∷ 2 ∷ []) (4 ∷ 4 ∷ []) ((0 ∷ []) ∷ (1 ∷ []) ∷ [] ∷ []) ((2 ∷ 0 ∷ 1 ∷ 1 ∷ []) ∷ []) ≡ w1
+unfolding fileOf
+w1-bytes = refl
+
 -- W4: mesh 2x2, table of 4, sharding [[1, 0]], with the steps given. The other plans: mesh of one axis, with steps.
 abbrev pub w4 : List (List ℕ) → List ℕ
 w4 steps = fileOf (2 ∷ 2 ∷ []) (4 ∷ []) ((1 ∷ 0 ∷ []) ∷ [] ∷ []) steps
@@ -52,122 +59,175 @@ w8 = fileOf (2 ∷ []) (2 ∷ 2 ∷ []) ((0 ∷ []) ∷ [] ∷ [] ∷ []) ((4 �
 abbrev pub w9 : ℕ → List ℕ
 w9 words = fileOf (4 ∷ []) (words ∷ []) ((0 ∷ []) ∷ [] ∷ []) []
 
--- ---- the table
+-- ---- cases
 
--- A worked call, with what it answers and leaves.
+-- What a group listing answers, and what its lent list holds after it.
+pub record Listed : Type 0 where
+  pub outcome : Judged ℕ
+  pub out : List ℕ
+
+abbrev pub listedOf : (mesh axes out : List ℕ) → Listed
+listedOf mesh axes out = record { outcome = groupsOf mesh axes out; out = groupsLeave mesh axes out }
+
+-- A worked call: what it is given, then what it answers and leaves.
 pub data Case : Type 0 where
   checked : (file : List ℕ) → Judged CheckAnswer → Case
-  placed : (file : List ℕ) → (device : ℕ) → (first : List ℕ) → Case
-  listed : (mesh axes : List ℕ) → (groups size : ℕ) → (begins : List ℕ) → Case
-  ran : (file work left : List ℕ) → Case
+  placed : (file : List ℕ) → (state device : ℕ) → Judged PlaceAnswer → Case
+  listed : (mesh axes out : List ℕ) → Listed → Case
+  ran : (file work spare : List ℕ) → Ran → Case
 
--- the first indexes that a placement answers
-abbrev pub firstOf : Judged PlaceAnswer → List ℕ
-firstOf (accept a) = a .first
-firstOf (refuse n k) = []
+abbrev pub Holds : Case → Type 0
+Holds (checked file a) = checkOf file ≡ a
+Holds (placed file state device a) = placeOf file state device ≡ a
+Holds (listed mesh axes out a) = listedOf mesh axes out ≡ a
+Holds (ran file work spare a) = runOf file work spare ≡ a
 
--- Buffers are longer than what is asked for, and hold nines where nothing is said.
+-- the check passes, with these answers; the placement finds these
+abbrev pub passed : (room devices steps : ℕ) → (dims : List (List ℕ)) → (unreduced shard : List ℕ) → Judged CheckAnswer
+passed room devices steps dims unreduced shard = accept (record {
+  room = room;
+  devices = devices;
+  steps = steps;
+  rank = length shard;
+  sharding = record { dims = dims; unreduced = unreduced };
+  shard = shard;
+})
+
+abbrev pub found : (dims : List (List ℕ)) → (unreduced shard first : List ℕ) → Judged PlaceAnswer
+found dims unreduced shard first = accept (record {
+  rank = length shard;
+  sharding = record { dims = dims; unreduced = unreduced };
+  shard = shard;
+  first = first;
+})
+
+-- lent memory of which nothing is said holds nines
 abbrev pub nines : ℕ → List ℕ
 nines n = replicate n 9
 
-abbrev pub Holds : Case → Type 0
-Holds (checked file answer) = checkOf file ≡ answer
-Holds (placed file device first) = firstOf (placeOf file 0 device) ≡ first
-Holds (listed mesh axes groups size begins) =
-    (length (firsts mesh axes) ≡ groups)
-    × (span mesh axes ≡ size)
-    × (groupsOf mesh axes (nines (groups * size + 2)) ≡ accept (groups * size))
-    × (take (length begins) (groupsLeave mesh axes (nines (groups * size + 2))) ≡ begins)
-    × (drop (groups * size) (groupsLeave mesh axes (nines (groups * size + 2))) ≡ nines 2)
-Holds (ran file work left) =
-    runOf file (work ++ nines (length left - length work + 2)) (nines (length left + 1))
-    ≡ record { outcome = accept tt; work = left ++ replicate 2 0; spare = replicate (length left + 1) 0 }
+-- the listing is these groups, and the two entries after it stay
+abbrev pub listsAs : (mesh axes : List ℕ) → (groups : List (List ℕ)) → Case
+listsAs mesh axes groups =
+    listed mesh axes (nines (length (flat groups) + 2)) (record { outcome = accept (length (flat groups)); out = flat groups ++ nines 2 })
+
+-- Work begins with the words given and is two words longer than the room, spare as long as the room. The words left are followed by zeros alone.
+abbrev pub leaves : (file : List ℕ) → (room : ℕ) → (words left : List ℕ) → Case
+leaves file room words left =
+    ran file (words ++ nines (room + 2 - length words)) (nines room)
+    (record { outcome = accept tt; work = left ++ replicate (room + 2 - length left) 0; spare = replicate room 0 })
+
+-- ---- the ledger
 
 abbrev pub ledger : List Case
 ledger =
     -- W1; its room is W2's
-    checked w1 (accept (record {
-      room = 32;
-      devices = 4;
-      steps = 1;
-      rank = 2;
-      sharding = record { dims = (0 ∷ []) ∷ [] ∷ []; unreduced = [] };
-      shard = 2 ∷ 4 ∷ [];
-    }))
+    checked w1 (passed 32 4 1 ((0 ∷ []) ∷ [] ∷ []) [] (2 ∷ 4 ∷ []))
     -- W2
-    ∷ ran w1 (tab 16 (λ k. k + 1)) (
+    ∷ leaves w1 32 (tab 16 (λ k. k + 1)) (
     1 ∷ 2 ∷ 5 ∷ 6 ∷ 3 ∷ 4 ∷ 7 ∷ 8 ∷ 1 ∷ 2 ∷ 5 ∷ 6 ∷ 3 ∷ 4 ∷ 7 ∷ 8
     ∷ 9 ∷ 10 ∷ 13 ∷ 14 ∷ 11 ∷ 12 ∷ 15 ∷ 16 ∷ 9 ∷ 10 ∷ 13 ∷ 14 ∷ 11 ∷ 12 ∷ 15 ∷ 16 ∷ []
     )
-    -- W3
-    ∷ listed (2 ∷ 3 ∷ 4 ∷ 5 ∷ []) (3 ∷ 1 ∷ []) 8 15 (0 ∷ 20 ∷ 40 ∷ 1 ∷ 21 ∷ 41 ∷ [])
+    -- W3: all eight groups of 15
+    ∷ listsAs (2 ∷ 3 ∷ 4 ∷ 5 ∷ []) (3 ∷ 1 ∷ []) (
+    (0 ∷ 20 ∷ 40 ∷ 1 ∷ 21 ∷ 41 ∷ 2 ∷ 22 ∷ 42 ∷ 3 ∷ 23 ∷ 43 ∷ 4 ∷ 24 ∷ 44 ∷ [])
+    ∷ (5 ∷ 25 ∷ 45 ∷ 6 ∷ 26 ∷ 46 ∷ 7 ∷ 27 ∷ 47 ∷ 8 ∷ 28 ∷ 48 ∷ 9 ∷ 29 ∷ 49 ∷ [])
+    ∷ (10 ∷ 30 ∷ 50 ∷ 11 ∷ 31 ∷ 51 ∷ 12 ∷ 32 ∷ 52 ∷ 13 ∷ 33 ∷ 53 ∷ 14 ∷ 34 ∷ 54 ∷ [])
+    ∷ (15 ∷ 35 ∷ 55 ∷ 16 ∷ 36 ∷ 56 ∷ 17 ∷ 37 ∷ 57 ∷ 18 ∷ 38 ∷ 58 ∷ 19 ∷ 39 ∷ 59 ∷ [])
+    ∷ (60 ∷ 80 ∷ 100 ∷ 61 ∷ 81 ∷ 101 ∷ 62 ∷ 82 ∷ 102 ∷ 63 ∷ 83 ∷ 103 ∷ 64 ∷ 84 ∷ 104 ∷ [])
+    ∷ (65 ∷ 85 ∷ 105 ∷ 66 ∷ 86 ∷ 106 ∷ 67 ∷ 87 ∷ 107 ∷ 68 ∷ 88 ∷ 108 ∷ 69 ∷ 89 ∷ 109 ∷ [])
+    ∷ (70 ∷ 90 ∷ 110 ∷ 71 ∷ 91 ∷ 111 ∷ 72 ∷ 92 ∷ 112 ∷ 73 ∷ 93 ∷ 113 ∷ 74 ∷ 94 ∷ 114 ∷ [])
+    ∷ (75 ∷ 95 ∷ 115 ∷ 76 ∷ 96 ∷ 116 ∷ 77 ∷ 97 ∷ 117 ∷ 78 ∷ 98 ∷ 118 ∷ 79 ∷ 99 ∷ 119 ∷ [])
+    ∷ []
+    )
     -- W4
-    ∷ placed (w4 []) 0 (0 ∷ [])
-    ∷ placed (w4 []) 1 (2 ∷ [])
-    ∷ placed (w4 []) 2 (1 ∷ [])
-    ∷ placed (w4 []) 3 (3 ∷ [])
+    ∷ placed (w4 []) 0 0 (found ((1 ∷ 0 ∷ []) ∷ []) [] (1 ∷ []) (0 ∷ []))
+    ∷ placed (w4 []) 0 1 (found ((1 ∷ 0 ∷ []) ∷ []) [] (1 ∷ []) (2 ∷ []))
+    ∷ placed (w4 []) 0 2 (found ((1 ∷ 0 ∷ []) ∷ []) [] (1 ∷ []) (1 ∷ []))
+    ∷ placed (w4 []) 0 3 (found ((1 ∷ 0 ∷ []) ∷ []) [] (1 ∷ []) (3 ∷ []))
     -- W5: gather [1, 0]
-    ∷ ran (w4 ((2 ∷ 2 ∷ 1 ∷ 0 ∷ []) ∷ [])) (10 ∷ 30 ∷ 20 ∷ 40 ∷ [])
+    ∷ leaves (w4 ((2 ∷ 2 ∷ 1 ∷ 0 ∷ []) ∷ [])) 16 (10 ∷ 30 ∷ 20 ∷ 40 ∷ [])
     (10 ∷ 20 ∷ 30 ∷ 40 ∷ 10 ∷ 20 ∷ 30 ∷ 40 ∷ 10 ∷ 20 ∷ 30 ∷ 40 ∷ 10 ∷ 20 ∷ 30 ∷ 40 ∷ [])
     -- W6: gather [0], and gather [1]
-    ∷ ran (w4 ((2 ∷ 1 ∷ 0 ∷ []) ∷ [])) (10 ∷ 30 ∷ 20 ∷ 40 ∷ []) (10 ∷ 20 ∷ 30 ∷ 40 ∷ 10 ∷ 20 ∷ 30 ∷ 40 ∷ [])
+    ∷ leaves (w4 ((2 ∷ 1 ∷ 0 ∷ []) ∷ [])) 8 (10 ∷ 30 ∷ 20 ∷ 40 ∷ []) (10 ∷ 20 ∷ 30 ∷ 40 ∷ 10 ∷ 20 ∷ 30 ∷ 40 ∷ [])
     ∷ checked (w4 ((2 ∷ 1 ∷ 1 ∷ []) ∷ [])) (refuse 24 1)
     -- W7
-    ∷ ran (w7 2 (0 ∷ [])) (1 ∷ 2 ∷ 5 ∷ 6 ∷ []) (6 ∷ 8 ∷ 6 ∷ 8 ∷ [])
-    ∷ ran (w7 1 (0 ∷ [])) (4294967295 ∷ 2 ∷ []) (1 ∷ 1 ∷ [])
+    ∷ leaves (w7 2 (0 ∷ [])) 4 (1 ∷ 2 ∷ 5 ∷ 6 ∷ []) (6 ∷ 8 ∷ 6 ∷ 8 ∷ [])
+    ∷ leaves (w7 1 (0 ∷ [])) 2 (4294967295 ∷ 2 ∷ []) (1 ∷ 1 ∷ [])
     -- W8
-    ∷ ran w8 (1 ∷ 2 ∷ 3 ∷ 4 ∷ []) (1 ∷ 3 ∷ 2 ∷ 4 ∷ [])
+    ∷ leaves w8 4 (1 ∷ 2 ∷ 3 ∷ 4 ∷ []) (1 ∷ 3 ∷ 2 ∷ 4 ∷ [])
     -- W9
     ∷ checked (w9 6) (refuse 17 0)
-    ∷ checked (w9 8) (accept (record {
-      room = 8;
-      devices = 4;
-      steps = 0;
-      rank = 1;
-      sharding = record { dims = (0 ∷ []) ∷ []; unreduced = [] };
-      shard = 2 ∷ [];
-    }))
+    ∷ checked (w9 8) (passed 8 4 0 ((0 ∷ []) ∷ []) [] (2 ∷ []))
     -- W10
     ∷ checked (w7 2 []) (refuse 27 1)
     ∷ []
 
 pub worked : All Holds ledger
-unfolding fileOf checkOf placeOf groupsOf groupsLeave runOf firsts
+unfolding fileOf checkOf placeOf groupsOf groupsLeave runOf
 worked =
-    (refl, (refl, ((refl, refl, refl, refl, refl), (refl, (refl, (refl, (refl, (refl, (refl, (refl, (refl, (refl, (refl, (refl, (refl, (refl, tt))))))))))))))))
+    refl & refl & refl & refl & refl & refl & refl & refl & refl & refl & refl & refl
+    & refl & refl & refl & refl & done
 
--- ---- beside the table
+-- ---- beside the ledger
 
--- `fileOf` makes W1's bytes
-w1-bytes : fileOf (2 ∷ 2 ∷ []) (4 ∷ 4 ∷ []) ((0 ∷ []) ∷ (1 ∷ []) ∷ [] ∷ []) ((2 ∷ 0 ∷ 1 ∷ 1 ∷ []) ∷ []) ≡ w1
-unfolding fileOf
-w1-bytes = refl
+-- a plan of one step on a mesh 2x2
+abbrev pub on2x2 : (sizes : List ℕ) → (lists : List (List ℕ)) → (step : List ℕ) → List ℕ
+on2x2 sizes lists step = fileOf (2 ∷ 2 ∷ []) sizes lists (step ∷ [])
 
--- W3, its second group: the next one along the remaining axes in row-major order
-second-group : take 3 (drop 15 (groupsLeave (2 ∷ 3 ∷ 4 ∷ 5 ∷ []) (3 ∷ 1 ∷ []) (nines 120))) ≡ 5 ∷ 25 ∷ 45 ∷ []
-unfolding groupsLeave
-second-group = refl
+-- W4, gather [0] and then [1]; W4, gather [1, 0] and then slice [1, 0]
+abbrev pub gathersTwice : List ℕ
+gathersTwice = w4 ((2 ∷ 1 ∷ 0 ∷ []) ∷ (2 ∷ 1 ∷ 1 ∷ []) ∷ [])
 
--- W4, gather [0] and then [1]: a run that does the first collective and relabels the later ones leaves other words
-two-gathers : Holds (ran (w4 ((2 ∷ 1 ∷ 0 ∷ []) ∷ (2 ∷ 1 ∷ 1 ∷ []) ∷ [])) (10 ∷ 30 ∷ 20 ∷ 40 ∷ [])
-    (10 ∷ 20 ∷ 30 ∷ 40 ∷ 10 ∷ 20 ∷ 30 ∷ 40 ∷ 10 ∷ 20 ∷ 30 ∷ 40 ∷ 10 ∷ 20 ∷ 30 ∷ 40 ∷ []))
-unfolding fileOf runOf
-two-gathers = refl
+abbrev pub thereAndBack : List ℕ
+thereAndBack = w4 ((2 ∷ 2 ∷ 1 ∷ 0 ∷ []) ∷ (1 ∷ 2 ∷ 1 ∷ 0 ∷ []) ∷ [])
 
--- "Mesh 256 with 4,096 words passes; mesh 257 gives 11; table 4,097 gives 13. 64 steps pass, 65 give 5." And six axes with four dimensions pass.
--- The steps: a dimension split along axis 0 and gathered, in turn.
-abbrev pub toAndFro : ℕ → List ℕ
-toAndFro n = fileOf (2 ∷ []) (2 ∷ []) ([] ∷ [] ∷ []) (tab n (λ k. (1 + k % 2) ∷ 1 ∷ 0 ∷ []))
+-- mesh 2x2, table 4x4, sharding [[0], [1]], all-to-all from 0 to 1 along [0]
+abbrev pub turned : List ℕ
+turned = on2x2 (4 ∷ 4 ∷ []) ((0 ∷ []) ∷ (1 ∷ []) ∷ [] ∷ []) (4 ∷ 0 ∷ 1 ∷ 1 ∷ 0 ∷ [])
 
-limits :
-    (checkOf (fileOf (256 ∷ []) (4096 ∷ []) ((0 ∷ []) ∷ [] ∷ []) [])
-    ≡ accept (record { room = 4096; devices = 256; steps = 0; rank = 1; sharding = record { dims = (0 ∷ []) ∷ []; unreduced = [] }; shard = 16 ∷ [] }))
-    × (checkOf (fileOf (257 ∷ []) (4096 ∷ []) ([] ∷ [] ∷ []) []) ≡ refuse 11 0)
-    × (checkOf (fileOf (256 ∷ []) (4097 ∷ []) ([] ∷ [] ∷ []) []) ≡ refuse 13 0)
-    × (checkOf (toAndFro 64)
-    ≡ accept (record { room = 4; devices = 2; steps = 64; rank = 1; sharding = record { dims = [] ∷ []; unreduced = [] }; shard = 2 ∷ [] }))
-    × (checkOf (toAndFro 65) ≡ refuse 5 0)
-    × (checkOf (fileOf (replicate 6 1) (replicate 4 2) (replicate 5 []) [])
-    ≡ accept (record { room = 16; devices = 1; steps = 0; rank = 4; sharding = record { dims = replicate 4 []; unreduced = [] }; shard = replicate 4 2 }))
-unfolding fileOf checkOf
-limits = (refl, refl, refl, refl, refl, refl)
+abbrev pub beside : List Case
+beside =
+    -- a run that does the first collective and relabels the later ones leaves other words
+    leaves gathersTwice 16 (10 ∷ 30 ∷ 20 ∷ 40 ∷ [])
+    (10 ∷ 20 ∷ 30 ∷ 40 ∷ 10 ∷ 20 ∷ 30 ∷ 40 ∷ 10 ∷ 20 ∷ 30 ∷ 40 ∷ 10 ∷ 20 ∷ 30 ∷ 40 ∷ [])
+    -- "With no steps, the first D times m words stay as given."
+    ∷ leaves (w4 []) 4 (10 ∷ 30 ∷ 20 ∷ 40 ∷ []) (10 ∷ 30 ∷ 20 ∷ 40 ∷ [])
+    -- W7 with a sum between 2^31 and 2^32
+    ∷ leaves (w7 1 (0 ∷ [])) 2 (2147483647 ∷ 2 ∷ []) (2147483649 ∷ 2147483649 ∷ [])
+    -- the largest state is neither the first nor the last
+    ∷ checked thereAndBack (passed 16 4 2 ((1 ∷ 0 ∷ []) ∷ []) [] (1 ∷ []))
+    ∷ leaves thereAndBack 16 (10 ∷ 30 ∷ 20 ∷ 40 ∷ []) (10 ∷ 30 ∷ 20 ∷ 40 ∷ [])
+    -- "A run's result is defined for every buffer content, faithful or not." Devices that differ only on a replicated axis hold unequal words.
+    -- Mesh 2, all-slice [0]: each device keeps a piece of its own shard
+    ∷ leaves (fileOf (2 ∷ []) (2 ∷ []) ([] ∷ [] ∷ []) ((1 ∷ 1 ∷ 0 ∷ []) ∷ [])) 4 (1 ∷ 2 ∷ 3 ∷ 4 ∷ []) (1 ∷ 4 ∷ [])
+    -- mesh 2x2, axis 1 replicated throughout: all-slice, all-gather and all-reduce along [0], all-to-all from 0 to 1 along [0]
+    ∷ leaves (on2x2 (2 ∷ []) ([] ∷ [] ∷ []) (1 ∷ 1 ∷ 0 ∷ [])) 8 (tab 8 (λ k. k + 1)) (1 ∷ 3 ∷ 6 ∷ 8 ∷ [])
+    ∷ leaves (on2x2 (2 ∷ []) ((0 ∷ []) ∷ [] ∷ []) (2 ∷ 1 ∷ 0 ∷ [])) 8 (1 ∷ 2 ∷ 3 ∷ 4 ∷ []) (1 ∷ 3 ∷ 2 ∷ 4 ∷ 1 ∷ 3 ∷ 2 ∷ 4 ∷ [])
+    ∷ leaves (on2x2 (1 ∷ []) ([] ∷ (0 ∷ []) ∷ []) (3 ∷ 1 ∷ 0 ∷ [])) 4 (1 ∷ 2 ∷ 3 ∷ 4 ∷ []) (4 ∷ 6 ∷ 4 ∷ 6 ∷ [])
+    ∷ leaves (on2x2 (2 ∷ 2 ∷ []) ((0 ∷ []) ∷ [] ∷ [] ∷ []) (4 ∷ 0 ∷ 1 ∷ 1 ∷ 0 ∷ [])) 8 (tab 8 (λ k. k + 1))
+    (1 ∷ 5 ∷ 3 ∷ 7 ∷ 2 ∷ 6 ∷ 4 ∷ 8 ∷ [])
+    -- along both axes: all-slice and all-gather with lists [1] and [0], all-reduce [0, 1], all-to-all along [1, 0]
+    ∷ leaves (on2x2 (2 ∷ 2 ∷ []) ([] ∷ [] ∷ [] ∷ []) (1 ∷ 1 ∷ 1 ∷ 1 ∷ 0 ∷ [])) 16 (tab 16 (λ k. k + 1)) (1 ∷ 7 ∷ 10 ∷ 16 ∷ [])
+    ∷ leaves (on2x2 (2 ∷ 2 ∷ []) ((1 ∷ []) ∷ (0 ∷ []) ∷ [] ∷ []) (2 ∷ 1 ∷ 1 ∷ 1 ∷ 0 ∷ [])) 16 (1 ∷ 2 ∷ 3 ∷ 4 ∷ [])
+    (1 ∷ 3 ∷ 2 ∷ 4 ∷ 1 ∷ 3 ∷ 2 ∷ 4 ∷ 1 ∷ 3 ∷ 2 ∷ 4 ∷ 1 ∷ 3 ∷ 2 ∷ 4 ∷ [])
+    ∷ leaves (on2x2 (1 ∷ []) ([] ∷ (0 ∷ 1 ∷ []) ∷ []) (3 ∷ 2 ∷ 0 ∷ 1 ∷ [])) 4 (1 ∷ 2 ∷ 3 ∷ 4 ∷ []) (10 ∷ 10 ∷ 10 ∷ 10 ∷ [])
+    ∷ leaves (on2x2 (4 ∷ 4 ∷ []) ((1 ∷ 0 ∷ []) ∷ [] ∷ [] ∷ []) (4 ∷ 0 ∷ 1 ∷ 2 ∷ 1 ∷ 0 ∷ [])) 16 (tab 16 (λ k. k + 1))
+    (1 ∷ 9 ∷ 5 ∷ 13 ∷ 3 ∷ 11 ∷ 7 ∷ 15 ∷ 2 ∷ 10 ∷ 6 ∷ 14 ∷ 4 ∷ 12 ∷ 8 ∷ 16 ∷ [])
+    -- the lists after a step, where others stay: a slice's joined to the end; an all-to-all's off the source and joined to the end of the target's; the
+    -- unreduced axes that a reduction leaves, in their order
+    ∷ checked (on2x2 (4 ∷ []) ((0 ∷ []) ∷ [] ∷ []) (1 ∷ 1 ∷ 1 ∷ [])) (passed 8 4 1 ((0 ∷ 1 ∷ []) ∷ []) [] (1 ∷ []))
+    ∷ leaves (on2x2 (4 ∷ []) ((0 ∷ []) ∷ [] ∷ []) (1 ∷ 1 ∷ 1 ∷ [])) 8 (tab 8 (λ k. k + 1)) (1 ∷ 4 ∷ 5 ∷ 8 ∷ [])
+    ∷ checked turned (passed 16 4 1 ([] ∷ (1 ∷ 0 ∷ []) ∷ []) [] (4 ∷ 1 ∷ []))
+    ∷ leaves turned 16 (tab 16 (λ k. k + 1)) (1 ∷ 3 ∷ 9 ∷ 11 ∷ 5 ∷ 7 ∷ 13 ∷ 15 ∷ 2 ∷ 4 ∷ 10 ∷ 12 ∷ 6 ∷ 8 ∷ 14 ∷ 16 ∷ [])
+    ∷ checked (fileOf (2 ∷ 2 ∷ 2 ∷ []) (1 ∷ []) ([] ∷ (0 ∷ 1 ∷ 2 ∷ []) ∷ []) ((3 ∷ 1 ∷ 1 ∷ []) ∷ [])) (passed 8 8 1 ([] ∷ []) (0 ∷ 2 ∷ []) (1 ∷ []))
+    -- every state has a sharding, shard sizes and first indexes of its own
+    ∷ placed gathersTwice 0 3 (found ((1 ∷ 0 ∷ []) ∷ []) [] (1 ∷ []) (3 ∷ []))
+    ∷ placed gathersTwice 1 3 (found ((1 ∷ []) ∷ []) [] (2 ∷ []) (2 ∷ []))
+    ∷ placed gathersTwice 2 3 (found ([] ∷ []) [] (4 ∷ []) (0 ∷ []))
+    ∷ []
+
+pub worked-beside : All Holds beside
+unfolding fileOf checkOf placeOf runOf
+worked-beside =
+    refl & refl & refl & refl & refl & refl & refl & refl & refl & refl & refl & refl
+    & refl & refl & refl & refl & refl & refl & refl & refl & refl & refl & done

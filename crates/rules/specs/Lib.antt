@@ -11,6 +11,7 @@ pub mod Types
 pub mod Calls
 pub mod Demands
 pub mod Ledger
-pub mod Refused
-pub mod Meanings
+pub mod WorkedRefusals
+pub mod WorkedLimits
+pub mod WorkedAnswers
 pub mod Promises

@@ -78,9 +78,11 @@ abbrev pub Distinct : List ℕ → Type 0
 Distinct [] = Unit {0}
 Distinct (a ∷ l) = (¬ In a l) × Distinct l
 
-abbrev pub All : {A : Type 0} → (A → Type 0) → List A → Type 0
-All P [] = Unit {0}
-All P (a ∷ l) = P a × All P l
+-- a proof of `All` has one for each entry: p & q & .. & done
+infixr 5 _&_
+pub data All {A : Type 0} (P : A → Type 0) : List A → Type 0 where
+  done : All P []
+  _&_ : {a : A} {l : List A} → P a → All P l → All P (a ∷ l)
 
 -- xs and ns have one length, and each entry of xs is below that of ns
 pub data Below : List ℕ → List ℕ → Type 0 where

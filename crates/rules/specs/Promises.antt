@@ -20,8 +20,9 @@ use Rattle.rules.specs.Demands.{
   GroupByPosition,
   SumOfWords,
 }
-use Rattle.rules.specs.Ledger.{Holds, ledger}
-use Rattle.rules.specs.Refused.{refusals, RefusedCalls}
+use Rattle.rules.specs.Ledger.{Holds, ledger, beside as besideIt}
+use Rattle.rules.specs.WorkedRefusals.{refusals}
+use Rattle.rules.specs.WorkedLimits.{limits}
 use Rattle.rules.specs.declared.Refusal.{Refusal}
 use Rattle.rules.specs.declared.RunOutcome.{RunOutcome}
 use Rattle.rules.specs.declared.RunOutcome.the-variants as run
@@ -46,7 +47,7 @@ pub record RunPromise (file work spare : List ℕ) (outcome : RunOutcome) (workA
 -- ---- what the rules promise of themselves
 
 -- Demand 3 for every plan that passes, and that it speaks of something; the room's limit; the numbers of refusals; a step's locality; what a group
--- and a sum of words are; the ledger W1 to W10; a file or a call for each refusal number.
+-- and a sum of words are; the ledger W1 to W10, and cases beside it; a file or a call for each refusal number; each limit from both sides.
 pub record RulesPromise : Type 1 where
   pub whole-plan : WholePlan
   pub spreadable : Spreadable
@@ -57,5 +58,6 @@ pub record RulesPromise : Type 1 where
   pub group-by-position : GroupByPosition
   pub sum-of-words : SumOfWords
   pub worked : All Holds ledger
+  pub beside : All Holds besideIt
   pub refused : All Holds refusals
-  pub refused-calls : RefusedCalls
+  pub limited : All Holds limits
