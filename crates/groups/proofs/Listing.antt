@@ -9,7 +9,7 @@ use lib.ListN.{length, drop}
 use lib.Seq.{take-at, drop-at}
 use lib.Dec.{T, leb, leb→le, lit<, lit≤}
 use Rattle.rules.specs.Lists.{tab}
-use Rattle.rules.specs.Mesh.{devices, listing}
+use Rattle.rules.specs.Mesh.{devices, listing, OnMesh}
 use Rattle.rules.specs.Limits.{mostAxes, mostDevices}
 use Rattle.rules.specs.Refusals.{Judged, accept, need, refusedBy}
 use Rattle.rules.specs.PlanFile.{judgeSizes, judgeAxes}
@@ -19,7 +19,6 @@ use Rattle.rules.proofs.Lists.{T-and}
 use Rattle.rules.proofs.Judging.{accept-inj, need-inv, need-true, then-inv}
 use Rattle.rules.proofs.Accepted.{SizesFacts, sizes-facts, AxesFacts, axes-facts}
 use Rattle.rules.proofs.Groups.{listing-length, listing-rearranges}
-use Rattle.mesh.specs.Fitting.{Fits}
 use Rattle.groups.specs.Ordering.{orderOf, along, IsList, IsOrder}
 use Rattle.groups.specs.Promises.{ListsAll}
 use Rattle.groups.proofs.Ordering.{list-length, order-list, order-span, listing-along}
@@ -35,10 +34,16 @@ count-few mesh e =
     leb→le (length mesh) mostAxes
     (T-and (leb 1 (length mesh)) (leb (length mesh) mostAxes) (need-true 0 (leb 1 (length mesh) && leb (length mesh) mostAxes) 5 e) .1)
 
-pub sizes-fit : (mesh : List ℕ) → judgeSizes mostDevices 10 11 1 mesh ≡ accept tt → Fits mesh
-sizes-fit mesh e =
+pub on-mesh : (mesh : List ℕ) → countTest mesh ≡ accept tt → judgeSizes mostDevices 10 11 1 mesh ≡ accept tt → OnMesh mesh
+on-mesh mesh c e =
     let f : SizesFacts mostDevices 1 mesh = sizes-facts mostDevices 10 11 1 mesh (lit< tt) (lit≤ tt) e in
-    record { some = omega (arith, f .pos); few = omega (arith, f .few) }
+    let n = T-and (leb 1 (length mesh)) (leb (length mesh) mostAxes) (need-true 0 (leb 1 (length mesh) && leb (length mesh) mostAxes) 5 c) in
+    record {
+      axes-some = leb→le 1 (length mesh) (n .0);
+      axes-few = leb→le (length mesh) mostAxes (n .1);
+      devices-pos = omega (arith, f .pos);
+      devices-few = omega (arith, f .few);
+    }
 
 axes-are : (n : ℕ) (axes : List ℕ) → n ≤ mostAxes → judgeAxes n false 0 [] axes ≡ accept tt → IsList n axes
 axes-are n axes h e =
@@ -91,7 +96,7 @@ module _ (mesh axes out : List ℕ) where
     pub order-ready : (order : List ℕ) (d : ℕ) → order ≡ orderOf (length mesh) axes → d ≡ devices mesh → need (leb d (length out)) 33 ≡ accept tt
         → IsOrder mesh order (length out)
     order-ready order d eo w e =
-        let f : Fits mesh = sizes-fit mesh (t .sized) in
+        let f : OnMesh mesh = on-mesh mesh (t .counted) (t .sized) in
         rw eo (record {
           fits = f;
           list = order-list list-ready;
@@ -104,7 +109,7 @@ module _ (mesh axes out : List ℕ) where
         → (accept d ≡ groupsOf mesh axes out) × (tab (devices mesh) (along mesh order) ++ drop (devices mesh) out ≡ groupsLeave mesh axes out)
     unfolding groupsOf groupsLeave
     listed order d eo w e =
-        let f : Fits mesh = sizes-fit mesh (t .sized) in
+        let f : OnMesh mesh = on-mesh mesh (t .counted) (t .sized) in
         let a : groupsOf mesh axes out ≡ accept d = rw (t .counted, t .sized, t .named, ← w, e) refl in
         let front : tab (devices mesh) (along mesh order) ≡ listing mesh axes = rw eo (sym (listing-along mesh axes f list-ready)) in (
           sym a,

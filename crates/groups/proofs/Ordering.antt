@@ -9,7 +9,7 @@ use native.Mathlib.Omega.{arith}
 use native.Mathlib.Decide.{ℕ-discrete}
 use lib.ListN.{length, set, replicate, length-append}
 use Rattle.rules.specs.Lists.{tab, product, without, In, Distinct}
-use Rattle.rules.specs.Mesh.{coords, deviceNumber, devices, span, member, remaining, listing}
+use Rattle.rules.specs.Mesh.{coords, deviceNumber, devices, span, member, remaining, listing, OnMesh}
 use Rattle.rules.proofs.Lists.{
   length-tab,
   tab-cong,
@@ -30,9 +30,8 @@ use Rattle.rules.proofs.Lists.{
 }
 use Rattle.rules.proofs.Positions.{member-set, span-append}
 use Rattle.rules.proofs.Groups.{span-remaining, listing-tab}
-use Rattle.mesh.specs.Fitting.{Fits}
 use Rattle.mesh.proofs.Sizes.{mod-div, mod-mod-right}
-use Rattle.mesh.proofs.Digits.{span-pos}
+use Rattle.mesh.proofs.Positions.{span-pos}
 use Rattle.groups.specs.Ordering.{orderOf, IsList, along}
 
 -- ---- how many axes
@@ -88,7 +87,7 @@ order-made n L none all rest e1 e2 e3 = rw (e3, e1, e2, without-none L) refl
 -- ---- the listing by the digits of a place
 
 -- the digits along two lists are the digits along the second, and of the rest along the first
-member-append : (mesh : List ℕ) → Fits mesh → (R L : List ℕ) (p : ℕ) (x : List ℕ) → ((a : ℕ) → In a R → ¬ In a L) → p < span mesh (R ++ L)
+member-append : (mesh : List ℕ) → OnMesh mesh → (R L : List ℕ) (p : ℕ) (x : List ℕ) → ((a : ℕ) → In a R → ¬ In a L) → p < span mesh (R ++ L)
     → member mesh (R ++ L) p x ≡ member mesh L (p % span mesh L) (member mesh R (p / span mesh L) x)
 member-append mesh f [] L p x off h = ap (λ (q : ℕ). member mesh L q x) (sym (mod-eq-of-lt h))
 member-append mesh f (a ∷ R) L p x off h =
@@ -110,7 +109,7 @@ coords-zero : (ns : List ℕ) → coords ns 0 ≡ replicate (length ns) 0
 coords-zero [] = refl
 coords-zero (n ∷ ns) = ap₂ (λ (c : ℕ) (l : List ℕ). c ∷ l) (zero-div (product ns)) (ap (coords ns) (zero-mod (product ns)) ∙ coords-zero ns)
 
-module _ (mesh L : List ℕ) (f : Fits mesh) (l : IsList (length mesh) L) where
+module _ (mesh L : List ℕ) (f : OnMesh mesh) (l : IsList (length mesh) L) where
   pub order-span : span mesh (orderOf (length mesh) L) ≡ devices mesh
   unfolding orderOf remaining
   order-span = span-remaining mesh L (l .once) (l .below)

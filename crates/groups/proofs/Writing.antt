@@ -15,7 +15,7 @@ use Rattle.rules.proofs.Positions.{span-append}
 use Rattle.rules.proofs.Buffers.{number-coords}
 use Rattle.rules.proofs.Fronts.{part-tab, next-part}
 use Rattle.mesh.proofs.Sizes.{axis-bounds}
-use Rattle.mesh.proofs.Digits.{span-pos, member-fits, member-front, distinct-drop, in-drop}
+use Rattle.mesh.proofs.Positions.{span-pos, member-fits, member-front, distinct-drop, in-drop}
 use Rattle.groups.specs.Ordering.{along, repeated, IsOrder, Repeats}
 use Rattle.groups.proofs.Lists.{Filling}
 
@@ -38,7 +38,7 @@ module _ (out : List ℕ) (count stride : ℕ) where
   pub repeating : count ≤ length out → Filling (repeated out count stride) out out count
   repeating h = record {
     same = sym (take-append-drop count out) ∙ ap (λ (l : List ℕ). l ++ drop count out)
-        (part-tab out 0 count (omega arith) ∙ tab-cong count (λ t. getD out (0 + t) 0) (repeated out count stride) (λ p l.
+        (part-tab 0 out 0 count (omega arith) ∙ tab-cong count (λ t. getD out (0 + t) 0) (repeated out count stride) (λ p l.
         ap (λ (k : ℕ). getD out k 0) (zero-add p) ∙ repeated-first p l));
     long = refl;
   }
@@ -74,8 +74,8 @@ module _ (mesh order old : List ℕ) (r : IsOrder mesh order (length old)) where
       record {
         within = omega (arith, e);
         counted = rw none refl;
-        written = first-filled (along mesh (drop i order)) old (omega (arith, r .fits .some, r .enough))
-            (rw none (number-coords mesh 0 (r .fits .some)));
+        written = first-filled (along mesh (drop i order)) old (omega (arith, r .fits .devices-pos, r .enough))
+            (rw none (number-coords mesh 0 (r .fits .devices-pos)));
       }
 
   span-few : (i : ℕ) → span mesh (drop i order) ≤ devices mesh
@@ -118,7 +118,7 @@ module _ (mesh order old : List ℕ) (r : IsOrder mesh order (length old)) where
         arith,
         front p l,
         member-fits mesh (r .fits) (drop (i - 1) order) p (omega (arith, counts)),
-        r .fits .few,
+        r .fits .devices-few,
       );
     }
 
@@ -157,4 +157,4 @@ module _ (mesh order old : List ℕ) (r : IsOrder mesh order (length old)) where
       let e : count ≡ devices mesh = g .counted ∙ ap (span mesh) d ∙ r .whole in
       rw (← e)
       (g .written .same
-      ∙ ap₂ (λ (L rest : List ℕ). tab count (along mesh L) ++ rest) d (drop-set-lt count old 0 0 (omega (arith, e, r .fits .some))))
+      ∙ ap₂ (λ (L rest : List ℕ). tab count (along mesh L) ++ rest) d (drop-set-lt count old 0 0 (omega (arith, e, r .fits .devices-pos))))

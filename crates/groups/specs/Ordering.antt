@@ -4,9 +4,8 @@ use mathlib.Core.Path.{_≡_}
 use mathlib.Core.List.{List, _++_}
 use lib.ListN.{length, getD}
 use Rattle.rules.specs.Lists.{tab, without, In, Distinct}
-use Rattle.rules.specs.Mesh.{devices, deviceNumber, deviceCoords, span, member}
+use Rattle.rules.specs.Mesh.{devices, deviceNumber, deviceCoords, span, member, OnMesh}
 use Rattle.rules.specs.Limits.{mostAxes, mostDevices}
-use Rattle.mesh.specs.Fitting.{Fits}
 
 -- "the remaining axes (taken in increasing axis number)", then those of the list
 unfoldable pub orderOf : ℕ → List ℕ → List ℕ
@@ -24,7 +23,7 @@ abbrev pub along : (mesh order : List ℕ) → ℕ → ℕ
 along mesh order p = deviceNumber mesh (member mesh order p (deviceCoords mesh 0))
 
 pub record IsOrder (mesh order : List ℕ) (room : ℕ) : Type 0 where
-  pub fits : Fits mesh
+  pub fits : OnMesh mesh
   pub list : IsList (length mesh) order
   pub whole : span mesh order ≡ devices mesh
   pub enough : devices mesh ≤ room

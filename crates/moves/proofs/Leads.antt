@@ -11,13 +11,13 @@ use Rattle.rules.specs.Lists.{flat, product, In, Distinct, Below, none, more}
 use Rattle.rules.specs.Mesh.{number, coords, span, position, member}
 use Rattle.rules.specs.Sharding.{shardSizes, firstIndexes}
 use Rattle.rules.specs.Spread.{from, tabulate, held}
-use Rattle.rules.specs.Collectives.{grown, owner, within}
+use Rattle.rules.specs.Collectives.{grown, owner, within, moved}
 use Rattle.rules.proofs.Lists.{distinct-split, tab-cong}
 use Rattle.rules.proofs.Positions.{div-lt, position-lt, length-member}
 use Rattle.rules.proofs.Shapes.{Cut, cut, uncut, below-owner, owner-member}
 use Rattle.rules.proofs.Buffers.{number-lt, below-coords}
-use Rattle.strided.specs.Strided.{counted, offset, Spans, Copy, copied}
-use Rattle.digits.specs.Digits.{strides, dot, push, cleared, axisDigits}
+use Rattle.strided.specs.Strided.{counted, offset, Nested, Copy, copied}
+use Rattle.digits.specs.Digits.{meshStrides, dot, push, cleared, axisDigits}
 use Rattle.mesh.proofs.Sizes.{mod-div, mod-mod-right}
 use Rattle.digits.proofs.Strides.{
   pos-left,
@@ -32,12 +32,11 @@ use Rattle.digits.proofs.Strides.{
   dot-member,
   counted-axes,
   offset-axes,
-  spans-axes,
+  nested-axes,
   counted-mesh,
   offset-mesh,
-  spans-mesh,
+  nested-mesh,
 }
-use Rattle.rules.proofs.Moved.{moved}
 use Rattle.moves.specs.Moves.{movedShape, left, dimDigits, withSlice, withSlices, deviceStrides, stepDigits}
 
 -- ---- lengths
@@ -52,34 +51,34 @@ grown-length mesh [] Gs h = refl
 grown-length mesh (w ∷ ws) [] h = absurd (omega arith)
 grown-length mesh (w ∷ ws) (G ∷ Gs) h = ap suc (grown-length mesh ws Gs (omega arith))
 
-pub from-length : (zs ys : List ℕ) → length ys ≡ length zs → length (from zs ys) ≡ length zs
-from-length [] ys h = refl
-from-length (z ∷ zs) [] h = absurd (omega arith)
-from-length (z ∷ zs) (y ∷ ys) h = ap suc (from-length zs ys (omega arith))
+pub from-length : (strides added : List ℕ) → length added ≡ length strides → length (from strides added) ≡ length strides
+from-length [] added h = refl
+from-length (z ∷ strides) [] h = absurd (omega arith)
+from-length (z ∷ strides) (y ∷ added) h = ap suc (from-length strides added (omega arith))
 
-pub left-length : (Gs : List (List ℕ)) (zs : List ℕ) → length (left Gs zs) ≡ length zs
-left-length [] zs = refl
-left-length (G ∷ Gs) zs = cleared-length G (left Gs zs) ∙ left-length Gs zs
+pub left-length : (Gs : List (List ℕ)) (strides : List ℕ) → length (left Gs strides) ≡ length strides
+left-length [] strides = refl
+left-length (G ∷ Gs) strides = cleared-length G (left Gs strides) ∙ left-length Gs strides
 
-slice-length : (mesh S : List ℕ) (v : ℕ) (ys : List ℕ) → length (withSlice mesh S v ys) ≡ length ys
-slice-length mesh [] v ys = refl
-slice-length mesh (a ∷ S) v ys = length-set (withSlice mesh S v ys) a _ ∙ slice-length mesh S v ys
+slice-length : (mesh S : List ℕ) (v : ℕ) (added : List ℕ) → length (withSlice mesh S v added) ≡ length added
+slice-length mesh [] v added = refl
+slice-length mesh (a ∷ S) v added = length-set (withSlice mesh S v added) a _ ∙ slice-length mesh S v added
 
-slices-length : (mesh ns ws : List ℕ) (Ss : List (List ℕ)) (ys : List ℕ) → length (withSlices mesh ns ws Ss ys) ≡ length ys
-slices-length mesh [] ws Ss ys = refl
-slices-length mesh (n ∷ ns) [] Ss ys = refl
-slices-length mesh (n ∷ ns) (w ∷ ws) [] ys = refl
-slices-length mesh (n ∷ ns) (w ∷ ws) (S ∷ Ss) ys = slice-length mesh S (w * product ns) (withSlices mesh ns ws Ss ys)
-    ∙ slices-length mesh ns ws Ss ys
+slices-length : (mesh ns ws : List ℕ) (Ss : List (List ℕ)) (added : List ℕ) → length (withSlices mesh ns ws Ss added) ≡ length added
+slices-length mesh [] ws Ss added = refl
+slices-length mesh (n ∷ ns) [] Ss added = refl
+slices-length mesh (n ∷ ns) (w ∷ ws) [] added = refl
+slices-length mesh (n ∷ ns) (w ∷ ws) (S ∷ Ss) added = slice-length mesh S (w * product ns) (withSlices mesh ns ws Ss added)
+    ∙ slices-length mesh ns ws Ss added
 
 -- ---- sums of strides
 
-dot-from : (zs ys xs : List ℕ) → length ys ≡ length zs → dot (from zs ys) xs ≡ dot zs xs + dot ys xs
+dot-from : (strides added xs : List ℕ) → length added ≡ length strides → dot (from strides added) xs ≡ dot strides xs + dot added xs
 dot-from [] [] xs h = refl
-dot-from [] (y ∷ ys) xs h = absurd (omega arith)
-dot-from (z ∷ zs) [] xs h = absurd (omega arith)
-dot-from (z ∷ zs) (y ∷ ys) [] h = refl
-dot-from (z ∷ zs) (y ∷ ys) (x ∷ xs) h = omega (arith, mul-add x z y, dot-from zs ys xs (omega arith))
+dot-from [] (y ∷ added) xs h = absurd (omega arith)
+dot-from (z ∷ strides) [] xs h = absurd (omega arith)
+dot-from (z ∷ strides) (y ∷ added) [] h = refl
+dot-from (z ∷ strides) (y ∷ added) (x ∷ xs) h = omega (arith, mul-add x z y, dot-from strides added xs (omega arith))
 
 dot-zeros : (n : ℕ) (xs : List ℕ) → dot (replicate n 0) xs ≡ 0
 dot-zeros zero xs = refl
@@ -88,87 +87,87 @@ dot-zeros (suc n) (x ∷ xs) = omega (arith, mul-zero x, dot-zeros n xs)
 
 -- ---- the digits of the dimensions
 
-pub counted-dims : (mesh ns ws : List ℕ) (Gs : List (List ℕ)) (zs : List ℕ) → length ws ≡ length ns → length Gs ≡ length ns
-    → counted (dimDigits mesh ns ws Gs zs) ≡ product (grown mesh Gs ws)
-counted-dims mesh [] [] Gs zs h g = refl
-counted-dims mesh [] (w ∷ ws) Gs zs h g = absurd (omega arith)
-counted-dims mesh (n ∷ ns) [] Gs zs h g = absurd (omega arith)
-counted-dims mesh (n ∷ ns) (w ∷ ws) [] zs h g = absurd (omega arith)
-counted-dims mesh (n ∷ ns) (w ∷ ws) (G ∷ Gs) zs h g =
-    counted-axes mesh G (left Gs zs) (push w (product ns) (dimDigits mesh ns ws Gs zs))
-    ∙ rw (counted-dims mesh ns ws Gs zs (omega arith) (omega arith), mul-assoc)
+pub counted-dims : (mesh ns ws : List ℕ) (Gs : List (List ℕ)) (strides : List ℕ) → length ws ≡ length ns → length Gs ≡ length ns
+    → counted (dimDigits mesh ns ws Gs strides) ≡ product (grown mesh Gs ws)
+counted-dims mesh [] [] Gs strides h g = refl
+counted-dims mesh [] (w ∷ ws) Gs strides h g = absurd (omega arith)
+counted-dims mesh (n ∷ ns) [] Gs strides h g = absurd (omega arith)
+counted-dims mesh (n ∷ ns) (w ∷ ws) [] strides h g = absurd (omega arith)
+counted-dims mesh (n ∷ ns) (w ∷ ws) (G ∷ Gs) strides h g =
+    counted-axes mesh G (left Gs strides) (push w (product ns) (dimDigits mesh ns ws Gs strides))
+    ∙ rw (counted-dims mesh ns ws Gs strides (omega arith) (omega arith), mul-assoc)
 
-spans-dims : (mesh ns ws : List ℕ) (Gs : List (List ℕ)) (zs : List ℕ) → Spans (dimDigits mesh ns ws Gs zs)
-spans-dims mesh [] ws Gs zs = tt
-spans-dims mesh (n ∷ ns) [] Gs zs = tt
-spans-dims mesh (n ∷ ns) (w ∷ ws) [] zs = tt
-spans-dims mesh (n ∷ ns) (w ∷ ws) (G ∷ Gs) zs =
-    spans-axes mesh G (left Gs zs) (push w (product ns) (dimDigits mesh ns ws Gs zs)) (refl, spans-dims mesh ns ws Gs zs)
+nested-dims : (mesh ns ws : List ℕ) (Gs : List (List ℕ)) (strides : List ℕ) → Nested (dimDigits mesh ns ws Gs strides)
+nested-dims mesh [] ws Gs strides = tt
+nested-dims mesh (n ∷ ns) [] Gs strides = tt
+nested-dims mesh (n ∷ ns) (w ∷ ws) [] strides = tt
+nested-dims mesh (n ∷ ns) (w ∷ ws) (G ∷ Gs) strides =
+    nested-axes mesh G (left Gs strides) (push w (product ns) (dimDigits mesh ns ws Gs strides)) (refl, nested-dims mesh ns ws Gs strides)
 
 sum-up : (A U N B O L M T : ℕ) → A + N ≡ B + O → B ≡ L + M → T ≡ M + (U + O) → A + (U + N) ≡ L + T
 sum-up A U N B O L M T p q r = omega arith
 
 -- they lead from the device to the owner's shard, and to the index there
-offset-dims : (mesh ns ws : List ℕ) (Gs : List (List ℕ)) (zs : List ℕ) (o : ℕ) (x : List ℕ) → length ws ≡ length ns → length Gs ≡ length ns
-    → length x ≡ length zs → 0 < product (grown mesh Gs ws) → o < product (grown mesh Gs ws) → Distinct (flat Gs)
-    → dot zs (owner mesh Gs ws (coords (grown mesh Gs ws) o) x) + number ns (within ws (coords (grown mesh Gs ws) o))
-    ≡ dot (left Gs zs) x + offset (dimDigits mesh ns ws Gs zs) o
-offset-dims mesh [] [] [] zs o x h g k p q d = refl
-offset-dims mesh [] [] (G ∷ Gs) zs o x h g k p q d = absurd (omega arith)
-offset-dims mesh [] (w ∷ ws) Gs zs o x h g k p q d = absurd (omega arith)
-offset-dims mesh (n ∷ ns) [] Gs zs o x h g k p q d = absurd (omega arith)
-offset-dims mesh (n ∷ ns) (w ∷ ws) [] zs o x h g k p q d = absurd (omega arith)
-offset-dims mesh (n ∷ ns) (w ∷ ws) (G ∷ Gs) zs o x h g k p q d =
-    let r : List ℕ = dimDigits mesh ns ws Gs zs in
+offset-dims : (mesh ns ws : List ℕ) (Gs : List (List ℕ)) (strides : List ℕ) (o : ℕ) (x : List ℕ) → length ws ≡ length ns → length Gs ≡ length ns
+    → length x ≡ length strides → 0 < product (grown mesh Gs ws) → o < product (grown mesh Gs ws) → Distinct (flat Gs)
+    → dot strides (owner mesh Gs ws (coords (grown mesh Gs ws) o) x) + number ns (within ws (coords (grown mesh Gs ws) o))
+    ≡ dot (left Gs strides) x + offset (dimDigits mesh ns ws Gs strides) o
+offset-dims mesh [] [] [] strides o x h g k p q d = refl
+offset-dims mesh [] [] (G ∷ Gs) strides o x h g k p q d = absurd (omega arith)
+offset-dims mesh [] (w ∷ ws) Gs strides o x h g k p q d = absurd (omega arith)
+offset-dims mesh (n ∷ ns) [] Gs strides o x h g k p q d = absurd (omega arith)
+offset-dims mesh (n ∷ ns) (w ∷ ws) [] strides o x h g k p q d = absurd (omega arith)
+offset-dims mesh (n ∷ ns) (w ∷ ws) (G ∷ Gs) strides o x h g k p q d =
+    let r : List ℕ = dimDigits mesh ns ws Gs strides in
     let e : ℕ = span mesh G in
     let R : ℕ = product (grown mesh Gs ws) in
     let i : ℕ = o / R in
     let y : List ℕ = member mesh G (i / w) x in
     let rest : List ℕ = coords (grown mesh Gs ws) (o % R) in
     let s : Distinct G × Distinct (flat Gs) × ((a : ℕ) → In a G → ¬ In a (flat Gs)) = distinct-split G (flat Gs) d in
-    let tr : counted r ≡ R = counted-dims mesh ns ws Gs zs (omega arith) (omega arith) in
+    let tr : counted r ≡ R = counted-dims mesh ns ws Gs strides (omega arith) (omega arith) in
     let pr : 0 < R = pos-right (e * w) R p in
     let pw : 0 < w = pos-right e w (pos-left (e * w) R p) in
     let pe : 0 < e = pos-left e w (pos-left (e * w) R p) in
-    let ih : dot zs (owner mesh Gs ws rest y) + number ns (within ws rest) ≡ dot (left Gs zs) y + offset r (o % R) =
-    offset-dims mesh ns ws Gs zs (o % R) y (omega arith) (omega arith) (length-member mesh G (i / w) x ∙ k) pr (mod-lt o pr) (s .1) in
-    let dm : dot (left Gs zs) y ≡ dot (cleared G (left Gs zs)) x + memberPart mesh G (left Gs zs) (i / w) =
-    dot-member mesh G (left Gs zs) (i / w) x (s .0) (k ∙ sym (left-length Gs zs)) in
+    let ih : dot strides (owner mesh Gs ws rest y) + number ns (within ws rest) ≡ dot (left Gs strides) y + offset r (o % R) =
+    offset-dims mesh ns ws Gs strides (o % R) y (omega arith) (omega arith) (length-member mesh G (i / w) x ∙ k) pr (mod-lt o pr) (s .1) in
+    let dm : dot (left Gs strides) y ≡ dot (cleared G (left Gs strides)) x + memberPart mesh G (left Gs strides) (i / w) =
+    dot-member mesh G (left Gs strides) (i / w) x (s .0) (k ∙ sym (left-length Gs strides)) in
     let wr : 0 < w * R = mul-pos pw pr in
-    let D : List ℕ = axisDigits mesh G (left Gs zs) (push w (product ns) r) in
-    let ea : offset D o ≡ memberPart mesh G (left Gs zs) (o / (w * counted r)) + offset (push w (product ns) r) (o % (w * counted r)) =
-    offset-axes mesh G (left Gs zs) (push w (product ns) r) o pe (rw tr wr) (rw (tr, ← mul-assoc e w R) q) in
-    let M : ℕ = memberPart mesh G (left Gs zs) (i / w) in
+    let D : List ℕ = axisDigits mesh G (left Gs strides) (push w (product ns) r) in
+    let ea : offset D o ≡ memberPart mesh G (left Gs strides) (o / (w * counted r)) + offset (push w (product ns) r) (o % (w * counted r)) =
+    offset-axes mesh G (left Gs strides) (push w (product ns) r) o pe (rw tr wr) (rw (tr, ← mul-assoc e w R) q) in
+    let M : ℕ = memberPart mesh G (left Gs strides) (i / w) in
     let U : ℕ = i % w * product ns in
     let eb : offset D o ≡ M + (U + offset r (o % R)) = ea ∙ (rw (tr, div-mul o w R, mod-div o pw pr, mod-mod-right o pw pr)) in
     ap (λ (z : ℕ). z + (U + number ns (within ws rest)))
-    (ap (dot zs) (sym (owner-member mesh Gs ws rest G (i / w) x (λ a u j. s .2 a j u))))
-    ∙ sum-up (dot zs (owner mesh Gs ws rest y)) U (number ns (within ws rest)) (dot (left Gs zs) y) (offset r (o % R))
-    (dot (cleared G (left Gs zs)) x) M
+    (ap (dot strides) (sym (owner-member mesh Gs ws rest G (i / w) x (λ a u j. s .2 a j u))))
+    ∙ sum-up (dot strides (owner mesh Gs ws rest y)) U (number ns (within ws rest)) (dot (left Gs strides) y) (offset r (o % R))
+    (dot (cleared G (left Gs strides)) x) M
     (offset D o) ih dm eb
 
 -- ---- slices
 
-dot-slice : (mesh S : List ℕ) (v : ℕ) (ys x : List ℕ) → length x ≡ length ys → dot (withSlice mesh S v ys) x ≡ position mesh S x * v + dot ys x
-dot-slice mesh [] v ys x h = omega (arith, zero-mul v)
-dot-slice mesh (a ∷ S) v ys x h =
-    rw (dot-more (withSlice mesh S v ys) x a (span mesh S * v) (h ∙ sym (slice-length mesh S v ys)), dot-slice mesh S v ys x h)
+dot-slice : (mesh S : List ℕ) (v : ℕ) (added x : List ℕ) → length x ≡ length added → dot (withSlice mesh S v added) x ≡ position mesh S x * v + dot added x
+dot-slice mesh [] v added x h = omega (arith, zero-mul v)
+dot-slice mesh (a ∷ S) v added x h =
+    rw (dot-more (withSlice mesh S v added) x a (span mesh S * v) (h ∙ sym (slice-length mesh S v added)), dot-slice mesh S v added x h)
     (omega (arith, add-mul (getD x a 0 * span mesh S) (position mesh S x) v, mul-assoc (getD x a 0) (span mesh S) v))
 
 -- what the slices add leads to the first index of the device's piece
-dot-slices : (mesh ns ws : List ℕ) (Ss : List (List ℕ)) (ys i x : List ℕ) → length ws ≡ length ns → length Ss ≡ length ns → length i ≡ length ns
-    → length x ≡ length ys
-    → number ns (from (firstIndexes mesh Ss ws x) (within ws i)) + dot ys x ≡ number ns (within ws i) + dot (withSlices mesh ns ws Ss ys) x
-dot-slices mesh [] ws Ss ys i x h g j k = refl
-dot-slices mesh (n ∷ ns) [] Ss ys i x h g j k = absurd (omega arith)
-dot-slices mesh (n ∷ ns) (w ∷ ws) [] ys i x h g j k = absurd (omega arith)
-dot-slices mesh (n ∷ ns) (w ∷ ws) (S ∷ Ss) ys [] x h g j k = absurd (omega arith)
-dot-slices mesh (n ∷ ns) (w ∷ ws) (S ∷ Ss) ys (t ∷ i) x h g j k =
+dot-slices : (mesh ns ws : List ℕ) (Ss : List (List ℕ)) (added i x : List ℕ) → length ws ≡ length ns → length Ss ≡ length ns → length i ≡ length ns
+    → length x ≡ length added
+    → number ns (from (firstIndexes mesh Ss ws x) (within ws i)) + dot added x ≡ number ns (within ws i) + dot (withSlices mesh ns ws Ss added) x
+dot-slices mesh [] ws Ss added i x h g j k = refl
+dot-slices mesh (n ∷ ns) [] Ss added i x h g j k = absurd (omega arith)
+dot-slices mesh (n ∷ ns) (w ∷ ws) [] added i x h g j k = absurd (omega arith)
+dot-slices mesh (n ∷ ns) (w ∷ ws) (S ∷ Ss) added [] x h g j k = absurd (omega arith)
+dot-slices mesh (n ∷ ns) (w ∷ ws) (S ∷ Ss) added (t ∷ i) x h g j k =
     let P : ℕ = product ns in
     omega (
       arith,
-      dot-slices mesh ns ws Ss ys i x (omega arith) (omega arith) (omega arith) k,
-      dot-slice mesh S (w * P) (withSlices mesh ns ws Ss ys) x (k ∙ sym (slices-length mesh ns ws Ss ys)),
+      dot-slices mesh ns ws Ss added i x (omega arith) (omega arith) (omega arith) k,
+      dot-slice mesh S (w * P) (withSlices mesh ns ws Ss added) x (k ∙ sym (slices-length mesh ns ws Ss added)),
       add-mul (position mesh S x * w) (t % w) P,
       mul-assoc (position mesh S x) w P,
     )
@@ -210,11 +209,11 @@ module _ (mesh shape : List ℕ) (Gs Ss : List (List ℕ)) (v : Step mesh shape 
   abbrev ws : List ℕ
   ws = shardSizes mesh shape Ss
 
-  abbrev zs : List ℕ
-  zs = strides mesh (product shape)
+  abbrev strides : List ℕ
+  strides = meshStrides mesh (product shape)
 
   abbrev dims : List ℕ
-  dims = dimDigits mesh shape ws Gs zs
+  dims = dimDigits mesh shape ws Gs strides
 
   abbrev R : ℕ
   R = product (grown mesh Gs ws)
@@ -223,22 +222,22 @@ module _ (mesh shape : List ℕ) (Gs Ss : List (List ℕ)) (v : Step mesh shape 
   ws-length = shard-length mesh shape Ss (v .slices)
 
   new-words : counted dims ≡ R
-  new-words = counted-dims mesh shape ws Gs zs ws-length (v .gathers)
+  new-words = counted-dims mesh shape ws Gs strides ws-length (v .gathers)
 
   added-length : length (withSlices mesh shape ws Ss (replicate (length mesh) 0)) ≡ length mesh
   added-length = slices-length mesh shape ws Ss (replicate (length mesh) 0) ∙ length-replicate (length mesh) 0
 
-  kept-length : length (left Gs zs) ≡ length mesh
-  kept-length = left-length Gs zs ∙ strides-length mesh (product shape)
+  kept-length : length (left Gs strides) ≡ length mesh
+  kept-length = left-length Gs strides ∙ strides-length mesh (product shape)
 
   pub device-length : length (deviceStrides mesh shape Gs Ss) ≡ length mesh
-  device-length = from-length (left Gs zs) (withSlices mesh shape ws Ss (replicate (length mesh) 0)) (added-length ∙ sym kept-length) ∙ kept-length
+  device-length = from-length (left Gs strides) (withSlices mesh shape ws Ss (replicate (length mesh) 0)) (added-length ∙ sym kept-length) ∙ kept-length
 
   pub step-counted : counted (stepDigits mesh shape Gs Ss) ≡ product mesh * R
   step-counted = counted-mesh mesh (deviceStrides mesh shape Gs Ss) dims device-length ∙ (rw new-words)
 
-  step-spans : Spans (stepDigits mesh shape Gs Ss)
-  step-spans = spans-mesh mesh (deviceStrides mesh shape Gs Ss) dims (spans-dims mesh shape ws Gs zs)
+  step-nested : Nested (stepDigits mesh shape Gs Ss)
+  step-nested = nested-mesh mesh (deviceStrides mesh shape Gs Ss) dims (nested-dims mesh shape ws Gs strides)
 
   -- the source of word o of the new shard of device d
   abbrev source : ℕ → ℕ → ℕ
@@ -249,8 +248,8 @@ module _ (mesh shape : List ℕ) (Gs Ss : List (List ℕ)) (v : Step mesh shape 
   leads : (t : ℕ) → t < product mesh * R → offset (stepDigits mesh shape Gs Ss) t ≡ source (t / R) (t % R)
   leads t h =
       let m : ℕ = product shape in
-      let ys : List ℕ = replicate (length mesh) 0 in
-      let added : List ℕ = withSlices mesh shape ws Ss ys in
+      let bare : List ℕ = replicate (length mesh) 0 in
+      let added : List ℕ = withSlices mesh shape ws Ss bare in
       let D : List ℕ = deviceStrides mesh shape Gs Ss in
       let x : List ℕ = coords mesh (t / R) in
       let i : List ℕ = coords (grown mesh Gs ws) (t % R) in
@@ -258,19 +257,19 @@ module _ (mesh shape : List ℕ) (Gs Ss : List (List ℕ)) (v : Step mesh shape 
       let om : offset (stepDigits mesh shape Gs Ss) t ≡ dot D (coords mesh (t / counted dims)) + offset dims (t % counted dims) =
       offset-mesh mesh D dims t device-length (v .some) (rw new-words (v .new-pos)) (rw new-words h) in
       let om′ : offset (stepDigits mesh shape Gs Ss) t ≡ dot D x + offset dims (t % R) = om ∙ (rw new-words) in
-      let dp : dot D x ≡ dot (left Gs zs) x + dot added x = dot-from (left Gs zs) added x (added-length ∙ sym kept-length) in
-      let od : dot zs (owner mesh Gs ws i x) + number shape (within ws i) ≡ dot (left Gs zs) x + offset dims (t % R) =
-      offset-dims mesh shape ws Gs zs (t % R) x ws-length (v .gathers) (xl ∙ sym (strides-length mesh m)) (v .new-pos) (mod-lt t (v .new-pos))
+      let dp : dot D x ≡ dot (left Gs strides) x + dot added x = dot-from (left Gs strides) added x (added-length ∙ sym kept-length) in
+      let od : dot strides (owner mesh Gs ws i x) + number shape (within ws i) ≡ dot (left Gs strides) x + offset dims (t % R) =
+      offset-dims mesh shape ws Gs strides (t % R) x ws-length (v .gathers) (xl ∙ sym (strides-length mesh m)) (v .new-pos) (mod-lt t (v .new-pos))
       (v .once) in
-      let ds : dot zs (owner mesh Gs ws i x) ≡ number mesh (owner mesh Gs ws i x) * m = dot-strides mesh (owner mesh Gs ws i x) m in
-      let st : number shape (from (firstIndexes mesh Ss ws x) (within ws i)) + dot ys x ≡ number shape (within ws i) + dot added x =
-      dot-slices mesh shape ws Ss ys i x ws-length (v .slices)
+      let ds : dot strides (owner mesh Gs ws i x) ≡ number mesh (owner mesh Gs ws i x) * m = dot-strides mesh (owner mesh Gs ws i x) m in
+      let st : number shape (from (firstIndexes mesh Ss ws x) (within ws i)) + dot bare x ≡ number shape (within ws i) + dot added x =
+      dot-slices mesh shape ws Ss bare i x ws-length (v .slices)
       (coords-length (grown mesh Gs ws) (t % R) ∙ grown-length mesh ws Gs (v .gathers ∙ sym ws-length) ∙ ws-length)
       (xl ∙ sym (length-replicate (length mesh) 0)) in
-      add-up (offset (stepDigits mesh shape Gs Ss) t) (dot D x) (offset dims (t % R)) (dot (left Gs zs) x) (dot added x)
-      (dot zs (owner mesh Gs ws i x))
+      add-up (offset (stepDigits mesh shape Gs Ss) t) (dot D x) (offset dims (t % R)) (dot (left Gs strides) x) (dot added x)
+      (dot strides (owner mesh Gs ws i x))
       (number shape (within ws i)) (number mesh (owner mesh Gs ws i x) * m) (number shape (from (firstIndexes mesh Ss ws x) (within ws i)))
-      (dot ys x) om′ dp od
+      (dot bare x) om′ dp od
       ds st (dot-zeros (length mesh) x)
     where
       add-up : (T D O L Y A N B I Z : ℕ) → T ≡ D + O → D ≡ L + Y → A + N ≡ L + O → A ≡ B → I + Z ≡ N + Y → Z ≡ 0 → T ≡ B + I
@@ -287,16 +286,15 @@ module _ (mesh shape : List ℕ) (Gs Ss : List (List ℕ)) (v : Step mesh shape 
       → Copy (stepDigits mesh shape Gs Ss) (product mesh * R) 0 room
   copy-ok room h k = record {
     some = h;
-    spans = step-spans;
+    nested = step-nested;
     whole = sym step-counted;
     filled = mul-pos (v .some) (v .new-pos);
     inside = λ t q. omega (arith, leads t q, source-in (t / R) (t % R) (div-lt (product mesh) R q) (mod-lt t (v .new-pos)));
   }
 
-  pub copied-is : (old : List ℕ) → copied (stepDigits mesh shape Gs Ss) (product mesh * R) 0 old
-      ≡ moved 0 mesh Gs Ss shape old
+  pub copied-is : {W : Type 0} (z : W) (old : List W) → copied z (stepDigits mesh shape Gs Ss) (product mesh * R) 0 old ≡ moved z mesh Gs Ss shape old
   unfolding copied tabulate held
-  copied-is old =
+  copied-is z old =
       tab-cong (product mesh * R) _ _ (λ t q.
       let e : 0 + offset (stepDigits mesh shape Gs Ss) t ≡ source (t / R) (t % R) = omega (arith, leads t q) in
-      ap (λ (k : ℕ). getD old k 0) e)
+      ap (λ (k : ℕ). getD old k z) e)

@@ -9,13 +9,14 @@ use lib.ListN.{length, getD, set, drop, replicate, length-replicate}
 use Rattle.rules.specs.Lists.{flat, product}
 use Rattle.rules.specs.Spread.{from}
 use Rattle.strided.specs.Strided.{counted, Copy, copied}
-use Rattle.mesh.specs.Fitting.{Sizes}
-use Rattle.digits.specs.Digits.{mostRoom, strides, cleared, meshDigits, Shards, Devices}
+use Rattle.mesh.specs.Fitting.{Factors}
+use Rattle.mesh.proofs.Sizes.{fit-sizes}
+use Rattle.digits.specs.Digits.{mostRoom, meshStrides, cleared, meshDigits, HasStrides, Devices}
 use Rattle.digits.proofs.Strides.{pos-left, pos-right, strides-length}
-use Rattle.rules.proofs.Moved.{moved}
+use Rattle.rules.specs.Collectives.{moved}
 use Rattle.moves.specs.Moves.{left, deviceStrides, stepDigits, Adding, Dimensions, DimensionsAt, Setting}
 use Rattle.moves.proofs.Leads.{Step, shard-length, counted-dims, left-length, device-length, copy-ok, copied-is}
-use Rattle.moves.proofs.Dims.{few-distinct}
+use Rattle.rules.proofs.Lists.{few-distinct}
 
 -- ---- strides are small
 
@@ -26,15 +27,15 @@ set-zero (x ∷ xs) zero (suc k) = omega arith
 set-zero (x ∷ xs) (suc a) zero = omega arith
 set-zero (x ∷ xs) (suc a) (suc k) = set-zero xs a k
 
-cleared-le : (L zs : List ℕ) (k : ℕ) → getD (cleared L zs) k 0 ≤ getD zs k 0
-cleared-le [] zs k = omega arith
-cleared-le (a ∷ L) zs k = omega (arith, cleared-le L zs k, set-zero (cleared L zs) a k)
+cleared-le : (L strides : List ℕ) (k : ℕ) → getD (cleared L strides) k 0 ≤ getD strides k 0
+cleared-le [] strides k = omega arith
+cleared-le (a ∷ L) strides k = omega (arith, cleared-le L strides k, set-zero (cleared L strides) a k)
 
-left-le : (Gs : List (List ℕ)) (zs : List ℕ) (k : ℕ) → getD (left Gs zs) k 0 ≤ getD zs k 0
-left-le [] zs k = omega arith
-left-le (G ∷ Gs) zs k = omega (arith, left-le Gs zs k, cleared-le G (left Gs zs) k)
+left-le : (Gs : List (List ℕ)) (strides : List ℕ) (k : ℕ) → getD (left Gs strides) k 0 ≤ getD strides k 0
+left-le [] strides k = omega arith
+left-le (G ∷ Gs) strides k = omega (arith, left-le Gs strides k, cleared-le G (left Gs strides) k)
 
-strides-le : (mesh : List ℕ) (m k : ℕ) → 0 < product mesh → getD (strides mesh m) k 0 ≤ product mesh * m
+strides-le : (mesh : List ℕ) (m k : ℕ) → 0 < product mesh → getD (meshStrides mesh m) k 0 ≤ product mesh * m
 strides-le [] m k h = omega arith
 strides-le (s ∷ ss) m zero h =
     let p : product ss ≤ s * product ss = rw (mul-comm s (product ss)) (le-mul-of-pos-right (product ss) (pos-left s (product ss) h)) in
@@ -50,83 +51,78 @@ zeros-at (suc n) (suc k) = zeros-at n k
 
 -- ---- the set-up
 
-module _ {row zs ys mesh shape : List ℕ} {Gs Ss : List (List ℕ)} {words : ℕ} (t : Setting row zs ys mesh shape Gs Ss words) where
+module _ {digits strides added mesh shape : List ℕ} {Gs Ss : List (List ℕ)} {words : ℕ} (t : Setting digits strides added mesh shape Gs Ss words) where
   abbrev Z : List ℕ
-  Z = strides mesh (product shape)
+  Z = meshStrides mesh (product shape)
 
-  pub shape-asked : Sizes shape
+  pub shape-asked : Factors shape
   shape-asked = record { some = t .step .old-pos; few = t .step .old-few }
 
-  pub mesh-sizes : Sizes mesh
-  mesh-sizes = record { some = t .step .devices-pos; few = omega (arith, t .step .devices-few) }
+  pub mesh-sizes : Factors mesh
+  mesh-sizes = fit-sizes (t .step .on)
 
-  pub strides-asked : Shards zs mesh (product shape)
-  strides-asked = record {
-    places = t .zs-places;
-    sizes = mesh-sizes;
-    few = mul-le-mul (t .step .devices-few) (t .step .old-few);
-  }
+  pub strides-asked : HasStrides strides mesh × (product mesh * product shape ≤ mostRoom)
+  strides-asked = (record { on = t .step .on; places = t .strides-places }, mul-le-mul (t .step .on .devices-few) (t .step .old-few))
 
-  ys-length : length ys ≡ length mesh
-  ys-length = ap length (t .none) ∙ length-replicate (length mesh) 0
+  added-length : length added ≡ length mesh
+  added-length = ap length (t .none) ∙ length-replicate (length mesh) 0
 
-  pub dims-asked : (zs′ : List ℕ) → zs′ ≡ Z → Dimensions row zs′ ys mesh shape Gs Ss
-  dims-asked zs′ e = record {
+  pub dims-asked : (strides′ : List ℕ) → strides′ ≡ Z → Dimensions digits strides′ added mesh shape Gs Ss
+  dims-asked strides′ e = record {
     step = t .step;
     room = omega (
       arith,
       t .room,
-      t .step .axes-few,
+      t .step .on .axes-few,
       t .step .rank,
       few-distinct (length mesh) (flat Gs) (t .step .gathered-once) (t .step .gathered),
     );
-    zs-places = ap length e ∙ strides-length mesh (product shape);
-    ys-places = ys-length;
+    strides-places = ap length e ∙ strides-length mesh (product shape);
+    added-places = added-length;
     none = λ k. ap (λ (l : List ℕ). getD l k 0) (t .none) ∙ zeros-at (length mesh) k;
   }
 
-  module _ {row′ zs′ ys′ : List ℕ} {end count w : ℕ} (d : DimensionsAt mesh shape Gs Ss Z ys row′ zs′ ys′ end count w 0) where
-    zs-length : length zs′ ≡ length mesh
-    zs-length = ap length (d .zs-are) ∙ left-length Gs Z ∙ strides-length mesh (product shape)
+  module _ {digits′ strides′ added′ : List ℕ} {end count w : ℕ} (d : DimensionsAt mesh shape Gs Ss Z added digits′ strides′ added′ end count w 0) where
+    strides-length-of : length strides′ ≡ length mesh
+    strides-length-of = ap length (d .strides-are) ∙ left-length Gs Z ∙ strides-length mesh (product shape)
 
-    pub adding-asked : length ys′ ≡ length ys → Adding zs′ ys′
+    pub adding-asked : length added′ ≡ length added → Adding strides′ added′
     adding-asked e = record {
-      places = e ∙ ys-length ∙ sym zs-length;
+      places = e ∙ added-length ∙ sym strides-length-of;
       few = λ k.
-          let z : getD zs′ k 0 ≤ mostRoom =
-          rw (d .zs-are) (omega (arith, left-le Gs Z k, strides-le mesh (product shape) k (t .step .devices-pos), strides-asked .few)) in
-          omega (arith, d .ys-few k, few-distinct (length mesh) (flat Ss) (t .step .sliced-once) (t .step .sliced), t .step .axes-few);
+          let z : getD strides′ k 0 ≤ mostRoom =
+          rw (d .strides-are) (omega (arith, left-le Gs Z k, strides-le mesh (product shape) k (t .step .on .devices-pos), strides-asked .1)) in
+          omega (arith, d .added-few k, few-distinct (length mesh) (flat Ss) (t .step .sliced-once) (t .step .sliced), t .step .on .axes-few);
     }
 
-    pub mesh-asked : (zs″ : List ℕ) → length zs″ ≡ length zs′ → length row′ ≡ length row → Devices row′ zs″ mesh end words
-    mesh-asked zs″ e lr =
-        let count-is : words ≡ counted (drop end row′) =
+    pub mesh-asked : (strides″ : List ℕ) → length strides″ ≡ length strides′ → length digits′ ≡ length digits → Devices digits′ strides″ mesh end words
+    mesh-asked strides″ e lr =
+        let count-is : words ≡ counted (drop end digits′) =
         t .words-are ∙ sym (counted-dims mesh shape _ Gs Z (shard-length mesh shape Ss (t .step .slices)) (t .step .gathers))
         ∙ ap counted (sym (d .made)) in
         let ng : length (flat Gs) ≤ length mesh = few-distinct (length mesh) (flat Gs) (t .step .gathered-once) (t .step .gathered) in
-        let rr : end + 3 * (length shape + length (flat Gs)) ≡ length row′ = d .room-is in
+        let rr : end + 3 * (length shape + length (flat Gs)) ≡ length digits′ = d .room-is in
         record {
           front = record {
-            room = omega (arith, t .room, t .step .axes-few, t .step .rank);
+            room = omega (arith, t .room, t .step .on .axes-few, t .step .rank);
             inside = omega arith;
             count = count-is;
             filled = rw (t .words-are) (t .step .new-pos);
           };
-          devices = t .step .devices-pos;
-          places = e ∙ zs-length;
-          few = rw (t .words-are) (mul-le-mul (t .step .devices-few) (t .step .new-few));
+          has = record { on = t .step .on; places = e ∙ strides-length-of };
+          few = rw (t .words-are) (mul-le-mul (t .step .on .devices-few) (t .step .new-few));
         }
 
     -- the digits are those of the step
-    pub digits-are : (row″ : List ℕ) (first : ℕ) → drop first row″ ≡ meshDigits mesh (from zs′ ys′) (drop end row′)
-        → drop first row″ ≡ stepDigits mesh shape Gs Ss
-    digits-are row″ first e = e ∙ (rw (d .made, d .zs-are, d .ys-are, t .none))
+    pub digits-are : (digits″ : List ℕ) (first : ℕ) → drop first digits″ ≡ meshDigits mesh (from strides′ added′) (drop end digits′)
+        → drop first digits″ ≡ stepDigits mesh shape Gs Ss
+    digits-are digits″ first e = e ∙ (rw (d .made, d .strides-are, d .added-are, t .none))
 
   -- ---- the copy
 
   step-is : Step mesh shape Gs Ss
   step-is = record {
-    some = t .step .devices-pos;
+    some = t .step .on .devices-pos;
     new-pos = t .step .new-pos;
     gathers = t .step .gathers;
     slices = t .step .slices;
@@ -134,18 +130,18 @@ module _ {row zs ys mesh shape : List ℕ} {Gs Ss : List (List ℕ)} {words : �
   }
 
   some-digits : 0 < length (stepDigits mesh shape Gs Ss)
-  some-digits = go mesh (deviceStrides mesh shape Gs Ss) _ (t .step .axes-some) (device-length mesh shape Gs Ss step-is)
+  some-digits = go mesh (deviceStrides mesh shape Gs Ss) _ (t .step .on .axes-some) (device-length mesh shape Gs Ss step-is)
     where
-      go : (ss zs r : List ℕ) → 0 < length ss → length zs ≡ length ss → 0 < length (meshDigits ss zs r)
-      go [] zs r h g = absurd (omega arith)
+      go : (ss strides r : List ℕ) → 0 < length ss → length strides ≡ length ss → 0 < length (meshDigits ss strides r)
+      go [] strides r h g = absurd (omega arith)
       go (s ∷ ss) [] r h g = absurd (omega arith)
-      go (s ∷ ss) (z ∷ zs) r h g = omega arith
+      go (s ∷ ss) (z ∷ strides) r h g = omega arith
 
   pub copy-asked : (digits : List ℕ) (n room : ℕ) → digits ≡ stepDigits mesh shape Gs Ss → n ≡ product mesh * words
       → product mesh * product shape ≤ room
       → Copy digits n 0 room
   copy-asked digits n room es en k = rw (es, en, t .words-are) (copy-ok mesh shape Gs Ss step-is room some-digits k)
 
-  pub copy-leaves : (digits : List ℕ) (n : ℕ) (old : List ℕ) → digits ≡ stepDigits mesh shape Gs Ss → n ≡ product mesh * words
-      → copied digits n 0 old ≡ moved 0 mesh Gs Ss shape old
-  copy-leaves digits n old es en = rw (es, en, t .words-are) (copied-is mesh shape Gs Ss step-is old)
+  pub copy-leaves : {W : Type 0} (z : W) (digits : List ℕ) (n : ℕ) (old : List W) → digits ≡ stepDigits mesh shape Gs Ss → n ≡ product mesh * words
+      → copied z digits n 0 old ≡ moved z mesh Gs Ss shape old
+  copy-leaves z digits n old es en = rw (es, en, t .words-are) (copied-is mesh shape Gs Ss step-is z old)

@@ -7,15 +7,14 @@ use mathlib.Core.Path.{_≡_}
 use mathlib.Core.List.{List, [], _∷_, _++_}
 use lib.ListN.{length, getD, set, take, drop, replicate}
 use Rattle.rules.specs.Lists.{flat, product, In, Distinct}
-use Rattle.rules.specs.Mesh.{devices, span}
+use Rattle.rules.specs.Mesh.{devices, span, OnMesh}
 use Rattle.rules.specs.Sharding.{shardSizes}
 use Rattle.rules.specs.Spread.{from}
-use Rattle.rules.specs.Collectives.{grown}
-use Rattle.rules.specs.Limits.{mostAxes, mostDevices, mostDims, mostWords}
+use Rattle.rules.specs.Collectives.{grown, moved}
+use Rattle.rules.specs.Limits.{mostAxes, mostDims, mostWords}
 use Rattle.rules.specs.Types.{dimsOf}
 use Rattle.rules.specs.declared.Sharding.{Sharding}
-use Rattle.rules.proofs.Moved.{moved}
-use Rattle.digits.specs.Digits.{mostRoom, strides, push, cleared, axisDigits, meshDigits, Front}
+use Rattle.digits.specs.Digits.{mostRoom, meshStrides, push, cleared, axisDigits, meshDigits, HasStrides, Front}
 
 -- ---- the step
 
@@ -27,43 +26,44 @@ movedShape mesh shape Gs Ss = grown mesh Gs (shardSizes mesh shape Ss)
 abbrev pub lists : List ℕ → Sharding → List (List ℕ)
 lists shape s = take (length shape) (dimsOf s)
 
--- the buffer that the step leaves: the new state, of shards of `words` words, and what was behind it
-abbrev pub movedBuffer : (mesh shape : List ℕ) → (Gs Ss : List (List ℕ)) → ℕ → (old new : List ℕ) → List ℕ
-movedBuffer mesh shape Gs Ss words old new = moved 0 mesh Gs Ss shape old ++ drop (devices mesh * words) new
+-- the buffer that the step leaves, of elements of any type: the new state, of shards of `words` words, and what was behind it; z is read outside the
+-- old buffer, which no code does
+abbrev pub movedBuffer : {W : Type 0} → W → (mesh shape : List ℕ) → (Gs Ss : List (List ℕ)) → ℕ → (old new : List W) → List W
+movedBuffer z mesh shape Gs Ss words old new = moved z mesh Gs Ss shape old ++ drop (devices mesh * words) new
 
 -- ---- its digits
 
 -- the strides that are left where each dimension's gathered axes are cleared
 abbrev pub left : List (List ℕ) → List ℕ → List ℕ
-left [] zs = zs
-left (G ∷ Gs) zs = cleared G (left Gs zs)
+left [] strides = strides
+left (G ∷ Gs) strides = cleared G (left Gs strides)
 
 -- the digits of the dimensions, of the given sizes, with pieces of the given sizes
 abbrev pub dimDigits : List ℕ → List ℕ → List ℕ → List (List ℕ) → List ℕ → List ℕ
-dimDigits mesh [] ws Gs zs = []
-dimDigits mesh (n ∷ ns) [] Gs zs = []
-dimDigits mesh (n ∷ ns) (w ∷ ws) [] zs = []
-dimDigits mesh (n ∷ ns) (w ∷ ws) (G ∷ Gs) zs = axisDigits mesh G (left Gs zs) (push w (product ns) (dimDigits mesh ns ws Gs zs))
+dimDigits mesh [] ws Gs strides = []
+dimDigits mesh (n ∷ ns) [] Gs strides = []
+dimDigits mesh (n ∷ ns) (w ∷ ws) [] strides = []
+dimDigits mesh (n ∷ ns) (w ∷ ws) (G ∷ Gs) strides = axisDigits mesh G (left Gs strides) (push w (product ns) (dimDigits mesh ns ws Gs strides))
 
 -- the strides with those of a sliced list added, where the pieces are v words apart; and of all dimensions
 abbrev pub withSlice : List ℕ → List ℕ → ℕ → List ℕ → List ℕ
-withSlice mesh [] v ys = ys
-withSlice mesh (a ∷ S) v ys = set (withSlice mesh S v ys) a (getD (withSlice mesh S v ys) a 0 + span mesh S * v)
+withSlice mesh [] v added = added
+withSlice mesh (a ∷ S) v added = set (withSlice mesh S v added) a (getD (withSlice mesh S v added) a 0 + span mesh S * v)
 
 abbrev pub withSlices : List ℕ → List ℕ → List ℕ → List (List ℕ) → List ℕ → List ℕ
-withSlices mesh [] ws Ss ys = ys
-withSlices mesh (n ∷ ns) [] Ss ys = ys
-withSlices mesh (n ∷ ns) (w ∷ ws) [] ys = ys
-withSlices mesh (n ∷ ns) (w ∷ ws) (S ∷ Ss) ys = withSlice mesh S (w * product ns) (withSlices mesh ns ws Ss ys)
+withSlices mesh [] ws Ss added = added
+withSlices mesh (n ∷ ns) [] Ss added = added
+withSlices mesh (n ∷ ns) (w ∷ ws) [] added = added
+withSlices mesh (n ∷ ns) (w ∷ ws) (S ∷ Ss) added = withSlice mesh S (w * product ns) (withSlices mesh ns ws Ss added)
 
 -- the strides of the devices, and all digits
 abbrev pub deviceStrides : (mesh shape : List ℕ) → (Gs Ss : List (List ℕ)) → List ℕ
 deviceStrides mesh shape Gs Ss =
-    from (left Gs (strides mesh (product shape))) (withSlices mesh shape (shardSizes mesh shape Ss) Ss (replicate (length mesh) 0))
+    from (left Gs (meshStrides mesh (product shape))) (withSlices mesh shape (shardSizes mesh shape Ss) Ss (replicate (length mesh) 0))
 
 abbrev pub stepDigits : (mesh shape : List ℕ) → (Gs Ss : List (List ℕ)) → List ℕ
 stepDigits mesh shape Gs Ss =
-    meshDigits mesh (deviceStrides mesh shape Gs Ss) (dimDigits mesh shape (shardSizes mesh shape Ss) Gs (strides mesh (product shape)))
+    meshDigits mesh (deviceStrides mesh shape Gs Ss) (dimDigits mesh shape (shardSizes mesh shape Ss) Gs (meshStrides mesh (product shape)))
 
 -- the most numbers of a step's digits: those of the mesh's axes, of the dimensions and of the gathered axes
 abbrev pub digitRoom : ℕ
@@ -77,10 +77,7 @@ mostAdded = mostWords * mostAxes
 
 -- a step that the code can do
 pub record Moving (mesh shape : List ℕ) (Gs Ss : List (List ℕ)) : Type 0 where
-  pub axes-some : 0 < length mesh
-  pub axes-few : length mesh ≤ mostAxes
-  pub devices-pos : 0 < product mesh
-  pub devices-few : product mesh ≤ mostDevices
+  pub on : OnMesh mesh
   pub rank : length shape ≤ mostDims
   pub old-pos : 0 < product shape
   pub old-few : product shape ≤ mostWords
@@ -94,54 +91,52 @@ pub record Moving (mesh shape : List ℕ) (Gs Ss : List (List ℕ)) : Type 0 whe
   pub sliced-once : Distinct (flat Ss)
 
 -- a list of sliced axes, pieces that are v words apart, and strides with room for what is added
-pub record Slicing (ys mesh S : List ℕ) (v : ℕ) : Type 0 where
-  pub places : length ys ≡ length mesh
-  pub devices : 0 < product mesh
+pub record Slicing (added mesh S : List ℕ) (v : ℕ) : Type 0 where
+  pub has : HasStrides added mesh
   pub of-mesh : (a : ℕ) → In a S → a < length mesh
   pub few : span mesh S * v ≤ mostWords
-  pub ys-few : (k : ℕ) → getD ys k 0 + mostWords * length S ≤ mostAdded
+  pub added-few : (k : ℕ) → getD added k 0 + mostWords * length S ≤ mostAdded
 
 -- strides to be added to others
-pub record Adding (zs ys : List ℕ) : Type 0 where
-  pub places : length ys ≡ length zs
-  pub few : (k : ℕ) → getD zs k 0 + getD ys k 0 ≤ mostRoom + mostAdded
+pub record Adding (strides added : List ℕ) : Type 0 where
+  pub places : length added ≡ length strides
+  pub few : (k : ℕ) → getD strides k 0 + getD added k 0 ≤ mostRoom + mostAdded
 
 -- one dimension of size n, whose words are w apart, with gathered axes G and sliced axes S
-pub record Dimension (digits zs ys mesh G S : List ℕ) (n w end words : ℕ) : Type 0 where
-  pub front : Front digits end words (3 * length G + 3)
-  pub zs-places : length zs ≡ length mesh
-  pub ys-places : length ys ≡ length mesh
-  pub devices-pos : 0 < product mesh
+pub record Dimension (digits strides added mesh G S : List ℕ) (n w end inner : ℕ) : Type 0 where
+  pub front : Front digits end inner (3 * length G + 3)
+  pub has : HasStrides strides mesh
+  pub added-places : length added ≡ length mesh
   pub gathered : (a : ℕ) → In a G → a < length mesh
   pub sliced : (a : ℕ) → In a S → a < length mesh
-  pub new-pos : 0 < span mesh G * (n / span mesh S * words)
-  pub new-few : span mesh G * (n / span mesh S * words) ≤ mostWords
+  pub new-pos : 0 < span mesh G * (n / span mesh S * inner)
+  pub new-few : span mesh G * (n / span mesh S * inner) ≤ mostWords
   pub old-pos : 0 < w
   pub old-few : n * w ≤ mostWords
-  pub ys-few : (k : ℕ) → getD ys k 0 + mostWords * length S ≤ mostAdded
+  pub added-few : (k : ℕ) → getD added k 0 + mostWords * length S ≤ mostAdded
 
 -- all dimensions: room for the digits, strides of the devices, and none added yet
-pub record Dimensions (digits zs ys mesh shape : List ℕ) (Gs Ss : List (List ℕ)) : Type 0 where
+pub record Dimensions (digits strides added mesh shape : List ℕ) (Gs Ss : List (List ℕ)) : Type 0 where
   pub step : Moving mesh shape Gs Ss
   pub room : 3 * (length mesh + (length shape + length (flat Gs))) ≤ length digits
-  pub zs-places : length zs ≡ length mesh
-  pub ys-places : length ys ≡ length mesh
-  pub none : (k : ℕ) → getD ys k 0 ≡ 0
+  pub strides-places : length strides ≡ length mesh
+  pub added-places : length added ≡ length mesh
+  pub none : (k : ℕ) → getD added k 0 ≡ 0
 
 -- the loop over the dimensions with j of them left
-pub record DimensionsAt (mesh shape : List ℕ) (Gs Ss : List (List ℕ)) (zs₀ ys₀ digits zs ys : List ℕ) (first count w j : ℕ) : Type 0 where
-  pub made : drop first digits ≡ dimDigits mesh (drop j shape) (shardSizes mesh (drop j shape) (drop j Ss)) (drop j Gs) zs₀
-  pub zs-are : zs ≡ left (drop j Gs) zs₀
-  pub ys-are : ys ≡ withSlices mesh (drop j shape) (shardSizes mesh (drop j shape) (drop j Ss)) (drop j Ss) ys₀
+pub record DimensionsAt (mesh shape : List ℕ) (Gs Ss : List (List ℕ)) (strides₀ added₀ digits strides added : List ℕ) (first count w j : ℕ) : Type 0 where
+  pub made : drop first digits ≡ dimDigits mesh (drop j shape) (shardSizes mesh (drop j shape) (drop j Ss)) (drop j Gs) strides₀
+  pub strides-are : strides ≡ left (drop j Gs) strides₀
+  pub added-are : added ≡ withSlices mesh (drop j shape) (shardSizes mesh (drop j shape) (drop j Ss)) (drop j Ss) added₀
   pub count-is : count ≡ product (movedShape mesh (drop j shape) (drop j Gs) (drop j Ss))
   pub w-is : w ≡ product (drop j shape)
   pub room-is : first + 3 * (length (drop j shape) + length (flat (drop j Gs))) ≡ length digits
-  pub ys-few : (k : ℕ) → getD ys k 0 ≤ mostWords * length (flat (drop j Ss))
+  pub added-few : (k : ℕ) → getD added k 0 ≤ mostWords * length (flat (drop j Ss))
 
 -- a step, with places for its digits and strides
-pub record Setting (row zs ys mesh shape : List ℕ) (Gs Ss : List (List ℕ)) (words : ℕ) : Type 0 where
+pub record Setting (digits strides added mesh shape : List ℕ) (Gs Ss : List (List ℕ)) (words : ℕ) : Type 0 where
   pub step : Moving mesh shape Gs Ss
-  pub room : length row ≡ digitRoom
-  pub zs-places : length zs ≡ length mesh
-  pub none : ys ≡ replicate (length mesh) 0
+  pub room : length digits ≡ digitRoom
+  pub strides-places : length strides ≡ length mesh
+  pub none : added ≡ replicate (length mesh) 0
   pub words-are : words ≡ product (movedShape mesh shape Gs Ss)

@@ -1,10 +1,14 @@
 // The steps that only move words, as one copy with strides: all-slice, all-gather and all-to-all. The digits are set up once a step; nothing is
 // divided after that. specs/Moves.antt says what the digits are.
-use digits;
+use digits::axis_digits;
+use digits::fill_strides;
+use digits::mesh_digits;
 use mesh::product_from;
 use mesh::size_at;
+use mesh::span_of;
 use rules;
-use strided;
+use strided::copy_digits;
+use strided::put_digit;
 ghost use mathlib.Core.Path.{_≡_};
 ghost use mathlib.Core.List.{[], _∷_};
 ghost use Prim.Native.Nat.{_+_, _-_, _*_, _/_, _≤_, _<_};
@@ -15,7 +19,7 @@ ghost use Rattle.rules.specs.Spread.{from};
 ghost use Rattle.rules.specs.Limits.{mostDims};
 ghost use Rattle.rules.specs.Types.{axesOf, dimsOf};
 ghost use Rattle.digits.specs.Digits.{cleared, axisDigits};
-ghost use Rattle.moves.specs.Moves.{movedShape, lists, movedBuffer, withSlice, stepDigits, digitRoom};
+ghost use Rattle.moves.specs.Moves.{movedShape, lists, movedBuffer, withSlice, stepDigits};
 ghost use Rattle.moves.specs.Moves.{Moving, Slicing, Adding, Dimension, Dimensions, DimensionsAt, Setting};
 
 // The most numbers of a step's digits.
@@ -31,9 +35,9 @@ fn list_at(lists: rules::Sharding, j: usize) -> rules::AxisList
 }
 
 // Adds the strides of a list of sliced axes, where the pieces are v words apart.
-fn add_slice(ys: &mut [usize], mesh: &[u16], axes: rules::AxisList, v: usize)
-    requires { ⌜ Slicing (now ys) (now mesh) (axesOf axes) v ⌝ }
-    ensures { λ _. ⌜ now (ys .exit) ≡ withSlice (now (mesh .entry)) (axesOf axes) v (now (ys .entry)) ⌝ }
+fn add_slice(added: &mut [usize], mesh: &[u16], axes: rules::AxisList, v: usize)
+    requires { ⌜ Slicing (now added) (now mesh) (axesOf axes) v ⌝ }
+    ensures { λ _. ⌜ now (added .exit) ≡ withSlice (now (mesh .entry)) (axesOf axes) v (now (added .entry)) ⌝ }
 {
     let mut words = v;
     let mut i = axes.len();
@@ -41,72 +45,72 @@ fn add_slice(ys: &mut [usize], mesh: &[u16], axes: rules::AxisList, v: usize)
         i -= 1;
         let axis = axes.at(i);
         let a = axis.0 as usize;
-        let sum = ys[a] + words;
-        ys[a] = sum;
+        let sum = added[a] + words;
+        added[a] = sum;
         words = size_at(mesh, axis) * words;
     }
 }
 
 // Adds strides to others.
-fn add_strides(zs: &mut [usize], ys: &[usize])
-    requires { ⌜ Adding (now zs) (now ys) ⌝ }
-    ensures { λ _. ⌜ now (zs .exit) ≡ from (now (zs .entry)) (now (ys .entry)) ⌝ }
+fn add_strides(strides: &mut [usize], added: &[usize])
+    requires { ⌜ Adding (now strides) (now added) ⌝ }
+    ensures { λ _. ⌜ now (strides .exit) ≡ from (now (strides .entry)) (now (added .entry)) ⌝ }
 {
     let mut i: usize = 0;
-    while i < ys.len() {
-        let sum = zs[i] + ys[i];
-        zs[i] = sum;
+    while i < added.len() {
+        let sum = strides[i] + added[i];
+        strides[i] = sum;
         i += 1;
     }
 }
 
 // The digits of one dimension of size n, whose words are w apart, before those at end. Answers the words that all these digits count.
 fn dim_digits(
-    row: &mut [usize],
-    zs: &mut [usize],
-    ys: &mut [usize],
+    digits: &mut [usize],
+    strides: &mut [usize],
+    added: &mut [usize],
     mesh: &[u16],
     gathered: rules::AxisList,
     sliced: rules::AxisList,
     n: usize,
     w: usize,
     end: usize,
-    words: usize,
+    inner: usize,
 ) -> usize
-    requires { ⌜ Dimension (now row) (now zs) (now ys) (now mesh) (axesOf gathered) (axesOf sliced) n w end words ⌝ }
-    ensures { λ r. ⌜ r ≡ span (now (mesh .entry)) (axesOf gathered) * (n / span (now (mesh .entry)) (axesOf sliced) * words) ⌝ }
-    ensures { λ _. ⌜ drop (end - 3 - 3 * length (axesOf gathered)) (now (row .exit)) ≡ axisDigits (now (mesh .entry)) (axesOf gathered)
-        (now (zs .entry)) ((n / span (now (mesh .entry)) (axesOf sliced)) ∷ words ∷ w ∷ drop end (now (row .entry))) ⌝ }
-    ensures { λ _. ⌜ now (zs .exit) ≡ cleared (axesOf gathered) (now (zs .entry)) ⌝ }
-    ensures { λ _. ⌜ now (ys .exit) ≡ withSlice (now (mesh .entry)) (axesOf sliced) (n / span (now (mesh .entry)) (axesOf sliced) * w)
-        (now (ys .entry)) ⌝ }
+    requires { ⌜ Dimension (now digits) (now strides) (now added) (now mesh) (axesOf gathered) (axesOf sliced) n w end inner ⌝ }
+    ensures { λ r. ⌜ r ≡ span (now (mesh .entry)) (axesOf gathered) * (n / span (now (mesh .entry)) (axesOf sliced) * inner) ⌝ }
+    ensures { λ _. ⌜ drop (end - 3 - 3 * length (axesOf gathered)) (now (digits .exit)) ≡ axisDigits (now (mesh .entry)) (axesOf gathered)
+        (now (strides .entry)) ((n / span (now (mesh .entry)) (axesOf sliced)) ∷ inner ∷ w ∷ drop end (now (digits .entry))) ⌝ }
+    ensures { λ _. ⌜ now (strides .exit) ≡ cleared (axesOf gathered) (now (strides .entry)) ⌝ }
+    ensures { λ _. ⌜ now (added .exit) ≡ withSlice (now (mesh .entry)) (axesOf sliced) (n / span (now (mesh .entry)) (axesOf sliced) * w)
+        (now (added .entry)) ⌝ }
 {
-    let piece = n / digits::span_of(mesh, sliced);
+    let piece = n / span_of(mesh, sliced);
     let first = end - 3;
-    strided::put_digit(row, first, piece, words, w);
-    let count = piece * words;
-    let all = digits::axis_digits(row, zs, mesh, gathered, first, count);
-    add_slice(ys, mesh, sliced, piece * w);
+    put_digit(digits, first, piece, inner, w);
+    let count = piece * inner;
+    let all = axis_digits(digits, strides, mesh, gathered, first, count);
+    add_slice(added, mesh, sliced, piece * w);
     all
 }
 
-// The digits of all dimensions, at the end of row. Answers where they begin.
+// The digits of all dimensions, at the end of the slice. Answers where they begin.
 fn shape_digits(
-    row: &mut [usize],
-    zs: &mut [usize],
-    ys: &mut [usize],
+    digits: &mut [usize],
+    strides: &mut [usize],
+    added: &mut [usize],
     mesh: &[u16],
     shape: &[u16],
     gathers: rules::Sharding,
     slices: rules::Sharding,
 ) -> usize
-    requires { ⌜ Dimensions (now row) (now zs) (now ys) (now mesh) (now shape) (lists (now shape) gathers) (lists (now shape) slices) ⌝ }
+    requires { ⌜ Dimensions (now digits) (now strides) (now added) (now mesh) (now shape) (lists (now shape) gathers) (lists (now shape) slices) ⌝ }
     ensures { λ r. ⌜ DimensionsAt (now (mesh .entry)) (now (shape .entry)) (lists (now (shape .entry)) gathers)
-        (lists (now (shape .entry)) slices) (now (zs .entry)) (now (ys .entry)) (now (row .exit)) (now (zs .exit)) (now (ys .exit)) r
+        (lists (now (shape .entry)) slices) (now (strides .entry)) (now (added .entry)) (now (digits .exit)) (now (strides .exit)) (now (added .exit)) r
         (product (movedShape (now (mesh .entry)) (now (shape .entry)) (lists (now (shape .entry)) gathers) (lists (now (shape .entry)) slices)))
         (product (now (shape .entry))) 0 ⌝ }
 {
-    let mut first = row.len();
+    let mut first = digits.len();
     let mut count: usize = 1;
     let mut w: usize = 1;
     let mut j = shape.len();
@@ -115,33 +119,44 @@ fn shape_digits(
         let gathered = list_at(gathers, j);
         let sliced = list_at(slices, j);
         let n = shape[j] as usize;
-        count = dim_digits(row, zs, ys, mesh, gathered, sliced, n, w, first, count);
+        count = dim_digits(
+            digits,
+            strides,
+            added,
+            mesh,
+            gathered,
+            sliced,
+            n,
+            w,
+            first,
+            count,
+        );
         first = first - 3 - 3 * gathered.len();
         w = n * w;
     }
     first
 }
 
-// The digits of a step, at the end of row. Answers where they begin.
+// The digits of a step, at the end of the slice. Answers where they begin.
 fn make_digits(
-    row: &mut [usize],
-    zs: &mut [usize],
-    ys: &mut [usize],
+    digits: &mut [usize],
+    strides: &mut [usize],
+    added: &mut [usize],
     mesh: &[u16],
     shape: &[u16],
     gathers: rules::Sharding,
     slices: rules::Sharding,
     words: usize,
 ) -> usize
-    requires { ⌜ Setting (now row) (now zs) (now ys) (now mesh) (now shape) (lists (now shape) gathers) (lists (now shape) slices) words ⌝ }
-    ensures { λ r. ⌜ (r ≤ digitRoom) × (drop r (now (row .exit)) ≡ stepDigits (now (mesh .entry)) (now (shape .entry))
-        (lists (now (shape .entry)) gathers) (lists (now (shape .entry)) slices)) ⌝ }
+    requires { ⌜ Setting (now digits) (now strides) (now added) (now mesh) (now shape) (lists (now shape) gathers) (lists (now shape) slices) words ⌝ }
+    ensures { λ r. ⌜ drop r (now (digits .exit)) ≡ stepDigits (now (mesh .entry)) (now (shape .entry)) (lists (now (shape .entry)) gathers)
+        (lists (now (shape .entry)) slices) ⌝ }
 {
     let m = product_from(shape, 0);
-    digits::fill_strides(zs, mesh, m);
-    let end = shape_digits(row, zs, ys, mesh, shape, gathers, slices);
-    add_strides(zs, ys);
-    digits::mesh_digits(row, zs, mesh, end, words);
+    fill_strides(strides, mesh, m);
+    let end = shape_digits(digits, strides, added, mesh, shape, gathers, slices);
+    add_strides(strides, added);
+    mesh_digits(digits, strides, mesh, end, words);
     end - 3 * mesh.len()
 }
 
@@ -149,23 +164,23 @@ fn make_digits(
 fn move_with(
     old: &[u32],
     new: &mut [u32],
-    row: &mut [usize],
-    zs: &mut [usize],
-    ys: &mut [usize],
+    digits: &mut [usize],
+    strides: &mut [usize],
+    added: &mut [usize],
     mesh: &[u16],
     shape: &[u16],
     gathers: rules::Sharding,
     slices: rules::Sharding,
     words: usize,
 )
-    requires { ⌜ Setting (now row) (now zs) (now ys) (now mesh) (now shape) (lists (now shape) gathers) (lists (now shape) slices) words ⌝ }
+    requires { ⌜ Setting (now digits) (now strides) (now added) (now mesh) (now shape) (lists (now shape) gathers) (lists (now shape) slices) words ⌝ }
     requires { ⌜ (product (now mesh) * product (now shape) ≤ length (now old)) × (product (now mesh) * words ≤ length (now new)) ⌝ }
-    ensures { λ _. ⌜ now (new .exit) ≡ movedBuffer (now (mesh .entry)) (now (shape .entry)) (lists (now (shape .entry)) gathers)
+    ensures { λ _. ⌜ now (new .exit) ≡ movedBuffer 0 (now (mesh .entry)) (now (shape .entry)) (lists (now (shape .entry)) gathers)
         (lists (now (shape .entry)) slices) words (now (old .entry)) (now (new .entry)) ⌝ }
 {
-    let first = make_digits(row, zs, ys, mesh, shape, gathers, slices, words);
+    let first = make_digits(digits, strides, added, mesh, shape, gathers, slices, words);
     let all = product_from(mesh, 0) * words;
-    strided::copy_digits(&mut new[0..all], old, row, first);
+    copy_digits(&mut new[0..all], old, &digits[first..]);
 }
 
 // All-slice, all-gather, all-to-all: the new state, of shards of the given words, at the front of new, whose other words stay.
@@ -181,19 +196,19 @@ pub fn move_into(
     requires { ⌜ Moving (now mesh) (now shape) (lists (now shape) gathers) (lists (now shape) slices) ⌝ }
     requires { ⌜ words ≡ product (movedShape (now mesh) (now shape) (lists (now shape) gathers) (lists (now shape) slices)) ⌝ }
     requires { ⌜ (devices (now mesh) * product (now shape) ≤ length (now old)) × (devices (now mesh) * words ≤ length (now new)) ⌝ }
-    ensures { λ _. ⌜ now (new .exit) ≡ movedBuffer (now (mesh .entry)) (now (shape .entry)) (lists (now (shape .entry)) gathers)
+    ensures { λ _. ⌜ now (new .exit) ≡ movedBuffer 0 (now (mesh .entry)) (now (shape .entry)) (lists (now (shape .entry)) gathers)
         (lists (now (shape .entry)) slices) words (now (old .entry)) (now (new .entry)) ⌝ }
 {
     let n = mesh.len();
-    let mut row = [0usize; ROOM];
-    let mut zs = [0usize; rules::Axis::MOST];
-    let mut ys = [0usize; rules::Axis::MOST];
+    let mut digits = [0usize; ROOM];
+    let mut strides = [0usize; rules::Axis::MOST];
+    let mut added = [0usize; rules::Axis::MOST];
     move_with(
         old,
         new,
-        &mut row,
-        &mut zs[0..n],
-        &mut ys[0..n],
+        &mut digits,
+        &mut strides[0..n],
+        &mut added[0..n],
         mesh,
         shape,
         gathers,

@@ -29,7 +29,7 @@ use Rattle.reader.specs.declared.Next.{Next}
 use Rattle.reader.specs.declared.Next.the-variants as next
 use Rattle.axes.specs.Mesh.{meshOf}
 use Rattle.dims.specs.Dims.{sizesOf}
-use Rattle.mesh.specs.Fitting.{IsDevice}
+use Rattle.mesh.specs.Fitting.{IsPlace}
 use Rattle.plan.specs.Parts.{StateAnswer, stateOf, stateBy, stateMeaning, Shaped}
 use Rattle.plan.specs.declared.State as code
 use Rattle.place.specs.Placing.{Placing}
@@ -74,7 +74,7 @@ state-inv file k a e =
 -- what the first indexes ask for
 Within : StateAnswer → ℕ → Type 0
 Within a d =
-    IsDevice (a .mesh) d × ((j : ℕ) → position (a .mesh) (getD (a .sharding .dims) j []) (deviceCoords (a .mesh) d) * getD (a .shard) j 0 ≤ mostWords)
+    IsPlace (a .mesh) d × ((j : ℕ) → position (a .mesh) (getD (a .sharding .dims) j []) (deviceCoords (a .mesh) d) * getD (a .shard) j 0 ≤ mostWords)
 
 within : (file : List ℕ) (k d : ℕ) (a : StateAnswer) → stateOf file k ≡ accept a → d < a .devices → Within a d
 unfolding announcedShape Within
@@ -85,7 +85,15 @@ within file k d a e l =
     let lt : d < devices (p .mesh) = subst (λ (z : StateAnswer). d < z .devices) (sym (i .2)) l in
     let c = cut-divisible (p .mesh) (p .sizes) (announced p k .dims) (state g k .sharding .divides) in
     subst (λ (z : StateAnswer). Within z d) (i .2) (
-      record { fits = record { some = g .within .devices-pos; few = g .within .devices-few }; below = lt },
+      record {
+        on = record {
+          axes-some = g .within .axes-some;
+          axes-few = g .within .axes-few;
+          devices-pos = g .within .devices-pos;
+          devices-few = g .within .devices-few;
+        };
+        below = lt;
+      },
       λ j. le-trans (blocks-few (p .mesh) c (below-coords (p .mesh) d lt) (g .within .words-pos) j) (g .within .words-few),
     )
 

@@ -8,10 +8,10 @@ use Rattle.rules.specs.Types.{dimsOf}
 use Rattle.rules.specs.declared.Sharding as code
 use Rattle.rules.specs.declared.Table.{Table}
 use Rattle.dims.specs.Dims.{sizesOf}
-use Rattle.mesh.specs.Fitting.{IsDevice}
+use Rattle.mesh.specs.Fitting.{IsPlace}
 
 -- a device of the mesh, and shard sizes whose blocks end within the table
 pub record Placing (mesh : List ℕ) (sharding : code.Sharding) (shard : Table) (d : ℕ) : Type 0 where
-  pub device : IsDevice mesh d
+  pub device : IsPlace mesh d
   pub rank : shard .rank ≤ mostDims
   pub few : (j : ℕ) → position mesh (getD (take (shard .rank) (dimsOf sharding)) j []) (deviceCoords mesh d) * getD (sizesOf shard) j 0 ≤ mostWords

@@ -47,7 +47,7 @@ fn first_indexes(mesh: &[u16], sharding: Sharding, shard: Table, device: Device)
     while d < rank {
         let list = sharding.list(Dim(d as u8));
         let size = shard.sizes[d];
-        first.sizes[d] = first_index(position_of(mesh, list, device), size);
+        first.sizes[d] = first_index(position_of(mesh, list, device.0 as usize), size);
         d += 1;
     }
     first

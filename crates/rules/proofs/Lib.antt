@@ -18,6 +18,5 @@ pub mod Next
 pub mod Whole
 pub mod Refusing
 pub mod Locality
-pub mod Moved
 pub mod Moves
 pub mod Promises

@@ -1,14 +1,14 @@
 -- Laws of the rules' lists (specs/Lists.antt): tabulated lists, entries place by place, membership, lists without repeats, and what a test keeps.
 -- Everything above rests on these; they know nothing of meshes. Assumes nothing.
-use Prim.Native.Nat.{ℕ, zero, suc, _+_, _<_, _≤_}
+use Prim.Native.Nat.{ℕ, zero, suc, _+_, _-_, _<_, _≤_}
 use mathlib.Core.Path.{_≡_, refl, sym, ap, ap₂, _∙_, subst}
 use mathlib.Core.Logic.{_⊎_, inl, inr, ⊎-map, ⊎-elim, _≢_}
 use mathlib.Core.Bool.{Bool, true, false, not, _&&_, _||_}
 use mathlib.Core.List.{List, [], _∷_, _++_, map, map-append}
 use native.Mathlib.Omega.{arith}
 use native.Mathlib.Decide.{ℕ-discrete}
-use lib.ListN.{length, getD, take, replicate, length-append, List·getD-append}
-use lib.Seq.{getD-at}
+use lib.ListN.{length, getD, take, drop, replicate, length-append, List·getD-append}
+use lib.Seq.{drop-cons, getD-at}
 use lib.Dec.{T, T-not, not-T, eqb, eqb-refl, eqb→eq}
 use Rattle.rules.specs.Lists.{tab, each, both, pick, flat, mem, keep, without, In, Distinct, All, done, _&_, Below, none, more}
 
@@ -352,3 +352,41 @@ without-absent L U off = keep-all (λ c. not (mem c L)) U (λ c i. mem-not c L (
 pub below-length : {xs ns : List ℕ} → Below xs ns → length xs ≡ length ns
 below-length none = refl
 below-length (more l b) = ap suc (below-length b)
+
+-- ---- entries and numbers
+
+-- one turn of a loop that counts a list down
+pub drop-before : {A : Type 0} (z : A) (l : List A) (i : ℕ) → 0 < i → i ≤ length l → drop (i - 1) l ≡ getD l (i - 1) z ∷ drop i l
+drop-before z l i h g =
+    let e : suc (i - 1) ≡ i = omega arith in
+    rw e at (drop-cons l (i - 1) z (omega arith))
+
+-- an entry of a list is in it
+pub at-in : (l : List ℕ) (i : ℕ) → i < length l → In (getD l i 0) l
+at-in [] i h = absurd (omega arith)
+at-in (a ∷ l) zero h = inl refl
+at-in (a ∷ l) (suc i) h = inr (at-in l i (omega arith))
+
+-- distinct numbers below n are at most n
+one-less : (a : ℕ) (L : List ℕ) → Distinct L → length L ≤ suc (length (without L (a ∷ [])))
+one-less a [] d = omega arith
+one-less a (b ∷ L) d = go (ℕ-discrete a b) (one-less a L (d .1))
+  where
+    go : Dec (a ≡ b) → length L ≤ suc (length (without L (a ∷ []))) → length (b ∷ L) ≤ suc (length (without (b ∷ L) (a ∷ [])))
+    go (yes e) ih =
+        let s : without (b ∷ L) (b ∷ []) ≡ L =
+        without-same b L ∙ without-absent (b ∷ []) L (λ c i j. ⊎-elim (λ p. d .0 (subst (λ z. In z L) p i)) (λ k. absurd k) j) in
+        rw (e, s) (omega arith)
+    go (no n) ih = rw (without-other a b L n) (omega arith)
+
+pub few-distinct : (n : ℕ) (L : List ℕ) → Distinct L → ((a : ℕ) → In a L → a < n) → length L ≤ n
+few-distinct zero [] d h = omega arith
+few-distinct zero (a ∷ L) d h = absurd (omega (arith, h a (inl refl)))
+few-distinct (suc n) L d h =
+    let R : List ℕ = without L (n ∷ []) in
+    let ih : length R ≤ n =
+    few-distinct n R (distinct-without (n ∷ []) L d)
+    (λ a i. let l : a < suc n = h a (of-without a (n ∷ []) L i) in
+    let k : ¬ (a ≡ n) = λ e. not-in-without a (n ∷ []) L (inl e) i in
+    omega arith) in
+    omega (arith, one-less n L d)

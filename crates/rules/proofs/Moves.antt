@@ -30,6 +30,7 @@ use Rattle.rules.specs.Collectives.{
   gatherPlace,
   sources,
   made,
+  moved,
 }
 use Rattle.rules.proofs.Positions.{pos-of-lt, position-lt}
 use Rattle.rules.proofs.Buffers.{tabulate-same}
@@ -48,7 +49,6 @@ use Rattle.rules.proofs.Steps.{
   shape-length,
 }
 use Rattle.rules.proofs.Next.{step-ready}
-pub use Rattle.rules.proofs.Moved.{moved}
 
 -- ---- along each dimension, one of two lists is empty
 

@@ -8,7 +8,7 @@ use lib.Dec.{T}
 use Rattle.rules.specs.Lists.{each, flat, without}
 use Rattle.rules.specs.Mesh.{span, member, members}
 use Rattle.rules.specs.Sharding.{Sharding, divisible, shardSizes, firstIndexes}
-use Rattle.rules.specs.Spread.{StateOf, from}
+use Rattle.rules.specs.Spread.{StateOf, tabulate, held, from}
 
 -- "All-slice has one axis list per dimension", "All-gather has one list per dimension", "All-reduce has one list", "All-to-all has a source
 -- dimension, another target dimension and one list."
@@ -145,3 +145,10 @@ pub record Shards (W : Type 0) : Type 0 where
 unfoldable pub stepped : {W : Type 0} → (List W → W) → List ℕ → Step → Shards W → Shards W
 unfolding sources made
 stepped addAll mesh s v = record { shape = shapeAfter mesh s (v .shape); words = made addAll (sources mesh s (v .shape)) (v .words) }
+
+-- A slice and a gather in one piece, from buffer to buffer, as the kernels state their moves: each device's shard is sliced along the lists Ss, and
+-- the slices are then gathered along the lists Gs. That this is what a step that only moves words makes is `step-moved` of proofs/Moves.antt.
+abbrev pub moved : {W : Type 0} → W → (mesh : List ℕ) (Gs Ss : List (List ℕ)) (shape : List ℕ) (old : List W) → List W
+moved z mesh Gs Ss shape old = tabulate mesh (grown mesh Gs (shardSizes mesh shape Ss))
+    (λ x i. held z mesh shape old (owner mesh Gs (shardSizes mesh shape Ss) i x)
+    (from (firstIndexes mesh Ss (shardSizes mesh shape Ss) x) (within (shardSizes mesh shape Ss) i)))

@@ -3,11 +3,12 @@
 -- where devices are written down: in buffers, listings and placements. Source document 000 decides on groups and their order. Numbers here are
 -- plain; that an axis number, a tensor dimension and a device number are three kinds is kept by the types of the code (src/lib.rt).
 -- Assumes nothing.
-use Prim.Native.Nat.{ℕ, _+_, _*_, _/_, _%_, _<_}
+use Prim.Native.Nat.{ℕ, _+_, _*_, _/_, _%_, _<_, _≤_}
 use mathlib.Core.Path.{_≡_}
 use mathlib.Core.List.{List, [], _∷_, map}
 use lib.ListN.{length, getD, set, replicate}
 use Rattle.rules.specs.Lists.{tab, flat, product, without, In, Below}
+use Rattle.rules.specs.Limits.{mostAxes, mostDevices}
 
 -- The row-major number of coordinates under sizes, the last fastest; and the coordinates that have a number.
 abbrev pub number : List ℕ → List ℕ → ℕ
@@ -30,6 +31,13 @@ deviceCoords mesh d = coords mesh d
 -- "D is the product of the sizes."
 abbrev pub devices : List ℕ → ℕ
 devices mesh = product mesh
+
+-- What the code asks of a mesh: "n 1 to 6, D at most 256", and no size is 0.
+pub record OnMesh (mesh : List ℕ) : Type 0 where
+  pub axes-some : 1 ≤ length mesh
+  pub axes-few : length mesh ≤ mostAxes
+  pub devices-pos : 0 < devices mesh
+  pub devices-few : devices mesh ≤ mostDevices
 
 -- "two devices are in one group when their coordinates agree on every axis outside the list"
 abbrev pub Agree : (ℕ → Type 0) → List ℕ → List ℕ → Type 0

@@ -5,7 +5,7 @@ use mathlib.Core.Path.{_≡_}
 use mathlib.Core.List.{List, [], _∷_, map}
 use lib.ListN.{getD}
 use Rattle.rules.specs.Lists.{tab, each, product, total, In, Below}
-use Rattle.rules.specs.Mesh.{number, coords, deviceNumber, deviceCoords, devices, Agree, members}
+use Rattle.rules.specs.Mesh.{number, coords, devices, Agree, members}
 use Rattle.rules.specs.Sharding.{Sharding, named, firstIndexes}
 
 -- A state of a table that is spread over devices: the word of each device at each index of its shard.
@@ -13,12 +13,13 @@ abbrev pub StateOf : Type 0 → Type 0
 StateOf W = List ℕ → List ℕ → W
 
 -- "Shards lie in the buffer by device number, each in row-major order, without gaps. m is the words of one shard."
--- The buffer of a state whose shards have a shape, and the state that a buffer holds: z is read where the buffer is too short.
+-- The buffer of a state whose shards have a shape, and the state that a buffer holds: z is read where the buffer is too short. A device's place is
+-- the row-major number of its coordinates.
 unfoldable pub tabulate : {W : Type 0} → List ℕ → List ℕ → StateOf W → List W
-tabulate mesh shape w = tab (devices mesh * product shape) (λ p. w (deviceCoords mesh (p / product shape)) (coords shape (p % product shape)))
+tabulate mesh shape w = tab (devices mesh * product shape) (λ p. w (coords mesh (p / product shape)) (coords shape (p % product shape)))
 
 unfoldable pub held : {W : Type 0} → W → List ℕ → List ℕ → List W → StateOf W
-held z mesh shape buffer x i = getD buffer (deviceNumber mesh x * product shape + number shape i) z
+held z mesh shape buffer x i = getD buffer (number mesh x * product shape + number shape i) z
 
 -- the sum of words: one word is itself, more are added modulo 2 ^ 32
 unfoldable pub addWords : List ℕ → ℕ

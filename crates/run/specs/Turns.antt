@@ -6,6 +6,7 @@ use mathlib.Core.List.{List}
 use lib.ListN.{length, take, drop}
 use Rattle.rules.specs.Lists.{pick, product}
 use Rattle.rules.specs.Sharding.{shardSizes}
+use Rattle.rules.specs.Spread.{addWords}
 use Rattle.rules.specs.Refusals.{accept}
 use Rattle.rules.specs.PlanFile.{stepsAt, Plan, judge, announced, room}
 use Rattle.rules.specs.Calls.{lastState}
@@ -53,7 +54,7 @@ shapeOf w s = shardSizes (meshOf (w .mesh)) (sizesOf (w .table)) (take (w .table
 
 abbrev pub nextBuffer : Whole → code.Sharding → Taken → (old new : List ℕ) → List ℕ
 nextBuffer w s r old new =
-    steppedBuffer (meshOf (w .mesh)) (shapeOf w s) (stepOf (w .table .rank) (r .step)) (product (shapeOf w (r .sharding))) old new
+    steppedBuffer addWords 0 (meshOf (w .mesh)) (shapeOf w s) (stepOf (w .table .rank) (r .step)) (product (shapeOf w (r .sharding))) old new
 
 -- whether the state stands in work after a step: one that is not done in place leaves it in the other buffer
 abbrev pub standsAfter : Kind → Bool → Bool

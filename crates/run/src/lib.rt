@@ -52,7 +52,7 @@ fn take_home(work: &mut [u32], spare: &mut [u32])
 }
 
 // Step k, read again and done: from the state in here, the next one at the front of here where the step is done in place, else at that of there. The
-// other words of that buffer stay.
+// other words of that buffer stay, and so does the other buffer.
 fn do_step(
     file: &[u8],
     at: usize,
@@ -64,8 +64,10 @@ fn do_step(
 ) -> Taken
     requires { ⌜ Turn (now file) at k whole sharding (length (now here)) (length (now there)) ⌝ }
     ensures { λ r. ⌜ Takes (now (file .entry)) at k whole sharding r ⌝ }
-    ensures { λ r. ⌜ pick (inPlace (r .step .kind)) (now (here .exit)) (now (there .exit)) ≡ nextBuffer whole sharding r (now (here .entry))
-        (pick (inPlace (r .step .kind)) (now (here .entry)) (now (there .entry))) ⌝ }
+    ensures { λ r. ⌜ now (here .exit) ≡ pick (inPlace (r .step .kind)) (nextBuffer whole sharding r (now (here .entry)) (now (here .entry)))
+        (now (here .entry)) ⌝ }
+    ensures { λ r. ⌜ now (there .exit) ≡ pick (inPlace (r .step .kind)) (now (there .entry))
+        (nextBuffer whole sharding r (now (here .entry)) (now (there .entry))) ⌝ }
 {
     let mesh = whole.mesh;
     let table = whole.table;
@@ -101,9 +103,10 @@ fn do_turn(
 ) -> Taken
     requires { ⌜ Turn (now file) at k whole sharding (length (now work)) (length (now spare)) ⌝ }
     ensures { λ r. ⌜ Takes (now (file .entry)) at k whole sharding r ⌝ }
-    ensures { λ r. ⌜ pick (standsAfter (r .step .kind) in_work) (now (work .exit)) (now (spare .exit)) ≡ nextBuffer whole sharding r
-        (pick in_work (now (work .entry)) (now (spare .entry)))
-        (pick (standsAfter (r .step .kind) in_work) (now (work .entry)) (now (spare .entry))) ⌝ }
+    ensures { λ r. ⌜ now (work .exit) ≡ pick (standsAfter (r .step .kind) in_work)
+        (nextBuffer whole sharding r (pick in_work (now (work .entry)) (now (spare .entry))) (now (work .entry))) (now (work .entry)) ⌝ }
+    ensures { λ r. ⌜ now (spare .exit) ≡ pick (standsAfter (r .step .kind) in_work) (now (spare .entry))
+        (nextBuffer whole sharding r (pick in_work (now (work .entry)) (now (spare .entry))) (now (spare .entry))) ⌝ }
 {
     if in_work {
         do_step(file, at, k, whole, sharding, work, spare)

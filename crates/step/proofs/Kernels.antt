@@ -1,17 +1,17 @@
 -- What the kernels ask for follows from an accepted step, and what they leave is what the rules make, in the buffer that the kind says.
 -- Assumes nothing.
-use Prim.Native.Nat.{ℕ, _*_, _≤_}
+use Prim.Native.Nat.{ℕ, _*_, _≤_, _<_}
 use mathlib.Core.Path.{_≡_, refl, sym, ap, _∙_, subst, transport}
 use mathlib.Core.Bool.{Bool, true, false}
 use mathlib.Core.List.{List, [], _∷_, _++_}
 use native.Mathlib.Omega.{arith}
 use native.Mathlib.Nat.{le-trans}
-use lib.ListN.{length, take, drop, set, replicate}
+use lib.ListN.{length, getD, take, drop, set, replicate}
 use Rattle.rules.specs.Lists.{pick, product}
 use Rattle.rules.specs.Mesh.{devices}
 use Rattle.rules.specs.Sharding.{Sharding}
 use Rattle.rules.specs.Spread.{tabulate, held, addWords}
-use Rattle.rules.specs.Collectives.{Step, allReduce, only, shapeAfter, sources, reducePlaces, made}
+use Rattle.rules.specs.Collectives.{Step, allReduce, only, shapeAfter, sources, reducePlaces, made, moved}
 use Rattle.rules.specs.Limits.{mostDims}
 use Rattle.rules.specs.Types.{axesOf, dimsOf, ofKind, stepOf}
 use Rattle.rules.specs.declared.Kind.{Kind}
@@ -23,6 +23,7 @@ use Rattle.rules.proofs.Shapes.{cut-lengths}
 use Rattle.rules.proofs.Steps.{AcceptedStep, facts, sharding-cut, shape-length}
 use Rattle.judge.proofs.Steps.{only-at}
 use Rattle.rules.proofs.Moves as bridge
+use Rattle.mesh.proofs.Sizes.{size-pos}
 use Rattle.moves.specs.Moves.{Moving, movedShape, movedBuffer, lists}
 use Rattle.sums.specs.Sums.{Reducing, reducedBuffer}
 use Rattle.step.specs.Stepping.{Stepping, steppedBuffer, inPlace}
@@ -31,12 +32,15 @@ one-word : (a : ℕ) → addWords (a ∷ []) ≡ a
 unfolding addWords
 one-word a = refl
 
+sizes-pos : {mesh shape : List ℕ} {t : Step} {words old new : ℕ} → Stepping mesh shape t words old new → (a : ℕ) → 0 < getD mesh a 1
+sizes-pos {mesh} h a = size-pos mesh a (h .on .devices-pos)
+
 module _ {mesh shape : List ℕ} {t : Step} {words old new : ℕ} (h : Stepping mesh shape t words old new) where
   step-fine : AcceptedStep mesh (h .sizes) t (h .before)
   step-fine = facts mesh (h .sizes) (h .number) t (h .before) (h .next) (h .judged) .0
 
   dims-many : length shape ≡ length (h .before .dims)
-  dims-many = ap length (sym (h .shape-is)) ∙ shape-length mesh (h .sizes) (h .sizes-pos) (h .before) (h .sharding)
+  dims-many = ap length (sym (h .shape-is)) ∙ shape-length mesh (h .sizes) (sizes-pos h) (h .before) (h .sharding)
 
   module _ (m : bridge.Moving t) (off on : code.Sharding)
       (p : lists shape off ≡ bridge.gathers t (length shape)) (q : lists shape on ≡ bridge.slices t (length shape)) where
@@ -44,16 +48,13 @@ module _ {mesh shape : List ℕ} {t : Step} {words old new : ℕ} (h : Stepping 
     asked = subst
         (λ (l : List ℕ). bridge.Moves mesh (h .sizes) (bridge.gathers t (length l)) (bridge.slices t (length l)) l (shapeAfter mesh t l))
         (h .shape-is)
-        (bridge.step-moves mesh (h .sizes) (h .sizes-pos) t (h .before) m (h .sharding) step-fine (h .words-pos))
+        (bridge.step-moves mesh (h .sizes) (sizes-pos h) t (h .before) m (h .sharding) step-fine (h .words-pos))
 
     pub move-asks : Moving mesh shape (lists shape off) (lists shape on)
     move-asks = rw (p, q) (
         let a = asked in
         record {
-          axes-some = h .axes-some;
-          axes-few = h .axes-few;
-          devices-pos = h .devices-pos;
-          devices-few = h .devices-few;
+          on = h .on;
           rank = omega (arith, a .rank, h .rank-few);
           old-pos = a .words-pos;
           old-few = le-trans (a .words-few) (h .words-few);
@@ -70,11 +71,11 @@ module _ {mesh shape : List ℕ} {t : Step} {words old new : ℕ} (h : Stepping 
     pub move-words : words ≡ product (movedShape mesh shape (lists shape off) (lists shape on))
     move-words = rw (p, q) (h .words-are ∙ ap product (sym (asked .shape-is)))
 
-    pub move-leaves : (olds news : List ℕ) → movedBuffer mesh shape (lists shape off) (lists shape on) words olds news ≡ steppedBuffer mesh shape t words olds news
+    pub move-leaves : (olds news : List ℕ) → movedBuffer 0 mesh shape (lists shape off) (lists shape on) words olds news ≡ steppedBuffer addWords 0 mesh shape t words olds news
     move-leaves olds news =
-        let r : List ℕ → Type 0 = λ l. bridge.moved 0 mesh (bridge.gathers t (length l)) (bridge.slices t (length l)) l olds
+        let r : List ℕ → Type 0 = λ l. moved 0 mesh (bridge.gathers t (length l)) (bridge.slices t (length l)) l olds
         ≡ tabulate mesh (shapeAfter mesh t l) (made addWords (sources mesh t l) (held 0 mesh l olds)) in
-        let e = subst r (h .shape-is) (bridge.step-moved mesh (h .sizes) (h .sizes-pos) addWords one-word 0 t (h .before) olds m (h .sharding) step-fine) in
+        let e = subst r (h .shape-is) (bridge.step-moved mesh (h .sizes) (sizes-pos h) addWords one-word 0 t (h .before) olds m (h .sharding) step-fine) in
         rw (p, q) (ap (λ (l : List ℕ). l ++ drop (devices mesh * words) news) e)
 
 -- ---- by the kinds of the code
@@ -82,7 +83,7 @@ module _ {mesh shape : List ℕ} {t : Step} {words old new : ℕ} (h : Stepping 
 module _ {mesh shape : List ℕ} (step : code-step.Step) {words old new : ℕ} (h : Stepping mesh shape (stepOf (length shape) step) words old new) where
   pub ranked : length shape ≤ mostDims
   ranked =
-      let c = sharding-cut mesh (h .sizes) (h .sizes-pos) (h .before) (h .sharding) in
+      let c = sharding-cut mesh (h .sizes) (sizes-pos h) (h .before) (h .sharding) in
       omega (arith, dims-many h, cut-lengths mesh c .0, h .rank-few)
 
   pub nowhere : (none : code.Sharding) → dimsOf none ≡ replicate mostDims [] → lists shape none ≡ replicate (length shape) []
@@ -92,13 +93,16 @@ module _ {mesh shape : List ℕ} (step : code-step.Step) {words old new : ℕ} (
     of : Stepping mesh shape (ofKind k (length shape) step) words old new
     of = subst (λ (x : Kind). Stepping mesh shape (ofKind x (length shape) step) words old new) e h
 
-    -- the new state stands where its kind says
-    stands : {b : Bool} → b ≡ inPlace k → (olds news here there : List ℕ)
-        → pick b here there ≡ steppedBuffer mesh shape (ofKind k (length shape) step) words olds (pick b olds news)
-        → pick (inPlace (step .kind)) here there ≡ steppedBuffer mesh shape (stepOf (length shape) step) words olds (pick (inPlace (step .kind)) olds news)
+    -- what the step leaves in the buffer of the old state, and in the other one: the new state stands where its kind says
+    abbrev Left : Bool → Step → (olds news here there : List ℕ) → Type 0
+    Left b t olds news here there =
+        (here ≡ pick b (steppedBuffer addWords 0 mesh shape t words olds olds) olds) × (there ≡ pick b news (steppedBuffer addWords 0 mesh shape t words olds news))
+
+    stands : {b : Bool} → b ≡ inPlace k → (olds news here there : List ℕ) → Left b (ofKind k (length shape) step) olds news here there
+        → Left (inPlace (step .kind)) (stepOf (length shape) step) olds news here there
     stands {b} q olds news here there =
         let p : b ≡ inPlace (step .kind) = q ∙ ap inPlace (sym e) in
-        transport (λ i. pick (p i) here there ≡ steppedBuffer mesh shape (ofKind (sym e i) (length shape) step) words olds (pick (p i) olds news))
+        transport (λ i. Left (p i) (ofKind (sym e i) (length shape) step) olds news here there)
 
     module _ (m : bridge.Moving (ofKind k (length shape) step)) (off on : code.Sharding)
         (p : lists shape off ≡ bridge.gathers (ofKind k (length shape) step) (length shape))
@@ -108,9 +112,9 @@ module _ {mesh shape : List ℕ} (step : code-step.Step) {words old new : ℕ} (
           × ((devices mesh * product shape ≤ old) × (devices mesh * words ≤ new)))
       move-requires = (move-asks of m off on p q, (move-words of m off on p q, (h .old-room, h .new-room)))
 
-      pub moved-so : false ≡ inPlace k → (olds news here there : List ℕ) → there ≡ movedBuffer mesh shape (lists shape off) (lists shape on) words olds news
-          → pick (inPlace (step .kind)) here there ≡ steppedBuffer mesh shape (stepOf (length shape) step) words olds (pick (inPlace (step .kind)) olds news)
-      moved-so b olds news here there l = stands b olds news here there (l ∙ move-leaves of m off on p q olds news)
+      pub moved-so : false ≡ inPlace k → (olds news there : List ℕ) → there ≡ movedBuffer 0 mesh shape (lists shape off) (lists shape on) words olds news
+          → Left (inPlace (step .kind)) (stepOf (length shape) step) olds news olds there
+      moved-so b olds news there l = stands b olds news olds there (refl, l ∙ move-leaves of m off on p q olds news)
 
     module _ (L : List ℕ) (r : ofKind k (length shape) step ≡ allReduce L) where
       reducing : Stepping mesh shape (allReduce L) words old new
@@ -120,9 +124,7 @@ module _ {mesh shape : List ℕ} (step : code-step.Step) {words old new : ℕ} (
       reduce-requires =
           let f = step-fine reducing in
           record {
-            axes = h .axes-few;
-            devices-pos = h .devices-pos;
-            devices-few = h .devices-few;
+            on = h .on;
             words-pos = h .shard-pos;
             words-few = h .shard-few;
             of-mesh = f .axes;
@@ -130,14 +132,16 @@ module _ {mesh shape : List ℕ} (step : code-step.Step) {words old new : ℕ} (
             room = h .old-room;
           }
 
-      pub reduced-so : true ≡ inPlace k → (olds news here there : List ℕ) → here ≡ reducedBuffer mesh shape L olds
-          → pick (inPlace (step .kind)) here there ≡ steppedBuffer mesh shape (stepOf (length shape) step) words olds (pick (inPlace (step .kind)) olds news)
+      pub reduced-so : true ≡ inPlace k → (olds news here : List ℕ) → here ≡ reducedBuffer addWords 0 mesh shape L olds
+          → Left (inPlace (step .kind)) (stepOf (length shape) step) olds news here news
       unfolding sources
-      reduced-so b olds news here there l =
-          stands b olds news here there
-          (l ∙ ap (λ (n : ℕ). tabulate mesh shape (made addWords (reducePlaces mesh L) (held 0 mesh shape olds)) ++ drop (devices mesh * n) olds)
-          (sym (reducing .words-are))
-          ∙ ap (λ (t : Step). steppedBuffer mesh shape t words olds olds) (sym r))
+      reduced-so b olds news here l =
+          stands b olds news here news (
+            l ∙ ap (λ (n : ℕ). tabulate mesh shape (made addWords (reducePlaces mesh L) (held 0 mesh shape olds)) ++ drop (devices mesh * n) olds)
+                (sym (reducing .words-are))
+                ∙ ap (λ (t : Step). steppedBuffer addWords 0 mesh shape t words olds olds) (sym r),
+            refl,
+          )
 
   -- one list at a dimension
   module _ (e : step .kind ≡ AllToAll) (none : code.Sharding) (z : dimsOf none ≡ replicate mostDims []) (ds : code.Sharding) where

@@ -4,13 +4,13 @@ use Prim.Native.Nat.{ℕ, _*_, _≤_, _<_}
 use mathlib.Core.Path.{_≡_}
 use mathlib.Core.Bool.{Bool, true, false}
 use mathlib.Core.List.{List, _++_}
-use lib.ListN.{length, getD, drop}
+use lib.ListN.{length, drop}
 use Rattle.rules.specs.Lists.{product}
-use Rattle.rules.specs.Mesh.{devices}
+use Rattle.rules.specs.Mesh.{devices, OnMesh}
 use Rattle.rules.specs.Sharding.{Sharding, shardSizes, IsSharding}
-use Rattle.rules.specs.Spread.{tabulate, held, addWords}
+use Rattle.rules.specs.Spread.{tabulate, held}
 use Rattle.rules.specs.Collectives.{Step, shapeAfter, sources, made}
-use Rattle.rules.specs.Limits.{mostAxes, mostDevices, mostDims, mostWords}
+use Rattle.rules.specs.Limits.{mostDims, mostWords}
 use Rattle.rules.specs.Refusals.{accept}
 use Rattle.rules.specs.PlanFile.{judgeStep}
 use Rattle.rules.specs.declared.Kind.{Kind}
@@ -25,11 +25,7 @@ pub record Stepping (mesh shape : List ℕ) (t : Step) (words old new : ℕ) : T
   pub judged : judgeStep mesh sizes number t before ≡ accept next
   pub sharding : IsSharding mesh sizes before
   pub shape-is : shardSizes mesh sizes (before .dims) ≡ shape
-  pub axes-some : 1 ≤ length mesh
-  pub axes-few : length mesh ≤ mostAxes
-  pub sizes-pos : (a : ℕ) → 0 < getD mesh a 1
-  pub devices-pos : 0 < product mesh
-  pub devices-few : product mesh ≤ mostDevices
+  pub on : OnMesh mesh
   pub rank-few : length sizes ≤ mostDims
   pub words-pos : 0 < product sizes
   pub words-few : product sizes ≤ mostWords
@@ -39,10 +35,11 @@ pub record Stepping (mesh shape : List ℕ) (t : Step) (words old new : ℕ) : T
   pub old-room : devices mesh * product shape ≤ old
   pub new-room : devices mesh * words ≤ new
 
--- the new state, as the rules make it, and what was behind it
-abbrev pub steppedBuffer : (mesh shape : List ℕ) → Step → ℕ → (old new : List ℕ) → List ℕ
-steppedBuffer mesh shape t words old new =
-    tabulate mesh (shapeAfter mesh t shape) (made addWords (sources mesh t shape) (held 0 mesh shape old)) ++ drop (devices mesh * words) new
+-- the new state, as the rules make it, and what was behind it, for elements of any type: addAll is the sum of a group's elements, z is read outside
+-- the buffer, which no code does
+abbrev pub steppedBuffer : {W : Type 0} → (List W → W) → W → (mesh shape : List ℕ) → Step → ℕ → (old new : List W) → List W
+steppedBuffer addAll z mesh shape t words old new =
+    tabulate mesh (shapeAfter mesh t shape) (made addAll (sources mesh t shape) (held z mesh shape old)) ++ drop (devices mesh * words) new
 
 -- whether the state stays in its buffer: a reduction keeps the shape of the shards
 abbrev pub inPlace : Kind → Bool

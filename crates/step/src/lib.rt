@@ -3,6 +3,7 @@
 ghost use mathlib.Core.Path.{_≡_};
 ghost use lib.ListN.{length};
 ghost use Rattle.rules.specs.Lists.{pick};
+ghost use Rattle.rules.specs.Spread.{addWords};
 ghost use Rattle.rules.specs.Types.{stepOf};
 ghost use Rattle.step.specs.Stepping.{Stepping, steppedBuffer, inPlace};
 use moves::move_into;
@@ -26,7 +27,7 @@ pub fn in_place(kind: Kind) -> bool
 }
 
 // From the state at the front of here, the new one, of shards of the given words: at the front of here where the step is done in place, else at the
-// front of there. The other words of that buffer stay.
+// front of there. The other words of that buffer stay, and so does the other buffer.
 pub fn step_from(
     here: &mut [u32],
     there: &mut [u32],
@@ -36,8 +37,10 @@ pub fn step_from(
     words: usize,
 )
     requires { ⌜ Stepping (now mesh) (now shape) (stepOf (length (now shape)) step) words (length (now here)) (length (now there)) ⌝ }
-    ensures { λ _. ⌜ pick (inPlace (step .kind)) (now (here .exit)) (now (there .exit)) ≡ steppedBuffer (now (mesh .entry)) (now (shape .entry))
-        (stepOf (length (now (shape .entry))) step) words (now (here .entry)) (pick (inPlace (step .kind)) (now (here .entry)) (now (there .entry))) ⌝ }
+    ensures { λ _. ⌜ now (here .exit) ≡ pick (inPlace (step .kind)) (steppedBuffer addWords 0 (now (mesh .entry)) (now (shape .entry))
+        (stepOf (length (now (shape .entry))) step) words (now (here .entry)) (now (here .entry))) (now (here .entry)) ⌝ }
+    ensures { λ _. ⌜ now (there .exit) ≡ pick (inPlace (step .kind)) (now (there .entry)) (steppedBuffer addWords 0 (now (mesh .entry)) (now (shape .entry))
+        (stepOf (length (now (shape .entry))) step) words (now (here .entry)) (now (there .entry))) ⌝ }
 {
     let kind = step.kind;
     let lists = step.lists;

@@ -3,7 +3,7 @@
 use Prim.Native.Nat.{ℕ, zero, suc, _+_, _*_, _/_, _%_, _≤_, _<_, _-_}
 use mathlib.Core.Path.{_≡_, refl, ap, _∙_}
 use mathlib.Core.Logic.{_≢_}
-use mathlib.Core.List.{List, [], _∷_, _++_}
+use mathlib.Core.List.{List, [], _∷_}
 use native.Mathlib.Nat.{
   add-zero,
   add-assoc,
@@ -20,12 +20,12 @@ use native.Mathlib.Nat.{
   le-mul-of-pos-right,
 }
 use native.Mathlib.Omega.{arith}
-use lib.ListN.{length, getD, set, take, drop}
+use lib.ListN.{length, getD, take, drop}
 use lib.Arith.{digits-div, digits-mod}
 use Rattle.rules.specs.Lists.{tab}
 use Rattle.rules.proofs.Lists.{tab-cong}
-use Rattle.rules.proofs.Fronts.{part-tab, front-step}
-use Rattle.strided.specs.Strided.{counted, offset, Row, Rows, Copy, row, rows, copied}
+use Rattle.rules.proofs.Fronts.{part-tab}
+use Rattle.strided.specs.Strided.{counted, offset, Nested, Row, Rows, Copy, row, rows, copied}
 
 -- ---- one digit
 
@@ -36,12 +36,12 @@ run-in {words} {stride} {at} {room} e r =
     let s : at + (words - 1) * 1 < room = rw e at q in
     omega (arith, mul-one (words - 1), r .filled)
 
-pub run-is : (old : List ℕ) (words stride at k : ℕ) → stride ≡ 1 → k ≡ words → at + words ≤ length old → take k (drop at old)
-    ≡ row words stride at old
+pub run-is : {W : Type 0} (z : W) (old : List W) (words stride at k : ℕ) → stride ≡ 1 → k ≡ words → at + words ≤ length old
+    → take k (drop at old) ≡ row z words stride at old
 unfolding row
-run-is old words stride at k e ek h =
-    ap (λ (k : ℕ). take k (drop at old)) ek ∙ part-tab old at words h
-    ∙ tab-cong words (λ t. getD old (at + t) 0) (λ t. getD old (at + t * stride) 0) (λ t q. rw (e, mul-one t))
+run-is z old words stride at k e ek h =
+    ap (λ (k : ℕ). take k (drop at old)) ek ∙ part-tab z old at words h
+    ∙ tab-cong words (λ t. getD old (at + t) z) (λ t. getD old (at + t * stride) z) (λ t q. rw (e, mul-one t))
 
 offset-zero : (r : List ℕ) → offset r 0 ≡ 0
 offset-zero [] = refl
@@ -49,7 +49,7 @@ offset-zero (s ∷ []) = refl
 offset-zero (s ∷ m ∷ []) = refl
 offset-zero (s ∷ m ∷ z ∷ r) = rw (zero-div m, zero-mod m, zero-mul z, offset-zero r)
 
--- where the span is 1, only the first digit counts
+-- where the inner is 1, only the first digit counts
 last-offset : (digits : List ℕ) (t : ℕ) → 3 ≤ length digits → getD digits 1 0 ≡ 1 → offset digits t ≡ t * getD digits 2 0
 last-offset [] t h e = absurd (omega arith)
 last-offset (s ∷ []) t h e = absurd (omega arith)
@@ -58,30 +58,26 @@ last-offset (s ∷ m ∷ z ∷ r) t h e = rw (e, div-one t, mod-one t, offset-ze
 
 -- ---- two digits
 
--- the words of one row
-pub row-words : (old : List ℕ) (i len apart stride at : ℕ)
-    → row len stride (at + i * apart) old ≡ tab len (λ o. getD old (at + (i * len + o) / len * apart + (i * len + o) % len * stride) 0)
-unfolding row
-row-words old i len apart stride at =
-    tab-cong len (λ t. getD old (at + i * apart + t * stride) 0)
-    (λ o. getD old (at + (i * len + o) / len * apart + (i * len + o) % len * stride) 0) (λ o g. rw (digits-div i g, digits-mod i g))
+module _ {W : Type 0} (z : W) (old : List W) where
+  -- the words of one row
+  pub row-words : (i len apart stride at : ℕ)
+      → row z len stride (at + i * apart) old ≡ tab len (λ o. getD old (at + (i * len + o) / len * apart + (i * len + o) % len * stride) z)
+  unfolding row
+  row-words i len apart stride at =
+      tab-cong len (λ t. getD old (at + i * apart + t * stride) z)
+      (λ o. getD old (at + (i * len + o) / len * apart + (i * len + o) % len * stride) z) (λ o g. rw (digits-div i g, digits-mod i g))
 
--- one turn of the loop over rows of two words
-pub pair-put : (old to : List ℕ) (i apart stride at : ℕ) → i * 2 + 2 ≤ length to
-    → (let word : ℕ → ℕ = λ k. getD old (at + k / 2 * apart + k % 2 * stride) 0 in
-    let front = tab (i * 2) word ++ drop (i * 2) to in
-    set (set front (i * 2) (getD old (at + i * apart) 0)) (i * 2 + 1) (getD old (at + i * apart + stride) 0)
-    ≡ tab ((i + 1) * 2) word ++ drop ((i + 1) * 2) to)
-pair-put old to i apart stride at h =
-    let word : ℕ → ℕ = λ k. getD old (at + k / 2 * apart + k % 2 * stride) 0 in
-    let q : (i + 1) * 2 ≡ i * 2 + 1 + 1 = omega arith in
-    let ed : i * 2 / 2 ≡ i = omega arith in
-    let em : i * 2 % 2 ≡ 0 = omega arith in
-    let a : getD old (at + i * apart) 0 ≡ word (i * 2) =
-    ap (λ (k : ℕ). getD old k 0) (rw (ed, em, zero-mul stride, add-zero)) in
-    let b : getD old (at + i * apart + stride) 0 ≡ word (i * 2 + 1) =
-    ap (λ (k : ℕ). getD old k 0) (rw (digits-div i {m = 2} {r = 1} (omega arith), digits-mod i {m = 2} {r = 1} (omega arith), one-mul)) in
-    rw (a, b, front-step word to (i * 2) (omega arith), front-step word to (i * 2 + 1) (omega arith), q)
+  -- the two words of a row of two
+  module _ (i apart stride at : ℕ) where
+    pub pair-first : getD old (at + i * apart) z ≡ getD old (at + i * 2 / 2 * apart + i * 2 % 2 * stride) z
+    pair-first =
+        let ed : i * 2 / 2 ≡ i = omega arith in
+        let em : i * 2 % 2 ≡ 0 = omega arith in
+        ap (λ (k : ℕ). getD old k z) (rw (ed, em, zero-mul stride, add-zero))
+
+    pub pair-second : getD old (at + i * apart + stride) z ≡ getD old (at + (i * 2 + 1) / 2 * apart + (i * 2 + 1) % 2 * stride) z
+    pair-second =
+        ap (λ (k : ℕ). getD old k z) (rw (digits-div i {m = 2} {r = 1} (omega arith), digits-mod i {m = 2} {r = 1} (omega arith), one-mul))
 
 rows-offset : (digits : List ℕ) (t : ℕ) → 6 ≤ length digits → getD digits 4 0 ≡ 1
     → offset digits t ≡ t / getD digits 1 0 * getD digits 2 0 + t % getD digits 1 0 * getD digits 5 0
@@ -93,14 +89,14 @@ rows-offset (s ∷ m ∷ z ∷ r) t h e = ap (λ (o : ℕ). t / m * z + o) (last
 -- ---- any number of digits
 
 -- what one turn of the loop over the first digit finds
-pub record Turn (digits : List ℕ) (words at room i size span stride : ℕ) : Type 0 where
-  pub filled : 0 < span
-  pub part : i * span + span ≤ words
+pub record Turn (digits : List ℕ) (words at room i size inner stride : ℕ) : Type 0 where
+  pub filled : 0 < inner
+  pub part : i * inner + inner ≤ words
   pub few : size ≤ words
   pub first : at + i * stride < room
-  pub rest : Copy (drop 3 digits) span (at + i * stride) room
+  pub rest : Copy (drop 3 digits) inner (at + i * stride) room
   pub less : length (drop 3 digits) < length digits
-  pub word : (o : ℕ) → o < span → offset digits (i * span + o) ≡ i * stride + offset (drop 3 digits) o
+  pub word : (o : ℕ) → o < inner → offset digits (i * inner + o) ≡ i * stride + offset (drop 3 digits) o
 
 pub pos-right : (a b : ℕ) → 0 < a * b → 0 < b
 pos-right a zero h = omega (arith, mul-zero a)
@@ -110,33 +106,33 @@ some-rest : (r : List ℕ) (m : ℕ) → m ≡ counted r → m ≢ 1 → 0 < len
 some-rest [] m e h = absurd (h e)
 some-rest (a ∷ r) m e h = omega arith
 
-module _ {words at room : ℕ} where
-  pub one-digit : (digits : List ℕ) → Copy digits words at room → 3 ≤ length digits
-  one-digit [] c = omega (arith, c .some)
-  one-digit (s ∷ []) c = absurd (c .spans)
-  one-digit (s ∷ m ∷ []) c = absurd (c .spans)
-  one-digit (s ∷ m ∷ z ∷ r) c = omega arith
+pub one-digit : (digits : List ℕ) → 0 < length digits → Nested digits → 3 ≤ length digits
+one-digit [] h c = omega arith
+one-digit (s ∷ []) h c = absurd c
+one-digit (s ∷ m ∷ []) h c = absurd c
+one-digit (s ∷ m ∷ z ∷ r) h c = omega arith
 
+module _ {words at room : ℕ} where
   pub two-digits : (digits : List ℕ) → Copy digits words at room → getD digits 1 0 ≢ 1 → 6 ≤ length digits
   two-digits [] c h = omega (arith, c .some)
-  two-digits (s ∷ []) c h = absurd (c .spans)
-  two-digits (s ∷ m ∷ []) c h = absurd (c .spans)
-  two-digits (s ∷ m ∷ z ∷ []) c h = absurd (h (c .spans .0))
-  two-digits (s ∷ m ∷ z ∷ a ∷ []) c h = absurd (c .spans .1)
-  two-digits (s ∷ m ∷ z ∷ a ∷ b ∷ []) c h = absurd (c .spans .1)
+  two-digits (s ∷ []) c h = absurd (c .nested)
+  two-digits (s ∷ m ∷ []) c h = absurd (c .nested)
+  two-digits (s ∷ m ∷ z ∷ []) c h = absurd (h (c .nested .0))
+  two-digits (s ∷ m ∷ z ∷ a ∷ []) c h = absurd (c .nested .1)
+  two-digits (s ∷ m ∷ z ∷ a ∷ b ∷ []) c h = absurd (c .nested .1)
   two-digits (s ∷ m ∷ z ∷ a ∷ b ∷ d ∷ r) c h = omega arith
 
   pub words-are : (digits : List ℕ) → Copy digits words at room → words ≡ getD digits 0 0 * getD digits 1 0
   words-are [] c = absurd (omega (arith, c .some))
-  words-are (s ∷ []) c = absurd (c .spans)
-  words-are (s ∷ m ∷ []) c = absurd (c .spans)
+  words-are (s ∷ []) c = absurd (c .nested)
+  words-are (s ∷ m ∷ []) c = absurd (c .nested)
   words-are (s ∷ m ∷ z ∷ r) c = c .whole
 
   pub turn : (digits : List ℕ) (i : ℕ) → Copy digits words at room → getD digits 1 0 ≢ 1 → i < getD digits 0 0
       → Turn digits words at room i (getD digits 0 0) (getD digits 1 0) (getD digits 2 0)
   turn [] i c h l = absurd (omega (arith, c .some))
-  turn (s ∷ []) i c h l = absurd (c .spans)
-  turn (s ∷ m ∷ []) i c h l = absurd (c .spans)
+  turn (s ∷ []) i c h l = absurd (c .nested)
+  turn (s ∷ m ∷ []) i c h l = absurd (c .nested)
   turn (s ∷ m ∷ z ∷ r) i c h l =
       let p : 0 < m = pos-right s m (rw (c .whole) at (c .filled)) in
       let q : i * m + m ≤ words = rw (c .whole) (omega (arith, suc-mul i m, mul-le-mul-right {m = suc i} {n = s} m l)) in
@@ -148,31 +144,31 @@ module _ {words at room : ℕ} where
         part = q;
         few = rw (c .whole) (le-mul-of-pos-right s p);
         first = omega (arith, b 0 p);
-        rest = record { some = some-rest r m (c .spans .0) h; spans = c .spans .1; whole = c .spans .0; filled = p; inside = b };
+        rest = record { some = some-rest r m (c .nested .0) h; nested = c .nested .1; whole = c .nested .0; filled = p; inside = b };
         less = omega arith;
         word = w;
       }
 
-  pub turn-words : (digits : List ℕ) (i size span stride : ℕ) (old : List ℕ) → Turn digits words at room i size span stride
-      → copied (drop 3 digits) span (at + i * stride) old ≡ tab span (λ o. getD old (at + offset digits (i * span + o)) 0)
+  pub turn-words : {W : Type 0} (z : W) (old : List W) (digits : List ℕ) (i size inner stride : ℕ) → Turn digits words at room i size inner stride
+      → copied z (drop 3 digits) inner (at + i * stride) old ≡ tab inner (λ o. getD old (at + offset digits (i * inner + o)) z)
   unfolding copied
-  turn-words digits i size span stride old c =
-      tab-cong span (λ o. getD old (at + i * stride + offset (drop 3 digits) o) 0) (λ o. getD old (at + offset digits (i * span + o)) 0)
+  turn-words z old digits i size inner stride c =
+      tab-cong inner (λ o. getD old (at + i * stride + offset (drop 3 digits) o) z) (λ o. getD old (at + offset digits (i * inner + o)) z)
       (λ o g. rw (c .word o g, add-assoc at (i * stride) (offset (drop 3 digits) o)))
 
   -- the last digit alone, and the last two, as the code's leaves have them
   pub row-in : (digits : List ℕ) → Copy digits words at room → getD digits 1 0 ≡ 1 → Row words (getD digits 2 0) at room
   row-in digits c e = record {
     filled = c .filled;
-    inside = λ t l. rw (← last-offset digits t (one-digit digits c) e) (c .inside t l);
+    inside = λ t l. rw (← last-offset digits t (one-digit digits (c .some) (c .nested)) e) (c .inside t l);
   }
 
-  pub row-is : (digits old : List ℕ) → Copy digits words at room → getD digits 1 0 ≡ 1 → row words (getD digits 2 0) at old
-      ≡ copied digits words at old
+  pub row-is : {W : Type 0} (z : W) (old : List W) (digits : List ℕ) → Copy digits words at room → getD digits 1 0 ≡ 1
+      → row z words (getD digits 2 0) at old ≡ copied z digits words at old
   unfolding row copied
-  row-is digits old c e =
-      tab-cong words (λ t. getD old (at + t * getD digits 2 0) 0) (λ t. getD old (at + offset digits t) 0)
-      (λ t l. rw (last-offset digits t (one-digit digits c) e))
+  row-is z old digits c e =
+      tab-cong words (λ t. getD old (at + t * getD digits 2 0) z) (λ t. getD old (at + offset digits t) z)
+      (λ t l. rw (last-offset digits t (one-digit digits (c .some) (c .nested)) e))
 
   pub rows-in : (digits : List ℕ) → Copy digits words at room → getD digits 1 0 ≢ 1 → getD digits 4 0 ≡ 1
       → Rows words (getD digits 0 0) (getD digits 1 0) (getD digits 2 0) (getD digits 5 0) at room
@@ -188,10 +184,10 @@ module _ {words at room : ℕ} where
             omega (arith, c .inside (i * m + t) (omega (arith, turn digits i c h li .part)));
       }
 
-  pub rows-are : (digits old : List ℕ) → Copy digits words at room → getD digits 1 0 ≢ 1 → getD digits 4 0 ≡ 1
-      → rows words (getD digits 1 0) (getD digits 2 0) (getD digits 5 0) at old ≡ copied digits words at old
+  pub rows-are : {W : Type 0} (z : W) (old : List W) (digits : List ℕ) → Copy digits words at room → getD digits 1 0 ≢ 1 → getD digits 4 0 ≡ 1
+      → rows z words (getD digits 1 0) (getD digits 2 0) (getD digits 5 0) at old ≡ copied z digits words at old
   unfolding rows copied
-  rows-are digits old c h e =
+  rows-are z old digits c h e =
       let m : ℕ = getD digits 1 0 in
-      tab-cong words (λ k. getD old (at + k / m * getD digits 2 0 + k % m * getD digits 5 0) 0) (λ t. getD old (at + offset digits t) 0)
+      tab-cong words (λ k. getD old (at + k / m * getD digits 2 0 + k % m * getD digits 5 0) z) (λ t. getD old (at + offset digits t) z)
       (λ t l. rw (rows-offset digits t (two-digits digits c h) e, add-assoc at (t / m * getD digits 2 0) (t % m * getD digits 5 0)))

@@ -1,6 +1,7 @@
--- A copy with strides. Its digits stand outer to inner in one list, three numbers each: a size, a span and a stride. The span is the number of
--- words that the digits after it count; one step of the digit goes a stride further in the words that are copied. Word t of the copy is at
--- `offset digits t` there. Other digits can copy the same words (`Alike`): fewer of them, with longer runs. Knows nothing of meshes. Assumes nothing.
+-- A copy with strides, of elements of any type. Its digits stand outer to inner in one list, three numbers each: a size, an inner and a stride. The
+-- inner is the number of words that the digits after it count; one step of the digit goes a stride further in the words that are copied. Word t of
+-- the copy is at `offset digits t` there. Other digits can copy the same words (`Alike`): fewer of them, with longer runs. Knows nothing of meshes.
+-- Assumes nothing.
 use Prim.Native.Nat.{ℕ, _+_, _*_, _-_, _/_, _%_, _^_, _≤_, _<_}
 use mathlib.Core.Path.{_≡_}
 use mathlib.Core.List.{List, [], _∷_}
@@ -21,12 +22,12 @@ offset (s ∷ []) t = 0
 offset (s ∷ m ∷ []) t = 0
 offset (s ∷ m ∷ z ∷ r) t = t / m * z + offset r (t % m)
 
--- each span is the number of words of the digits after it
-abbrev pub Spans : List ℕ → Type 0
-Spans [] = Unit {0}
-Spans (s ∷ []) = ⊥
-Spans (s ∷ m ∷ []) = ⊥
-Spans (s ∷ m ∷ z ∷ r) = (m ≡ counted r) × Spans r
+-- each inner is the number of words of the digits after it
+abbrev pub Nested : List ℕ → Type 0
+Nested [] = Unit {0}
+Nested (s ∷ []) = ⊥
+Nested (s ∷ m ∷ []) = ⊥
+Nested (s ∷ m ∷ z ∷ r) = (m ≡ counted r) × Nested r
 
 -- What the code asks, of one digit: words a stride apart, from `at` on, that are within `room`;
 pub record Row (words stride at room : ℕ) : Type 0 where
@@ -42,27 +43,27 @@ pub record Rows (words count len apart stride at room : ℕ) : Type 0 where
 -- of any number of them.
 pub record Copy (digits : List ℕ) (words at room : ℕ) : Type 0 where
   pub some : 0 < length digits
-  pub spans : Spans digits
+  pub nested : Nested digits
   pub whole : words ≡ counted digits
   pub filled : 0 < words
   pub inside : (t : ℕ) → t < words → at + offset digits t < room
 
--- The words that the code leaves.
-unfoldable pub row : ℕ → ℕ → ℕ → List ℕ → List ℕ
-row words stride at old = tab words (λ t. getD old (at + t * stride) 0)
+-- The words that the code leaves; z is read outside the words, which no copy does.
+unfoldable pub row : {W : Type 0} → W → ℕ → ℕ → ℕ → List W → List W
+row z words stride at old = tab words (λ t. getD old (at + t * stride) z)
 
-unfoldable pub rows : ℕ → ℕ → ℕ → ℕ → ℕ → List ℕ → List ℕ
-rows words len apart stride at old = tab words (λ k. getD old (at + k / len * apart + k % len * stride) 0)
+unfoldable pub rows : {W : Type 0} → W → ℕ → ℕ → ℕ → ℕ → ℕ → List W → List W
+rows z words len apart stride at old = tab words (λ k. getD old (at + k / len * apart + k % len * stride) z)
 
-unfoldable pub copied : List ℕ → ℕ → ℕ → List ℕ → List ℕ
-copied digits words at old = tab words (λ t. getD old (at + offset digits t) 0)
+unfoldable pub copied : {W : Type 0} → W → List ℕ → ℕ → ℕ → List W → List W
+copied z digits words at old = tab words (λ t. getD old (at + offset digits t) z)
 
 -- ---- digits that are joined
 
 -- digits that copy the same words: as many, from the same places
 pub record Alike (digits others : List ℕ) : Type 0 where
   pub some : 0 < length others
-  pub spans : Spans others
+  pub nested : Nested others
   pub count : counted others ≡ counted digits
   pub places : (t : ℕ) → t < counted digits → offset others t ≡ offset digits t
 
@@ -75,14 +76,12 @@ pub record Joining (digits : List ℕ) : Type 0 where
   pub copy : Copy digits (counted digits) 0 mostPlaces
   pub few : counted digits ≤ mostPlaces
 
--- digits whose first one is not in the row yet; the others stand from place `first` on
-pub record Putting (row : List ℕ) (first : ℕ) (digits : List ℕ) : Type 0 where
+-- digits whose first one is not put yet; the others stand from place `first` on, with room for one more before them
+pub record Putting (joined : List ℕ) (first : ℕ) (digits : List ℕ) : Type 0 where
   pub room : 3 ≤ first
-  pub inside : first + 3 ≤ length row
+  pub inside : first + 3 ≤ length joined
   pub joining : Joining digits
 
--- the row with digits that copy the same, from place r on; what is more than one digit before `first` is kept
-pub record Put (row row′ : List ℕ) (first r : ℕ) (digits : List ℕ) : Type 0 where
-  pub near : first ≤ r + 3
-  pub kept : take (first - 3) row′ ≡ take (first - 3) row
-  pub made : Alike digits (drop r row′)
+-- the most numbers of a copy's digits: sixteen digits
+abbrev pub digitRoom : ℕ
+digitRoom = 3 * 16

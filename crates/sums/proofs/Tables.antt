@@ -26,7 +26,7 @@ use lib.ListN.{length, getD, set}
 use lib.Seq.{set-comm, getD-set-other}
 use Rattle.rules.specs.Lists.{tab, product, In, Distinct, Below}
 use Rattle.rules.specs.Mesh.{number, coords, devices, span, position, member, members, remaining, IsGroup}
-use Rattle.rules.specs.Spread.{tabulate, held, addWords}
+use Rattle.rules.specs.Spread.{tabulate, held}
 use Rattle.rules.specs.Collectives.{Place, made, reducePlaces, word}
 use Rattle.rules.proofs.Lists.{length-tab, getD-tab, tab-cong, map-tab}
 use Rattle.rules.proofs.Positions.{div-lt, pos-of-lt, span-append, below-member}
@@ -34,7 +34,7 @@ use Rattle.rules.proofs.Buffers.{number-lt, coords-number, below-coords, number
 use Rattle.rules.proofs.Groups.{group-by-position, span-remaining}
 use Rattle.rules.proofs.Fronts.{part-in}
 use Rattle.strided.specs.Strided.{offset}
-use Rattle.digits.specs.Digits.{strides, dot, cleared, axisDigits, meshDigits, Shards}
+use Rattle.digits.specs.Digits.{mostRoom, meshStrides, dot, cleared, axisDigits, meshDigits, HasStrides}
 use Rattle.digits.proofs.Strides.{
   memberPart,
   coords-length,
@@ -46,43 +46,43 @@ use Rattle.digits.proofs.Strides.{
   counted-mesh,
   offset-axes,
   offset-mesh,
-  spans-axes,
-  spans-mesh,
+  nested-axes,
+  nested-mesh,
 }
-use Rattle.digits.proofs.Loops.{group-pos}
-use Rattle.sums.specs.Sums.{groupWord, reducedWord, firstWords, shiftWords, Offsets, Groups, Shifting, Placing, Tables}
+use Rattle.mesh.proofs.Sizes.{group-pos}
+use Rattle.sums.specs.Sums.{groupWord, reducedWord, firstWords, shiftWords, Offsets, Groups, Shifting, Firsts, Tables}
 
 -- ---- cleared strides
 
-dot-clear : (zs xs : List ℕ) (a : ℕ) → dot (set zs a 0) xs ≤ dot zs xs
+dot-clear : (strides xs : List ℕ) (a : ℕ) → dot (set strides a 0) xs ≤ dot strides xs
 dot-clear [] xs a = omega arith
-dot-clear (z ∷ zs) [] zero = omega arith
-dot-clear (z ∷ zs) [] (suc a) = omega arith
-dot-clear (z ∷ zs) (x ∷ xs) zero = omega (arith, mul-zero x)
-dot-clear (z ∷ zs) (x ∷ xs) (suc a) = omega (arith, dot-clear zs xs a)
+dot-clear (z ∷ strides) [] zero = omega arith
+dot-clear (z ∷ strides) [] (suc a) = omega arith
+dot-clear (z ∷ strides) (x ∷ xs) zero = omega (arith, mul-zero x)
+dot-clear (z ∷ strides) (x ∷ xs) (suc a) = omega (arith, dot-clear strides xs a)
 
-dot-cleared : (L zs xs : List ℕ) → dot (cleared L zs) xs ≤ dot zs xs
-dot-cleared [] zs xs = omega arith
-dot-cleared (a ∷ L) zs xs = omega (arith, dot-clear (cleared L zs) xs a, dot-cleared L zs xs)
+dot-cleared : (L strides xs : List ℕ) → dot (cleared L strides) xs ≤ dot strides xs
+dot-cleared [] strides xs = omega arith
+dot-cleared (a ∷ L) strides xs = omega (arith, dot-clear (cleared L strides) xs a, dot-cleared L strides xs)
 
-cleared-set : (L zs : List ℕ) (a : ℕ) → cleared L (set zs a 0) ≡ set (cleared L zs) a 0
-cleared-set [] zs a = refl
-cleared-set (b ∷ L) zs a = ap (λ (l : List ℕ). set l b 0) (cleared-set L zs a) ∙ go (ℕ-discrete a b)
+cleared-set : (L strides : List ℕ) (a : ℕ) → cleared L (set strides a 0) ≡ set (cleared L strides) a 0
+cleared-set [] strides a = refl
+cleared-set (b ∷ L) strides a = ap (λ (l : List ℕ). set l b 0) (cleared-set L strides a) ∙ go (ℕ-discrete a b)
   where
-    go : Dec (a ≡ b) → set (set (cleared L zs) a 0) b 0 ≡ set (set (cleared L zs) b 0) a 0
+    go : Dec (a ≡ b) → set (set (cleared L strides) a 0) b 0 ≡ set (set (cleared L strides) b 0) a 0
     go (yes e) = rw e
-    go (no n) = set-comm (cleared L zs) a b 0 0 n
+    go (no n) = set-comm (cleared L strides) a b 0 0 n
 
 set-twice : (l : List ℕ) (a k : ℕ) → set (set l a k) a k ≡ set l a k
 set-twice [] a k = refl
 set-twice (x ∷ l) zero k = refl
 set-twice (x ∷ l) (suc a) k = ap (λ (t : List ℕ). x ∷ t) (set-twice l a k)
 
-cleared-twice : (L zs : List ℕ) → cleared L (cleared L zs) ≡ cleared L zs
-cleared-twice [] zs = refl
-cleared-twice (a ∷ L) zs =
-    ap (λ (l : List ℕ). set l a 0) (cleared-set L (cleared L zs) a ∙ ap (λ (l : List ℕ). set l a 0) (cleared-twice L zs))
-    ∙ set-twice (cleared L zs) a 0
+cleared-twice : (L strides : List ℕ) → cleared L (cleared L strides) ≡ cleared L strides
+cleared-twice [] strides = refl
+cleared-twice (a ∷ L) strides =
+    ap (λ (l : List ℕ). set l a 0) (cleared-set L (cleared L strides) a ∙ ap (λ (l : List ℕ). set l a 0) (cleared-twice L strides))
+    ∙ set-twice (cleared L strides) a 0
 
 -- a list's strides, cleared, are 0
 set-none : (l : List ℕ) (a : ℕ) → getD (set l a 0) a 0 ≡ 0
@@ -97,46 +97,46 @@ none-stays l a b h = go (ℕ-discrete a b)
     go (yes e) = rw e (set-none l b)
     go (no n) = getD-set-other l b a 0 0 n ∙ h
 
-cleared-none : (L zs : List ℕ) (a : ℕ) → getD zs a 0 ≡ 0 → getD (cleared L zs) a 0 ≡ 0
-cleared-none [] zs a h = h
-cleared-none (b ∷ L) zs a h = none-stays (cleared L zs) a b (cleared-none L zs a h)
+cleared-none : (L strides : List ℕ) (a : ℕ) → getD strides a 0 ≡ 0 → getD (cleared L strides) a 0 ≡ 0
+cleared-none [] strides a h = h
+cleared-none (b ∷ L) strides a h = none-stays (cleared L strides) a b (cleared-none L strides a h)
 
-cleared-in : (L zs : List ℕ) (a : ℕ) → In a L → getD (cleared L zs) a 0 ≡ 0
-cleared-in (b ∷ L) zs a (inl e) = rw e (set-none (cleared L zs) b)
-cleared-in (b ∷ L) zs a (inr i) = none-stays (cleared L zs) a b (cleared-in L zs a i)
+cleared-in : (L strides : List ℕ) (a : ℕ) → In a L → getD (cleared L strides) a 0 ≡ 0
+cleared-in (b ∷ L) strides a (inl e) = rw e (set-none (cleared L strides) b)
+cleared-in (b ∷ L) strides a (inr i) = none-stays (cleared L strides) a b (cleared-in L strides a i)
 
 -- where the strides of a list are 0, its members add nothing
-none-part : (mesh L zs : List ℕ) (q : ℕ) → ((a : ℕ) → In a L → getD zs a 0 ≡ 0) → memberPart mesh L zs q ≡ 0
-none-part mesh [] zs q h = refl
-none-part mesh (a ∷ L) zs q h =
+none-part : (mesh L strides : List ℕ) (q : ℕ) → ((a : ℕ) → In a L → getD strides a 0 ≡ 0) → memberPart mesh L strides q ≡ 0
+none-part mesh [] strides q h = refl
+none-part mesh (a ∷ L) strides q h =
     rw (
-      cleared-none L zs a (h a (inl refl)),
-      none-part mesh L zs (q % span mesh L) (λ b i. h b (inr i)),
+      cleared-none L strides a (h a (inl refl)),
+      none-part mesh L strides (q % span mesh L) (λ b i. h b (inr i)),
       mul-zero (q / span mesh L),
     )
 
-no-part : (mesh L zs : List ℕ) → memberPart mesh L zs 0 ≡ 0
-no-part mesh [] zs = refl
-no-part mesh (a ∷ L) zs = rw (zero-div (span mesh L), zero-mod (span mesh L), zero-mul (getD (cleared L zs) a 0), no-part mesh L zs)
+no-part : (mesh L strides : List ℕ) → memberPart mesh L strides 0 ≡ 0
+no-part mesh [] strides = refl
+no-part mesh (a ∷ L) strides = rw (zero-div (span mesh L), zero-mod (span mesh L), zero-mul (getD (cleared L strides) a 0), no-part mesh L strides)
 
 -- ---- the places
 
-shift-at : (mesh L zs : List ℕ) (q : ℕ) → 0 < span mesh L → q < span mesh L → offset (axisDigits mesh L zs []) q ≡ memberPart mesh L zs q
-shift-at mesh L zs q p h =
-    offset-axes mesh L zs [] q p (omega arith) (omega (arith, mul-one (span mesh L))) ∙ ap (λ (n : ℕ). memberPart mesh L zs n + 0) (div-one q)
+shift-at : (mesh L strides : List ℕ) (q : ℕ) → 0 < span mesh L → q < span mesh L → offset (axisDigits mesh L strides []) q ≡ memberPart mesh L strides q
+shift-at mesh L strides q p h =
+    offset-axes mesh L strides [] q p (omega arith) (omega (arith, mul-one (span mesh L))) ∙ ap (λ (n : ℕ). memberPart mesh L strides n + 0) (div-one q)
     ∙ add-zero _
 
-first-at : (mesh zs : List ℕ) (d : ℕ) → length zs ≡ length mesh → d < product mesh → offset (meshDigits mesh zs []) d ≡ dot zs (coords mesh d)
-first-at mesh zs d e h =
-    offset-mesh mesh zs [] d e (omega arith) (omega arith) (omega (arith, mul-one (product mesh)))
-    ∙ ap (λ (n : ℕ). dot zs (coords mesh n) + 0) (div-one d) ∙ add-zero _
+first-at : (mesh strides : List ℕ) (d : ℕ) → length strides ≡ length mesh → d < product mesh → offset (meshDigits mesh strides []) d ≡ dot strides (coords mesh d)
+first-at mesh strides d e h =
+    offset-mesh mesh strides [] d e (omega arith) (omega arith) (omega (arith, mul-one (product mesh)))
+    ∙ ap (λ (n : ℕ). dot strides (coords mesh n) + 0) (div-one d) ∙ add-zero _
 
 module _ (mesh L : List ℕ) (m : ℕ) (some : 0 < product mesh) (once : Distinct L) where
   -- a member's shard begins at its device's first place and its own shift
   place : {x : List ℕ} (q : ℕ) → Below x mesh → length x ≡ length mesh
-      → dot (cleared L (strides mesh m)) x + memberPart mesh L (strides mesh m) q ≡ number mesh (member mesh L q x) * m
+      → dot (cleared L (meshStrides mesh m)) x + memberPart mesh L (meshStrides mesh m) q ≡ number mesh (member mesh L q x) * m
   place {x} q b n =
-      sym (dot-member mesh L (strides mesh m) q x once (n ∙ sym (strides-length mesh m))) ∙ dot-strides mesh (member mesh L q x) m
+      sym (dot-member mesh L (meshStrides mesh m) q x once (n ∙ sym (strides-length mesh m))) ∙ dot-strides mesh (member mesh L q x) m
 
   pub firsts-length : length (firstWords mesh L m) ≡ product mesh
   unfolding firstWords
@@ -146,16 +146,16 @@ module _ (mesh L : List ℕ) (m : ℕ) (some : 0 < product mesh) (once : Distinc
   unfolding shiftWords
   shifts-length = length-tab (span mesh L) _
 
-  zs-length : length (cleared L (strides mesh m)) ≡ length mesh
-  zs-length = cleared-length L (strides mesh m) ∙ strides-length mesh m
+  cleared-strides : length (cleared L (meshStrides mesh m)) ≡ length mesh
+  cleared-strides = cleared-length L (meshStrides mesh m) ∙ strides-length mesh m
 
-  first-is : (d : ℕ) → d < product mesh → getD (firstWords mesh L m) d 0 ≡ dot (cleared L (strides mesh m)) (coords mesh d)
+  first-is : (d : ℕ) → d < product mesh → getD (firstWords mesh L m) d 0 ≡ dot (cleared L (meshStrides mesh m)) (coords mesh d)
   unfolding firstWords
-  first-is d h = getD-tab (product mesh) d _ 0 h ∙ first-at mesh (cleared L (strides mesh m)) d zs-length h
+  first-is d h = getD-tab (product mesh) d _ 0 h ∙ first-at mesh (cleared L (meshStrides mesh m)) d cleared-strides h
 
-  shift-is : (q : ℕ) → q < span mesh L → getD (shiftWords mesh L m) q 0 ≡ memberPart mesh L (strides mesh m) q
+  shift-is : (q : ℕ) → q < span mesh L → getD (shiftWords mesh L m) q 0 ≡ memberPart mesh L (meshStrides mesh m) q
   unfolding shiftWords
-  shift-is q h = getD-tab (span mesh L) q _ 0 h ∙ shift-at mesh L (strides mesh m) q (group-pos mesh L some) h
+  shift-is q h = getD-tab (span mesh L) q _ 0 h ∙ shift-at mesh L (meshStrides mesh m) q (group-pos mesh L some) h
 
   pub place-is : (d q : ℕ) → d < product mesh → q < span mesh L
       → getD (firstWords mesh L m) d 0 + getD (shiftWords mesh L m) q 0 ≡ number mesh (member mesh L q (coords mesh d)) * m
@@ -169,17 +169,17 @@ module _ (mesh L : List ℕ) (m : ℕ) (some : 0 < product mesh) (once : Distinc
       (part-in e (product mesh) m (product mesh * m) (number-lt (below-member mesh L q hq (below-coords mesh d hd))) (omega arith))
 
   -- the tables are small
-  pub shift-few : (q : ℕ) → q < span mesh L → offset (axisDigits mesh L (strides mesh m) []) q ≤ product mesh * m
-  shift-few q h = rw (shift-at mesh L (strides mesh m) q (group-pos mesh L some) h, ← shift-is q h) (omega (arith, shard-in 0 q some h))
+  pub shift-few : (q : ℕ) → q < span mesh L → offset (axisDigits mesh L (meshStrides mesh m) []) q ≤ product mesh * m
+  shift-few q h = rw (shift-at mesh L (meshStrides mesh m) q (group-pos mesh L some) h, ← shift-is q h) (omega (arith, shard-in 0 q some h))
 
-  first-le : (d : ℕ) → d < product mesh → dot (cleared L (strides mesh m)) (coords mesh d) ≤ d * m
+  first-le : (d : ℕ) → d < product mesh → dot (cleared L (meshStrides mesh m)) (coords mesh d) ≤ d * m
   first-le d h =
-      let e : dot (strides mesh m) (coords mesh d) ≡ d * m = dot-strides mesh (coords mesh d) m ∙ ap (λ (n : ℕ). n * m) (number-coords mesh d h) in
-      omega (arith, dot-cleared L (strides mesh m) (coords mesh d))
+      let e : dot (meshStrides mesh m) (coords mesh d) ≡ d * m = dot-strides mesh (coords mesh d) m ∙ ap (λ (n : ℕ). n * m) (number-coords mesh d h) in
+      omega (arith, dot-cleared L (meshStrides mesh m) (coords mesh d))
 
-  pub first-few : (d : ℕ) → d < product mesh → offset (meshDigits mesh (cleared L (strides mesh m)) []) d ≤ product mesh * m
+  pub first-few : (d : ℕ) → d < product mesh → offset (meshDigits mesh (cleared L (meshStrides mesh m)) []) d ≤ product mesh * m
   first-few d h =
-      rw (first-at mesh (cleared L (strides mesh m)) d zs-length h)
+      rw (first-at mesh (cleared L (meshStrides mesh m)) d cleared-strides h)
       (omega (arith, first-le d h, mul-le-mul-right {m = d} {n = product mesh} m (omega arith)))
 
   -- the member of a device's group at a position: its first place is the device's
@@ -194,15 +194,15 @@ module _ (mesh L : List ℕ) (m : ℕ) (some : 0 < product mesh) (once : Distinc
   unfolding memberAt
   member-first d q hd hq =
       let x : List ℕ = coords mesh d in
-      let zs : List ℕ = cleared L (strides mesh m) in
+      let strides : List ℕ = cleared L (meshStrides mesh m) in
       let b : Below (member mesh L q x) mesh = below-member mesh L q hq (below-coords mesh d hd) in
-      first-is (memberAt d q) (number-lt b) ∙ ap (dot zs) (coords-number b)
-      ∙ dot-member mesh L zs q x once (coords-length mesh d ∙ sym zs-length)
-      ∙ ap₂ (λ (l : List ℕ) (n : ℕ). dot l x + n) (cleared-twice L (strides mesh m)) (none-part mesh L zs q (cleared-in L (strides mesh m)))
+      first-is (memberAt d q) (number-lt b) ∙ ap (dot strides) (coords-number b)
+      ∙ dot-member mesh L strides q x once (coords-length mesh d ∙ sym cleared-strides)
+      ∙ ap₂ (λ (l : List ℕ) (n : ℕ). dot l x + n) (cleared-twice L (meshStrides mesh m)) (none-part mesh L strides q (cleared-in L (meshStrides mesh m)))
       ∙ add-zero _ ∙ sym (first-is d hd)
 
   shift-start : getD (shiftWords mesh L m) 0 0 ≡ 0
-  shift-start = shift-is 0 (group-pos mesh L some) ∙ no-part mesh L (strides mesh m)
+  shift-start = shift-is 0 (group-pos mesh L some) ∙ no-part mesh L (meshStrides mesh m)
 
   -- the first member's shard begins at the device's first place
   first-place : (d : ℕ) → d < product mesh → getD (firstWords mesh L m) d 0 ≡ memberAt d 0 * m
@@ -290,11 +290,11 @@ module _ (mesh L : List ℕ) (m : ℕ) (some : 0 < product mesh) (once : Distinc
             (r .0, rw lq (r .1), r .2);
       }
 
--- what the code leaves is the reduction of the rules
-module _ (mesh shape L old : List ℕ) (some : 0 < product mesh) (once : Distinct L) where
+-- what the code leaves is the reduction of the rules, for elements of any type
+module _ {W : Type 0} (addAll : List W → W) (z : W) (mesh shape L : List ℕ) (old : List W) (some : 0 < product mesh) (once : Distinct L) where
   word-is : (d o : ℕ) → d < product mesh → o < product shape
-      → groupWord old (shiftWords mesh L (product shape)) (getD (firstWords mesh L (product shape)) d 0) o
-      ≡ made addWords (reducePlaces mesh L) (held 0 mesh shape old) (coords mesh d) (coords shape o)
+      → groupWord addAll z old (shiftWords mesh L (product shape)) (getD (firstWords mesh L (product shape)) d 0) o
+      ≡ made addAll (reducePlaces mesh L) (held z mesh shape old) (coords mesh d) (coords shape o)
   unfolding groupWord made reducePlaces members held
   word-is d o hd ho =
       let m : ℕ = product shape in
@@ -302,16 +302,16 @@ module _ (mesh shape L old : List ℕ) (some : 0 < product mesh) (once : Distinc
       let i : List ℕ = coords shape o in
       let shifts : List ℕ = shiftWords mesh L m in
       let first : ℕ = getD (firstWords mesh L m) d 0 in
-      let at : Place → ℕ = word (held 0 mesh shape old) in
-      ap addWords (ap (λ (n : ℕ). tab n (λ q. getD old (first + getD shifts q 0 + o) 0)) (shifts-length mesh L m some once)
+      let at : Place → W = word (held z mesh shape old) in
+      ap addAll (ap (λ (n : ℕ). tab n (λ q. getD old (first + getD shifts q 0 + o) z)) (shifts-length mesh L m some once)
       ∙ tab-cong (span mesh L) _ _
-      (λ q h. ap₂ (λ (a b : ℕ). getD old (a + b) 0) (place-is mesh L m some once d q hd h) (sym (number-coords shape o ho)))
+      (λ q h. ap₂ (λ (a b : ℕ). getD old (a + b) z) (place-is mesh L m some once d q hd h) (sym (number-coords shape o ho)))
       ∙ sym (ap (map at) (map-tab (λ y. record { device = y; index = i }) (span mesh L) (λ q. member mesh L q x))
       ∙ map-tab at (span mesh L) (λ q. record { device = member mesh L q x; index = i })))
 
   pub reduced-is : tab (product mesh * product shape)
-      (reducedWord old (firstWords mesh L (product shape)) (shiftWords mesh L (product shape)) (product shape))
-      ≡ tabulate mesh shape (made addWords (reducePlaces mesh L) (held 0 mesh shape old))
+      (reducedWord addAll z old (firstWords mesh L (product shape)) (shiftWords mesh L (product shape)) (product shape))
+      ≡ tabulate mesh shape (made addAll (reducePlaces mesh L) (held z mesh shape old))
   unfolding reducedWord tabulate
   reduced-is =
       let m : ℕ = product shape in
@@ -327,53 +327,48 @@ group-few mesh L some once of-mesh =
 
 -- ---- what the listing of places is asked, and what it leaves
 
-pub mesh-offsets : {firsts zs mesh : List ℕ} → Placing firsts zs mesh → Offsets (meshDigits mesh zs []) (length firsts) 0
-mesh-offsets {firsts} {zs} {mesh} p = record {
-  spans = spans-mesh mesh zs [] tt;
-  whole = p .room ∙ sym (counted-mesh mesh zs [] (p .places) ∙ mul-one (product mesh));
-  filled = rw (p .room) (p .devices-pos);
+pub mesh-offsets : {firsts strides mesh : List ℕ} → Firsts firsts strides mesh → Offsets (meshDigits mesh strides []) (length firsts) 0
+mesh-offsets {firsts} {strides} {mesh} p = record {
+  nested = nested-mesh mesh strides [] tt;
+  whole = p .room ∙ sym (counted-mesh mesh strides [] (p .has .places) ∙ mul-one (product mesh));
+  filled = rw (p .room) (p .has .on .devices-pos);
   few = λ t l. omega (arith, p .few t (subst (λ n. t < n) (p .room) l));
 }
 
-pub axes-offsets : {shifts zs mesh L : List ℕ} → Shifting shifts zs mesh L → Offsets (axisDigits mesh L zs []) (span mesh L) 0
-axes-offsets {zs} {mesh} {L} p = record {
-  spans = spans-axes mesh L zs [] tt;
-  whole = sym (counted-axes mesh L zs [] ∙ mul-one (span mesh L));
-  filled = group-pos mesh L (p .devices);
+pub axes-offsets : {shifts strides mesh L : List ℕ} → Shifting shifts strides mesh L → Offsets (axisDigits mesh L strides []) (span mesh L) 0
+axes-offsets {strides} {mesh} {L} p = record {
+  nested = nested-axes mesh L strides [] tt;
+  whole = sym (counted-axes mesh L strides [] ∙ mul-one (span mesh L));
+  filled = group-pos mesh L (p .has .on .devices-pos);
   few = λ t l. omega (arith, p .few t l);
 }
 
-pub from-zero : (n : ℕ) (row : List ℕ) → tab n (λ t. 0 + offset row t) ≡ tab n (offset row)
-from-zero n row = tab-cong n _ _ (λ t l. zero-add (offset row t))
+pub from-zero : (n : ℕ) (digits : List ℕ) → tab n (λ t. 0 + offset digits t) ≡ tab n (offset digits)
+from-zero n digits = tab-cong n _ _ (λ t l. zero-add (offset digits t))
 
 -- ---- what the filling of both tables asks
 
-module _ {firsts shifts zs mesh L : List ℕ} {m : ℕ} (t : Tables firsts shifts zs mesh L m) where
-  pub strides-asked : Shards zs mesh m
-  strides-asked = record {
-    places = t .places;
-    sizes = record { some = t .devices-pos; few = omega (arith, t .devices-few) };
-    few = mul-le-mul (t .devices-few) (t .words-few);
-  }
+module _ {firsts shifts strides mesh L : List ℕ} {m : ℕ} (t : Tables firsts shifts strides mesh L m) where
+  pub strides-asked : HasStrides strides mesh × (product mesh * m ≤ mostRoom)
+  strides-asked = (t .has, mul-le-mul (t .has .on .devices-few) (t .words-few))
 
-  pub shifts-asked : (zs′ : List ℕ) → zs′ ≡ strides mesh m → Shifting shifts zs′ mesh L
-  shifts-asked zs′ e =
-      let g : span mesh L ≤ product mesh = group-few mesh L (t .devices-pos) (t .once) (t .of-mesh) in
+  pub shifts-asked : (strides′ : List ℕ) → strides′ ≡ meshStrides mesh m → Shifting shifts strides′ mesh L
+  shifts-asked strides′ e =
+      let on = t .has .on in
+      let g : span mesh L ≤ product mesh = group-few mesh L (on .devices-pos) (t .once) (t .of-mesh) in
       record {
-        places = ap length e ∙ strides-length mesh m;
-        devices = t .devices-pos;
+        has = record { on = on; places = ap length e ∙ strides-length mesh m };
         of-mesh = t .of-mesh;
-        room = omega (arith, t .devices-few, t .shifts-room);
-        members = omega (arith, t .devices-few);
-        few = λ q h. rw e (omega (arith, shift-few mesh L m (t .devices-pos) (t .once) q h, strides-asked .few));
+        room = omega (arith, on .devices-few, t .shifts-room);
+        members = omega (arith, on .devices-few);
+        few = λ q h. rw e (omega (arith, shift-few mesh L m (on .devices-pos) (t .once) q h, strides-asked .1));
       }
 
-  pub firsts-asked : (zs′ : List ℕ) → zs′ ≡ cleared L (strides mesh m) → Placing firsts zs′ mesh
-  firsts-asked zs′ e = record {
-    places = ap length e ∙ zs-length mesh L m (t .devices-pos) (t .once);
-    axes = t .axes;
-    devices-pos = t .devices-pos;
-    devices-few = t .devices-few;
-    room = t .firsts-room;
-    few = λ d h. rw e (omega (arith, first-few mesh L m (t .devices-pos) (t .once) d h, strides-asked .few));
-  }
+  pub firsts-asked : (strides′ : List ℕ) → strides′ ≡ cleared L (meshStrides mesh m) → Firsts firsts strides′ mesh
+  firsts-asked strides′ e =
+      let on = t .has .on in
+      record {
+        has = record { on = on; places = ap length e ∙ cleared-strides mesh L m (on .devices-pos) (t .once) };
+        room = t .firsts-room;
+        few = λ d h. rw e (omega (arith, first-few mesh L m (on .devices-pos) (t .once) d h, strides-asked .1));
+      }

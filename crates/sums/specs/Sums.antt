@@ -1,63 +1,63 @@
 -- The reduction by whole shards, in one buffer: it keeps the shape, so each sum stands where its shard was, and half the memory of two buffers is
 -- touched. `firsts` has, for each device, where the shard of the first member of its group begins; `shifts` has how far after it the shard of the
--- member at each position begins. Each group is added once, in place of its first member's shard; the others repeat that. Assumes nothing.
+-- member at each position begins. Each group is added once, in place of its first member's shard; the others repeat that. The elements
+-- are of any type W: addAll is the sum of a group's elements, z is read outside the buffer, which no code does. Assumes nothing.
 use Prim.Native.Nat.{ℕ, _+_, _*_, _/_, _%_, _≤_, _<_}
 use mathlib.Core.Path.{_≡_}
 use mathlib.Core.Logic.{_⊎_}
 use mathlib.Core.List.{List, [], _++_}
 use lib.ListN.{length, getD, take, drop}
 use Rattle.rules.specs.Lists.{tab, product, In, Distinct}
-use Rattle.rules.specs.Mesh.{devices, span}
-use Rattle.rules.specs.Spread.{tabulate, held, addWords}
+use Rattle.rules.specs.Mesh.{devices, span, OnMesh}
+use Rattle.rules.specs.Spread.{tabulate, held}
 use Rattle.rules.specs.Collectives.{made, reducePlaces}
 use Rattle.rules.specs.Limits.{mostAxes, mostDevices, mostWords}
-use Rattle.strided.specs.Strided.{counted, offset, Spans}
-use Rattle.digits.specs.Digits.{mostRoom, strides, cleared, axisDigits, meshDigits}
+use Rattle.strided.specs.Strided.{counted, offset, Nested}
+use Rattle.digits.specs.Digits.{mostRoom, meshStrides, cleared, axisDigits, meshDigits, HasStrides}
 
 -- the words with g 0, g 1, .., g (m - 1) written from `at` on
-abbrev pub written : List ℕ → (at m : ℕ) → (ℕ → ℕ) → List ℕ
+abbrev pub written : {W : Type 0} → List W → (at m : ℕ) → (ℕ → W) → List W
 written words at m g = (take at words ++ tab m g) ++ drop (at + m) words
 
 -- word o of the sum of the shards of the first q members, which begin at the shifts from `at` on
-abbrev pub partWord : (old shifts : List ℕ) → (at q o : ℕ) → ℕ
-partWord old shifts at q o = addWords (tab q (λ p. getD old (at + getD shifts p 0 + o) 0))
+abbrev pub partWord : {W : Type 0} → (List W → W) → W → (old : List W) → (shifts : List ℕ) → (at q o : ℕ) → W
+partWord addAll z old shifts at q o = addAll (tab q (λ p. getD old (at + getD shifts p 0 + o) z))
 
 -- word o of the sum of the shards that begin at the shifts from `at` on
-unfoldable pub groupWord : (old shifts : List ℕ) → ℕ → ℕ → ℕ
-unfolding addWords
-groupWord old shifts at o = addWords (tab (length shifts) (λ q. getD old (at + getD shifts q 0 + o) 0))
+unfoldable pub groupWord : {W : Type 0} → (List W → W) → W → (old : List W) → (shifts : List ℕ) → ℕ → ℕ → W
+groupWord addAll z old shifts at o = addAll (tab (length shifts) (λ q. getD old (at + getD shifts q 0 + o) z))
 
 -- word p of the reduced buffer, of shards of m words
-unfoldable pub reducedWord : (old firsts shifts : List ℕ) → ℕ → ℕ → ℕ
+unfoldable pub reducedWord : {W : Type 0} → (List W → W) → W → (old : List W) → (firsts shifts : List ℕ) → ℕ → ℕ → W
 unfolding groupWord
-reducedWord old firsts shifts m p = groupWord old shifts (getD firsts (p / m) 0) (p % m)
+reducedWord addAll z old firsts shifts m p = groupWord addAll z old shifts (getD firsts (p / m) 0) (p % m)
 
 -- the buffer that a reduction leaves: the new state, and what was behind the old one
-abbrev pub reducedBuffer : (mesh shape L old : List ℕ) → List ℕ
-reducedBuffer mesh shape L old =
-    tabulate mesh shape (made addWords (reducePlaces mesh L) (held 0 mesh shape old)) ++ drop (devices mesh * product shape) old
+abbrev pub reducedBuffer : {W : Type 0} → (List W → W) → W → (mesh shape L : List ℕ) → List W → List W
+reducedBuffer addAll z mesh shape L old =
+    tabulate mesh shape (made addAll (reducePlaces mesh L) (held z mesh shape old)) ++ drop (devices mesh * product shape) old
 
 -- what is left where the shards of a group's first n members have the words g: every other word is as it was
-pub record Shared (old shifts : List ℕ) (at m n : ℕ) (g : ℕ → ℕ) (new : List ℕ) : Type 0 where
-  pub members : (q o : ℕ) → q < n → o < m → getD new (at + getD shifts q 0 + o) 0 ≡ g o
-  pub others : (p : ℕ) → ((q : ℕ) → q < n → (p < at + getD shifts q 0) ⊎ (at + getD shifts q 0 + m ≤ p)) → getD new p 0 ≡ getD old p 0
+pub record Shared {W : Type 0} (z : W) (old : List W) (shifts : List ℕ) (at m n : ℕ) (g : ℕ → W) (new : List W) : Type 0 where
+  pub members : (q o : ℕ) → q < n → o < m → getD new (at + getD shifts q 0 + o) z ≡ g o
+  pub others : (p : ℕ) → ((q : ℕ) → q < n → (p < at + getD shifts q 0) ⊎ (at + getD shifts q 0 + m ≤ p)) → getD new p z ≡ getD old p z
 
 -- The tables, for shards of m words.
 unfoldable pub firstWords : (mesh L : List ℕ) → ℕ → List ℕ
-firstWords mesh L m = tab (product mesh) (offset (meshDigits mesh (cleared L (strides mesh m)) []))
+firstWords mesh L m = tab (product mesh) (offset (meshDigits mesh (cleared L (meshStrides mesh m)) []))
 
 unfoldable pub shiftWords : (mesh L : List ℕ) → ℕ → List ℕ
-shiftWords mesh L m = tab (span mesh L) (offset (axisDigits mesh L (strides mesh m) []))
+shiftWords mesh L m = tab (span mesh L) (offset (axisDigits mesh L (meshStrides mesh m) []))
 
 -- the numbers of the digits of a group's axes, or of all devices
-abbrev pub rowRoom : ℕ
-rowRoom = 3 * mostAxes
+abbrev pub axisRoom : ℕ
+axisRoom = 3 * mostAxes
 
 -- ---- what the code asks
 
 -- digits that count n places, from `at` on
 pub record Offsets (digits : List ℕ) (n at : ℕ) : Type 0 where
-  pub spans : Spans digits
+  pub nested : Nested digits
   pub whole : n ≡ counted digits
   pub filled : 0 < n
   pub few : (t : ℕ) → t < n → at + offset digits t ≤ mostRoom
@@ -86,29 +86,22 @@ pub record Groups (firsts shifts : List ℕ) (m words : ℕ) : Type 0 where
   pub position : (d : ℕ) → d < length firsts → (q : ℕ) × (q < length shifts) × (getD firsts d 0 + getD shifts q 0 ≡ d * m)
 
 -- a list of axes on a mesh with strides, and the places that list its group
-pub record Shifting (shifts zs mesh L : List ℕ) : Type 0 where
-  pub places : length zs ≡ length mesh
-  pub devices : 0 < product mesh
+pub record Shifting (shifts strides mesh L : List ℕ) : Type 0 where
+  pub has : HasStrides strides mesh
   pub of-mesh : (a : ℕ) → In a L → a < length mesh
   pub room : span mesh L ≤ length shifts
   pub members : span mesh L ≤ mostDevices
-  pub few : (q : ℕ) → q < span mesh L → offset (axisDigits mesh L zs []) q ≤ mostRoom
+  pub few : (q : ℕ) → q < span mesh L → offset (axisDigits mesh L strides []) q ≤ mostRoom
 
 -- a mesh with strides, and the places that list its devices
-pub record Placing (firsts zs mesh : List ℕ) : Type 0 where
-  pub places : length zs ≡ length mesh
-  pub axes : length mesh ≤ mostAxes
-  pub devices-pos : 0 < product mesh
-  pub devices-few : product mesh ≤ mostDevices
+pub record Firsts (firsts strides mesh : List ℕ) : Type 0 where
+  pub has : HasStrides strides mesh
   pub room : length firsts ≡ product mesh
-  pub few : (d : ℕ) → d < product mesh → offset (meshDigits mesh zs []) d ≤ mostRoom
+  pub few : (d : ℕ) → d < product mesh → offset (meshDigits mesh strides []) d ≤ mostRoom
 
 -- a mesh, a group's axes, and places for both tables
-pub record Tables (firsts shifts zs mesh L : List ℕ) (m : ℕ) : Type 0 where
-  pub places : length zs ≡ length mesh
-  pub axes : length mesh ≤ mostAxes
-  pub devices-pos : 0 < product mesh
-  pub devices-few : product mesh ≤ mostDevices
+pub record Tables (firsts shifts strides mesh L : List ℕ) (m : ℕ) : Type 0 where
+  pub has : HasStrides strides mesh
   pub words-few : m ≤ mostWords
   pub of-mesh : (a : ℕ) → In a L → a < length mesh
   pub once : Distinct L
@@ -117,9 +110,7 @@ pub record Tables (firsts shifts zs mesh L : List ℕ) (m : ℕ) : Type 0 where
 
 -- a reduction of shards of a shape
 pub record Reducing (mesh shape L : List ℕ) (words : ℕ) : Type 0 where
-  pub axes : length mesh ≤ mostAxes
-  pub devices-pos : 0 < devices mesh
-  pub devices-few : devices mesh ≤ mostDevices
+  pub on : OnMesh mesh
   pub words-pos : 0 < product shape
   pub words-few : product shape ≤ mostWords
   pub of-mesh : (a : ℕ) → In a L → a < length mesh

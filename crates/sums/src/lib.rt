@@ -1,7 +1,9 @@
 // All-reduce: each device gets the word-by-word sum over its group, whole shards at a time. The shape stays, so the words are summed where they are,
 // which touches half the memory of two buffers: each group is added once, into its first member's shard, and the other members repeat that sum at
 // once, while it is in the cache. Nothing is divided. specs/Sums.antt says what the tables hold.
-use digits;
+use digits::axis_digits;
+use digits::fill_strides;
+use digits::mesh_digits;
 use mesh::product_from;
 use rules;
 ghost use mathlib.Core.Path.{_≡_};
@@ -10,11 +12,12 @@ ghost use Prim.Native.Nat.{_+_, _*_, _%_, _^_, _≤_, _<_};
 ghost use lib.ListN.{length, getD, take, drop};
 ghost use Rattle.rules.specs.Lists.{tab, product};
 ghost use Rattle.rules.specs.Mesh.{span};
+ghost use Rattle.rules.specs.Spread.{addWords};
 ghost use Rattle.rules.specs.Types.{axesOf};
 ghost use Rattle.strided.specs.Strided.{offset};
 ghost use Rattle.digits.specs.Digits.{cleared, axisDigits, meshDigits};
 ghost use Rattle.sums.specs.Sums.{written, partWord, groupWord, reducedWord, reducedBuffer, firstWords, shiftWords};
-ghost use Rattle.sums.specs.Sums.{Offsets, Behind, Group, Shared, Groups, Shifting, Placing, Tables, Reducing};
+ghost use Rattle.sums.specs.Sums.{Offsets, Behind, Group, Shared, Groups, Shifting, Firsts, Tables, Reducing};
 
 // The numbers of the digits of a group's axes, or of all devices.
 const ROOM: usize = 3 * rules::Axis::MOST;
@@ -59,7 +62,7 @@ fn add_three(words: &mut [u32], at: usize, a: usize, b: usize, c: usize, m: usiz
 fn sum_most(words: &mut [u32], shifts: &[usize], at: usize, m: usize) -> usize
     requires { ⌜ Group (now shifts) m at (length (now words)) ⌝ }
     ensures { λ r. ⌜ (0 < r) × (r ≤ length (now (shifts .entry))) ⌝ }
-    ensures { λ r. ⌜ now (words .exit) ≡ written (now (words .entry)) at m (partWord (now (words .entry)) (now (shifts .entry)) at r) ⌝ }
+    ensures { λ r. ⌜ now (words .exit) ≡ written (now (words .entry)) at m (partWord addWords 0 (now (words .entry)) (now (shifts .entry)) at r) ⌝ }
 {
     let mut q: usize = 1;
     while q + 2 < shifts.len() {
@@ -75,7 +78,7 @@ fn sum_most(words: &mut [u32], shifts: &[usize], at: usize, m: usize) -> usize
 // The sum of the shards of one group, in place of its first member's.
 fn sum_group(words: &mut [u32], shifts: &[usize], at: usize, m: usize)
     requires { ⌜ Group (now shifts) m at (length (now words)) ⌝ }
-    ensures { λ _. ⌜ now (words .exit) ≡ written (now (words .entry)) at m (groupWord (now (words .entry)) (now (shifts .entry)) at) ⌝ }
+    ensures { λ _. ⌜ now (words .exit) ≡ written (now (words .entry)) at m (groupWord addWords 0 (now (words .entry)) (now (shifts .entry)) at) ⌝ }
 {
     let mut q = sum_most(words, shifts, at, m);
     while q < shifts.len() {
@@ -99,7 +102,7 @@ fn repeat_shard(words: &mut [u32], first: usize, at: usize, m: usize)
 // The shard of a group's first member once more, for each other member.
 fn repeat_group(words: &mut [u32], shifts: &[usize], at: usize, m: usize)
     requires { ⌜ Group (now shifts) m at (length (now words)) ⌝ }
-    ensures { λ _. ⌜ Shared (now (words .entry)) (now (shifts .entry)) at m (length (now (shifts .entry)))
+    ensures { λ _. ⌜ Shared 0 (now (words .entry)) (now (shifts .entry)) at m (length (now (shifts .entry)))
         (λ o. getD (now (words .entry)) (at + o) 0) (now (words .exit)) ⌝ }
 {
     let mut q: usize = 1;
@@ -112,8 +115,8 @@ fn repeat_group(words: &mut [u32], shifts: &[usize], at: usize, m: usize)
 // So many words of each shard of one group: they become the sum over the group.
 fn reduce_block(words: &mut [u32], shifts: &[usize], at: usize, m: usize)
     requires { ⌜ Group (now shifts) m at (length (now words)) ⌝ }
-    ensures { λ _. ⌜ Shared (now (words .entry)) (now (shifts .entry)) at m (length (now (shifts .entry)))
-        (groupWord (now (words .entry)) (now (shifts .entry)) at) (now (words .exit)) ⌝ }
+    ensures { λ _. ⌜ Shared 0 (now (words .entry)) (now (shifts .entry)) at m (length (now (shifts .entry)))
+        (groupWord addWords 0 (now (words .entry)) (now (shifts .entry)) at) (now (words .exit)) ⌝ }
 {
     sum_group(words, shifts, at, m);
     repeat_group(words, shifts, at, m);
@@ -133,8 +136,8 @@ fn block_words(members: usize, left: usize) -> usize
 // One group: each member's shard becomes the sum over the group.
 fn reduce_group(words: &mut [u32], shifts: &[usize], at: usize, m: usize)
     requires { ⌜ Group (now shifts) m at (length (now words)) ⌝ }
-    ensures { λ _. ⌜ Shared (now (words .entry)) (now (shifts .entry)) at m (length (now (shifts .entry)))
-        (groupWord (now (words .entry)) (now (shifts .entry)) at) (now (words .exit)) ⌝ }
+    ensures { λ _. ⌜ Shared 0 (now (words .entry)) (now (shifts .entry)) at m (length (now (shifts .entry)))
+        (groupWord addWords 0 (now (words .entry)) (now (shifts .entry)) at) (now (words .exit)) ⌝ }
 {
     let mut done: usize = 0;
     while done < m {
@@ -147,7 +150,7 @@ fn reduce_group(words: &mut [u32], shifts: &[usize], at: usize, m: usize)
 // All groups, each when the first of its members is met.
 fn reduce_groups(words: &mut [u32], firsts: &[usize], shifts: &[usize], m: usize)
     requires { ⌜ Groups (now firsts) (now shifts) m (length (now words)) ⌝ }
-    ensures { λ _. ⌜ now (words .exit) ≡ tab (length (now (firsts .entry)) * m) (reducedWord (now (words .entry)) (now (firsts .entry))
+    ensures { λ _. ⌜ now (words .exit) ≡ tab (length (now (firsts .entry)) * m) (reducedWord addWords 0 (now (words .entry)) (now (firsts .entry))
         (now (shifts .entry)) m) ++ drop (length (now (firsts .entry)) * m) (now (words .entry)) ⌝ }
 {
     let mut d: usize = 0;
@@ -161,69 +164,74 @@ fn reduce_groups(words: &mut [u32], firsts: &[usize], shifts: &[usize], m: usize
 }
 
 // The places that the digits count, from at on.
-fn list_offsets(to: &mut [usize], row: &[usize], at: usize)
-    requires { ⌜ Offsets (now row) (length (now to)) at ⌝ }
-    ensures { λ _. ⌜ now (to .exit) ≡ tab (length (now (to .entry))) (λ t. at + offset (now (row .entry)) t) ⌝ }
+fn list_offsets(to: &mut [usize], digits: &[usize], at: usize)
+    requires { ⌜ Offsets (now digits) (length (now to)) at ⌝ }
+    ensures { λ _. ⌜ now (to .exit) ≡ tab (length (now (to .entry))) (λ t. at + offset (now (digits .entry)) t) ⌝ }
 {
-    if row.len() == 0 {
+    if digits.len() == 0 {
         to[0] = at;
         return;
     }
-    let size = row[0];
-    let span = row[1];
-    let stride = row[2];
+    let size = digits[0];
+    let inner = digits[1];
+    let stride = digits[2];
     let mut i: usize = 0;
     while i < size {
-        let first = i * span;
-        let end = first + span;
-        list_offsets(&mut to[first..end], &row[3..], at + i * stride);
+        let first = i * inner;
+        let end = first + inner;
+        list_offsets(&mut to[first..end], &digits[3..], at + i * stride);
         i += 1;
     }
 }
 
 // How far from its first member each member of a group is, at the front of shifts; the strides of the group's axes are cleared. Answers the
 // number of members.
-fn list_shifts(shifts: &mut [usize], zs: &mut [usize], mesh: &[u16], axes: rules::AxisList) -> usize
-    requires { ⌜ Shifting (now shifts) (now zs) (now mesh) (axesOf axes) ⌝ }
+fn list_shifts(
+    shifts: &mut [usize],
+    strides: &mut [usize],
+    mesh: &[u16],
+    axes: rules::AxisList,
+) -> usize
+    requires { ⌜ Shifting (now shifts) (now strides) (now mesh) (axesOf axes) ⌝ }
     ensures { λ r. ⌜ r ≡ span (now (mesh .entry)) (axesOf axes) ⌝ }
-    ensures { λ r. ⌜ take r (now (shifts .exit)) ≡ tab r (offset (axisDigits (now (mesh .entry)) (axesOf axes) (now (zs .entry)) [])) ⌝ }
-    ensures { λ _. ⌜ now (zs .exit) ≡ cleared (axesOf axes) (now (zs .entry)) ⌝ }
+    ensures { λ r. ⌜ take r (now (shifts .exit)) ≡ tab r (offset (axisDigits (now (mesh .entry)) (axesOf axes) (now (strides .entry)) [])) ⌝ }
+    ensures { λ _. ⌜ now (strides .exit) ≡ cleared (axesOf axes) (now (strides .entry)) ⌝ }
 {
-    let mut row = [0usize; ROOM];
-    let members = digits::axis_digits(&mut row, zs, mesh, axes, ROOM, 1);
+    let mut digits = [0usize; ROOM];
+    let members = axis_digits(&mut digits, strides, mesh, axes, ROOM, 1);
     let first = ROOM - 3 * axes.len();
-    list_offsets(&mut shifts[0..members], &row[first..], 0);
+    list_offsets(&mut shifts[0..members], &digits[first..], 0);
     members
 }
 
 // Where each device is, by the strides.
-fn list_firsts(firsts: &mut [usize], zs: &[usize], mesh: &[u16])
-    requires { ⌜ Placing (now firsts) (now zs) (now mesh) ⌝ }
-    ensures { λ _. ⌜ now (firsts .exit) ≡ tab (product (now (mesh .entry))) (offset (meshDigits (now (mesh .entry)) (now (zs .entry)) [])) ⌝ }
+fn list_firsts(firsts: &mut [usize], strides: &[usize], mesh: &[u16])
+    requires { ⌜ Firsts (now firsts) (now strides) (now mesh) ⌝ }
+    ensures { λ _. ⌜ now (firsts .exit) ≡ tab (product (now (mesh .entry))) (offset (meshDigits (now (mesh .entry)) (now (strides .entry)) [])) ⌝ }
 {
-    let mut row = [0usize; ROOM];
-    digits::mesh_digits(&mut row, zs, mesh, ROOM, 1);
+    let mut digits = [0usize; ROOM];
+    mesh_digits(&mut digits, strides, mesh, ROOM, 1);
     let first = ROOM - 3 * mesh.len();
-    list_offsets(firsts, &row[first..], 0);
+    list_offsets(firsts, &digits[first..], 0);
 }
 
 // Both tables. Answers the number of members of a group.
 fn fill_tables(
     firsts: &mut [usize],
     shifts: &mut [usize],
-    zs: &mut [usize],
+    strides: &mut [usize],
     mesh: &[u16],
     axes: rules::AxisList,
     m: usize,
 ) -> usize
-    requires { ⌜ Tables (now firsts) (now shifts) (now zs) (now mesh) (axesOf axes) m ⌝ }
+    requires { ⌜ Tables (now firsts) (now shifts) (now strides) (now mesh) (axesOf axes) m ⌝ }
     ensures { λ r. ⌜ r ≡ span (now (mesh .entry)) (axesOf axes) ⌝ }
     ensures { λ _. ⌜ now (firsts .exit) ≡ firstWords (now (mesh .entry)) (axesOf axes) m ⌝ }
     ensures { λ r. ⌜ take r (now (shifts .exit)) ≡ shiftWords (now (mesh .entry)) (axesOf axes) m ⌝ }
 {
-    digits::fill_strides(zs, mesh, m);
-    let members = list_shifts(shifts, zs, mesh, axes);
-    list_firsts(firsts, zs, mesh);
+    fill_strides(strides, mesh, m);
+    let members = list_shifts(shifts, strides, mesh, axes);
+    list_firsts(firsts, strides, mesh);
     members
 }
 
@@ -232,37 +240,37 @@ fn sum_with(
     words: &mut [u32],
     firsts: &mut [usize],
     shifts: &mut [usize],
-    zs: &mut [usize],
+    strides: &mut [usize],
     mesh: &[u16],
     axes: rules::AxisList,
     m: usize,
 )
-    requires { ⌜ Tables (now firsts) (now shifts) (now zs) (now mesh) (axesOf axes) m ⌝ }
+    requires { ⌜ Tables (now firsts) (now shifts) (now strides) (now mesh) (axesOf axes) m ⌝ }
     requires { ⌜ product (now mesh) * m ≤ length (now words) ⌝ }
-    ensures { λ _. ⌜ now (words .exit) ≡ tab (product (now (mesh .entry)) * m) (reducedWord (now (words .entry))
+    ensures { λ _. ⌜ now (words .exit) ≡ tab (product (now (mesh .entry)) * m) (reducedWord addWords 0 (now (words .entry))
         (firstWords (now (mesh .entry)) (axesOf axes) m) (shiftWords (now (mesh .entry)) (axesOf axes) m) m) ++ drop (product (now (mesh .entry)) * m)
         (now (words .entry)) ⌝ }
 {
-    let members = fill_tables(firsts, shifts, zs, mesh, axes, m);
+    let members = fill_tables(firsts, shifts, strides, mesh, axes, m);
     reduce_groups(words, firsts, &shifts[0..members], m);
 }
 
 // All-reduce: the new state at the front of words, in place of the old one; the other words stay.
 pub fn reduce_in(words: &mut [u32], mesh: &[u16], shape: &[u16], axes: rules::AxisList)
     requires { ⌜ Reducing (now mesh) (now shape) (axesOf axes) (length (now words)) ⌝ }
-    ensures { λ _. ⌜ now (words .exit) ≡ reducedBuffer (now (mesh .entry)) (now (shape .entry)) (axesOf axes) (now (words .entry)) ⌝ }
+    ensures { λ _. ⌜ now (words .exit) ≡ reducedBuffer addWords 0 (now (mesh .entry)) (now (shape .entry)) (axesOf axes) (now (words .entry)) ⌝ }
 {
     let m = product_from(shape, 0);
     let count = product_from(mesh, 0);
     let n = mesh.len();
-    let mut zs = [0usize; rules::Axis::MOST];
+    let mut strides = [0usize; rules::Axis::MOST];
     let mut firsts = [0usize; rules::Device::MOST];
     let mut shifts = [0usize; rules::Device::MOST];
     sum_with(
         words,
         &mut firsts[0..count],
         &mut shifts,
-        &mut zs[0..n],
+        &mut strides[0..n],
         mesh,
         axes,
         m,

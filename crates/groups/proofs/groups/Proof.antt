@@ -6,7 +6,7 @@ use Rattle.start.proofs.Verdicts.{passed, failed}
 use Rattle.groups.specs.Ordering.{orderOf}
 use Rattle.groups.proofs.Listing.{
   count-few,
-  sizes-fit,
+  on-mesh,
   count-refused,
   sizes-refused,
   axes-refused,
@@ -64,8 +64,10 @@ returns-2 c =
 
 product-from-requires : tie.Need-product-from-requires
 product-from-requires c κs =
-    let a = c .before .before .before .before .before .before .before .before .before .args in
-    fit-sizes (sizes-fit (now (a .mesh)) (passed (c .before .before .judge-sizes .ensures) (c .enum-told3 .given .1)))
+    let n = c .before .before .before in
+    let a = n .before .before .before .before .before .before .args in
+    fit-sizes (on-mesh (now (a .mesh)) (passed (n .before .before .judge-count .ensures) (n .enum-told .given .1))
+    (passed (c .before .before .judge-sizes .ensures) (c .enum-told3 .given .1)))
 
 judge-axes-requires : tie.Need-judge-axes-requires
 judge-axes-requires c κs =

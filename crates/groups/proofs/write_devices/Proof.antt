@@ -19,7 +19,7 @@ len-requires : tie.Need-len-requires Inv-loop μ-loop
 len-requires c κs = search needs
 
 slice-write-out : tie.Need-slice-write-out Inv-loop μ-loop
-slice-write-out c = let p = c .before .before .before .pre in omega (arith, p .fits .some, p .enough)
+slice-write-out c = let p = c .before .before .before .pre in omega (arith, p .fits .devices-pos, p .enough)
 
 loop-holds : tie.Need-loop-holds Inv-loop μ-loop
 loop-holds c =
@@ -59,7 +59,7 @@ turned c =
 
 mul-end : tie.Need-mul-end Inv-loop μ-loop
 mul-end c =
-    omega (arith, turned c .few, c .before .before .before .before .before .before .before .before .before .pre .fits .few)
+    omega (arith, turned c .few, c .before .before .before .before .before .before .before .before .before .pre .fits .devices-few)
 
 repeat-devices-requires : tie.Need-repeat-devices-requires Inv-loop μ-loop
 repeat-devices-requires c κs = turned (c .before) .repeats

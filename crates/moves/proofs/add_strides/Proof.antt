@@ -1,84 +1,30 @@
 use native.Mathlib.Omega.{arith}
-use Prim.Native.Nat.{_≤_, _+_, _-_}
-use mathlib.Core.Path.{_≡_, refl, ap, _∙_}
-use mathlib.Core.List.{_++_}
-use lib.ListN.{length, getD, drop, length-set}
+use Prim.Native.Nat.{_+_, _-_}
+use mathlib.Core.Path.{_≡_, ap, _∙_}
+use lib.ListN.{length, getD}
 use denote.Ref.{now}
-use Rattle.rules.specs.Lists.{tab}
-use Rattle.rules.proofs.Fronts.{front-step, front-behind, front-full}
+use Rattle.rules.proofs.Fronts.{Filled, fill-start, fill-word, fill-end, front-behind}
 use Rattle.moves.proofs.Dims.{from-tab}
 use Rattle.moves.proofs.add_strides.Statement.{statement}
 use Rattle.moves.proofs.add_strides.Tie as tie
 
 abbrev Inv-loop : tie.InvT-loop
-Inv-loop zs₀ ys i₀ zs i = (i ≤ length ys) × (zs ≡ tab i (λ k. getD zs₀ k 0 + getD ys k 0) ++ drop i zs₀) × (length zs ≡ length zs₀)
+Inv-loop strides₀ added i₀ strides i = Filled (λ k. getD strides₀ k 0 + getD added k 0) strides₀ strides i
 
 abbrev μ-loop : tie.MeasureT-loop
-μ-loop zs₀ ys i₀ zs i = length ys - i
-
-loop-holds : tie.Need-loop-holds Inv-loop μ-loop
-loop-holds c = (omega arith, refl, refl)
-
-mul-sum : tie.Need-mul-sum Inv-loop μ-loop
-mul-sum c = omega (arith, c .before .before .pre .places, c .before .loop .inv .2)
-
-slice-read-sum : tie.Need-slice-read-sum Inv-loop μ-loop
-slice-read-sum c = omega (arith, c .before .before .before .pre .places, c .before .before .loop .inv .2)
-
-mul-sum-2 : tie.Need-mul-sum-2 Inv-loop μ-loop
-mul-sum-2 c = omega (arith, c .before .before .before .pre .places, c .before .before .loop .inv .2)
-
-shared-slice-read-sum : tie.Need-shared-slice-read-sum Inv-loop μ-loop
-shared-slice-read-sum c = omega arith
+μ-loop strides₀ added i₀ strides i = length added - i
 
 -- the entry is as it was
 entry : (c : tie.After-shared-slice-known Inv-loop μ-loop)
     → (let s = c .before .before .before .before in
     let l = c .before .before .before in
-    getD (l .loop .zs) (l .loop .i) 0 ≡ getD (now (s .args .zs)) (l .loop .i) 0)
+    getD (l .loop .strides) (l .loop .i) 0 ≡ getD (now (s .args .strides)) (l .loop .i) 0)
 entry c =
     let s = c .before .before .before .before in
     let l = c .before .before .before in
-    let zs = now (s .args .zs) in
-    let ys = now (s .args .ys) in
-    ap (λ t. getD t (l .loop .i) 0) (l .loop .inv .1) ∙ front-behind (λ k. getD zs k 0 + getD ys k 0) zs (l .loop .i)
-
-add-sum : tie.Need-add-sum Inv-loop μ-loop
-add-sum c = omega (arith, entry c, c .before .before .before .before .pre .few (c .before .before .before .loop .i))
-
-mul-zs : tie.Need-mul-zs Inv-loop μ-loop
-mul-zs c = omega (arith, c .before .before .before .before .pre .places, c .before .before .before .loop .inv .2)
-
-slice-write-zs : tie.Need-slice-write-zs Inv-loop μ-loop
-slice-write-zs c = omega (arith, c .before .before .before .before .pre .places, c .before .before .before .loop .inv .2)
-
-add-i : tie.Need-add-i Inv-loop μ-loop
-add-i c = omega arith
-
-loop-less : tie.Need-loop-less Inv-loop μ-loop
-loop-less c = omega arith
-
-loop-again : tie.Need-loop-again Inv-loop μ-loop
-loop-again c =
-    let s = c .before .before .before .before in
-    let l = c .before .before .before in
-    let zs = now (s .args .zs) in
-    let ys = now (s .args .ys) in (
-      omega arith,
-      rw (entry c, l .loop .inv .1) (front-step (λ k. getD zs k 0 + getD ys k 0) zs (l .loop .i) (omega (arith, s .pre .places))),
-      rw length-set (l .loop .inv .2),
-    )
-
-same-length : tie.Need-same-length Inv-loop μ-loop
-same-length c = c .before .loop .inv .2
-
-returns : tie.Need-returns Inv-loop μ-loop
-returns c =
-    let s = c .before .before in
-    let l = c .before in
-    let zs = now (s .args .zs) in
-    let ys = now (s .args .ys) in
-    l .loop .inv .1 ∙ front-full (λ k. getD zs k 0 + getD ys k 0) zs (l .loop .i) (omega (arith, s .pre .places)) ∙ from-tab zs ys (s .pre .places)
+    let strides = now (s .args .strides) in
+    let added = now (s .args .added) in
+    ap (λ t. getD t (l .loop .i) 0) (l .loop .inv .front) ∙ front-behind 0 (λ k. getD strides k 0 + getD added k 0) strides (l .loop .i)
 
 pub add-strides-spec : {M : Type 1} → statement M
 add-strides-spec =
@@ -86,16 +32,18 @@ add-strides-spec =
     (tie.spec
     Inv-loop
     μ-loop
-    loop-holds
-    mul-sum
-    slice-read-sum
-    mul-sum-2
-    shared-slice-read-sum
-    add-sum
-    mul-zs
-    slice-write-zs
-    add-i
-    loop-less
-    loop-again
-    same-length
-    returns)
+    (λ c. fill-start)
+    (λ c. omega (arith, c .before .before .pre .places, c .before .loop .inv .size))
+    (λ c. omega (arith, c .before .before .before .pre .places, c .before .before .loop .inv .size))
+    (λ c. omega (arith, c .before .before .before .pre .places, c .before .before .loop .inv .size))
+    (λ c. omega arith)
+    (λ c. omega (arith, entry c, c .before .before .before .before .pre .few (c .before .before .before .loop .i)))
+    (λ c. omega (arith, c .before .before .before .before .pre .places, c .before .before .before .loop .inv .size))
+    (λ c. omega (arith, c .before .before .before .before .pre .places, c .before .before .before .loop .inv .size))
+    (λ c. omega arith)
+    (λ c. omega arith)
+    (λ c. fill-word (c .before .before .before .loop .inv) (omega (arith, c .before .before .before .before .pre .places))
+    (ap (λ n. n + getD (now (c .before .before .before .before .args .added)) (c .before .before .before .loop .i) 0) (entry c)))
+    (λ c. c .before .loop .inv .size)
+    (λ c. let s = c .before .before in
+    fill-end (c .before .loop .inv) (omega (arith, s .pre .places)) ∙ from-tab (now (s .args .strides)) (now (s .args .added)) (s .pre .places)))

@@ -1,10 +1,12 @@
 use native.Mathlib.Omega.{arith}
-use Prim.Native.Nat.{_-_, _*_}
-use mathlib.Core.Path.{refl, _∙_}
-use lib.ListN.{length}
+use Prim.Native.Nat.{ℕ, _-_, _*_}
+use mathlib.Core.Path.{refl, ap, _∙_}
+use mathlib.Core.List.{List}
+use lib.ListN.{length, drop}
 use denote.Ref.{now}
 use Rattle.rules.specs.Lists.{product}
-use Rattle.digits.specs.Digits.{strides, Devices}
+use Rattle.strided.proofs.Joins.{digit-tail}
+use Rattle.digits.specs.Digits.{meshStrides, meshDigits, Devices}
 use Rattle.moves.specs.Moves.{lists, movedShape, DimensionsAt}
 use Rattle.moves.proofs.Whole.{shape-asked, strides-asked, dims-asked, adding-asked, mesh-asked, digits-are}
 use Rattle.moves.proofs.make_digits.Statement.{statement}
@@ -23,19 +25,6 @@ added c = c .before .before .before .before .before .before .before .before .bef
 abbrev made : tie.After-mesh-digits → tie.After-add-strides
 made c = c .before .before .before .before .before
 
-product-from-requires : tie.Need-product-from-requires
-product-from-requires c κs = shape-asked (c .before .before .before .before .before .pre)
-
-fill-strides-requires : tie.Need-fill-strides-requires
-fill-strides-requires c κs = rw (c .before .product-from .ensures) (strides-asked (c .before .before .before .before .before .before .before .pre))
-
-shape-digits-requires : tie.Need-shape-digits-requires
-shape-digits-requires c κs =
-    let f = c .before .before .before .before .before in
-    let s = filled f in
-    rw (f .fill-strides .ensures, f .before .before .product-from .ensures)
-    (dims-asked (s .pre) (strides (now (s .args .mesh)) (product (now (s .args .shape)))) refl)
-
 -- the digits of the dimensions
 dims : (c : tie.After-shape-digits)
     → (let s = filled (shaped c) in
@@ -44,7 +33,7 @@ dims : (c : tie.After-shape-digits)
     let Gs = lists shape (s .args .gathers) in
     let Ss = lists shape (s .args .slices) in
     let r = c .shape-digits in
-    DimensionsAt mesh shape Gs Ss (strides mesh (product shape)) (now (s .args .ys)) (r .last .0) (r .last .1 .0) (r .last .1 .1 .0) (r .result)
+    DimensionsAt mesh shape Gs Ss (meshStrides mesh (product shape)) (now (s .args .added)) (r .last .0) (r .last .1 .0) (r .last .1 .1 .0) (r .result)
     (product (movedShape mesh shape Gs Ss)) (product shape) 0)
 dims c =
     rw (
@@ -60,60 +49,34 @@ ready c =
     let x = added c in
     mesh-asked (filled (shaped x) .pre) (dims x) (c .add-strides .last .0) (c .add-strides .kept .0) (x .shape-digits .kept .0)
 
-add-strides-requires : tie.Need-add-strides-requires
-add-strides-requires c κs =
-    let x = c .before .before .before .before .before .before .before .before in
-    adding-asked (filled (shaped x) .pre) (dims x) (x .shape-digits .kept .1 .1 .0)
-
-mesh-digits-requires : tie.Need-mesh-digits-requires
-mesh-digits-requires c κs = ready (c .before .before .before .before)
-
-mul-result : tie.Need-mul-result
-mul-result c =
-    let a = made (c .before .before) in
-    let x = added a in
-    let u = ready a in
-    omega (arith, u .front .room, u .front .inside, x .shape-digits .kept .0, filled (shaped x) .pre .room)
-
-sub-result : tie.Need-sub-result
-sub-result c = omega (arith, ready (made (c .before .before)) .front .room)
-
-same-length : tie.Need-same-length
-same-length c = c .before .before .mesh-digits .kept .0 ∙ added (made (c .before .before)) .shape-digits .kept .0
-
-same-length-2 : tie.Need-same-length-2
-same-length-2 c =
-    let a = made (c .before .before) in
-    let x = added a in
-    a .add-strides .kept .0 ∙ x .shape-digits .kept .1 .0 ∙ shaped x .fill-strides .kept .0
-
-same-length-3 : tie.Need-same-length-3
-same-length-3 c = added (made (c .before .before)) .shape-digits .kept .1 .1 .0
-
-returns : tie.Need-returns
-returns c =
-    let m = c .before .before in
-    let a = made m in
-    let x = added a in
-    let s = filled (shaped x) in
-    let first = x .shape-digits .result - 3 * length (now (s .args .mesh)) in
-    let u = ready a in (
-      omega (arith, u .front .inside, x .shape-digits .kept .0, s .pre .room),
-      digits-are (s .pre) (dims x) (m .mesh-digits .last .0) first (rw (a .add-strides .ensures) at (m .mesh-digits .ensures)),
-    )
-
 pub make-digits-spec : {M : Type 1} → statement M
 make-digits-spec =
     tie.close
     (tie.spec
-    product-from-requires
-    fill-strides-requires
-    shape-digits-requires
-    add-strides-requires
-    mesh-digits-requires
-    mul-result
-    sub-result
-    same-length
-    same-length-2
-    same-length-3
-    returns)
+    (λ c κs. shape-asked (c .before .before .before .before .before .pre))
+    (λ c κs. rw (c .before .product-from .ensures) (strides-asked (c .before .before .before .before .before .before .before .pre)))
+    (λ c κs. let f = c .before .before .before .before .before in
+    let s = filled f in
+    rw (f .fill-strides .ensures, f .before .before .product-from .ensures)
+    (dims-asked (s .pre) (meshStrides (now (s .args .mesh)) (product (now (s .args .shape)))) refl))
+    (λ c κs. let x = c .before .before .before .before .before .before .before .before in
+    adding-asked (filled (shaped x) .pre) (dims x) (x .shape-digits .kept .1 .1 .0))
+    (λ c κs. ready (c .before .before .before .before))
+    (λ c. let a = made (c .before .before) in
+    let x = added a in
+    let u = ready a in
+    omega (arith, u .front .room, u .front .inside, x .shape-digits .kept .0, filled (shaped x) .pre .room))
+    (λ c. omega (arith, ready (made (c .before .before)) .front .room))
+    (λ c. c .before .before .mesh-digits .kept .0 ∙ added (made (c .before .before)) .shape-digits .kept .0)
+    (λ c. let a = made (c .before .before) in
+    let x = added a in
+    a .add-strides .kept .0 ∙ x .shape-digits .kept .1 .0 ∙ shaped x .fill-strides .kept .0)
+    (λ c. added (made (c .before .before)) .shape-digits .kept .1 .1 .0)
+    (λ c. let m = c .before .before in
+    let a = made m in
+    let x = added a in
+    let s = filled (shaped x) in
+    let first = x .shape-digits .result - 3 * length (now (s .args .mesh)) in
+    digits-are (s .pre) (dims x) (m .mesh-digits .last .0) first
+    (digit-tail _ first (m .mesh-digits .ensures) (omega (arith, ready a .front .inside))
+    ∙ ap (λ (strides : List ℕ). meshDigits (now (s .args .mesh)) strides (drop (x .shape-digits .result) (x .shape-digits .last .0))) (a .add-strides .ensures))))

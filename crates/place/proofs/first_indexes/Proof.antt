@@ -44,17 +44,20 @@ mul-size c = search needs
 element-copy-out-size : tie.Need-element-copy-out-size Inv-loop μ-loop
 element-copy-out-size c = search needs
 
+cast-position-of : tie.Need-cast-position-of Inv-loop μ-loop
+cast-position-of c = search needs
+
 position-of-requires : tie.Need-position-of-requires Inv-loop μ-loop
 position-of-requires c κs = search needs
 
 first-index-requires : tie.Need-first-index-requires Inv-loop μ-loop
 first-index-requires c κs =
-    let c6 = c .before .before .before .before .before .before in
+    let c6 = c .before .before .before .before .before .before .before in
     let a = c6 .args in
-    let d = c .before .before .before .before .loop .d in
-    let h = c .before .before .before .loop-test .taken in
+    let d = c .before .before .before .before .before .loop .d in
+    let h = c .before .before .before .before .loop-test .taken in
     let p = getD-take (a .t3 .rank) (a .t3 .sizes) d 0 h in
-    let q = list-at (a .sharding) (a .t3 .rank) d _ h (c .before .before .list .ensures) in
+    let q = list-at (a .sharding) (a .t3 .rank) d _ h (c .before .before .before .list .ensures) in
     rw (c .position-of .ensures, q, ← p) (c6 .pre .few d)
 
 mul-first : tie.Need-mul-first Inv-loop μ-loop
@@ -71,7 +74,7 @@ loop-less c = search needs
 
 loop-again : tie.Need-loop-again Inv-loop μ-loop
 loop-again c =
-    let c3 = c .before .before .before in
+    let c3 = c .before .before .before .before in
     let c4 = c3 .before in
     let c5 = c4 .before in
     let a = c5 .before .before .args in
@@ -97,6 +100,7 @@ first-indexes-spec =
     list-requires
     mul-size
     element-copy-out-size
+    cast-position-of
     position-of-requires
     first-index-requires
     mul-first

@@ -1,9 +1,13 @@
 use borrow.Author.Needs.{needs}
 use native.Mathlib.Omega.{arith}
+use Prim.Native.Nat.{ℕ}
 use mathlib.Core.Path.{sym, ap, _∙_}
+use mathlib.Core.List.{List}
 use lib.ListN.{length-map}
 use lib.Seq.{length-take-le}
-use Rattle.rules.specs.Lists.{product}
+use denote.Ref.{now}
+use Rattle.rules.specs.Lists.{pick, product}
+use Rattle.step.specs.Stepping.{inPlace}
 use Rattle.run.proofs.Done.{turn-ready, taken-is, turn-asks, turn-leaves}
 use Rattle.run.proofs.do_step.Statement.{statement}
 use Rattle.run.proofs.do_step.Tie as tie
@@ -65,7 +69,9 @@ returns c =
     let s = b .before .before .before .before .before .before .before in
     let e = u .words .ensures ∙ ap product (u .before .shard-of2 .ensures .1) in
     let l = sym (slice-aggregate-step-from-2 (o .before)) ∙ b .shard-of .ensures .0 in
-    (t .ensures, turn-leaves (s .pre) (taken-is (s .pre) (t .result) (t .ensures)) (b .shard-of .ensures .1) l e _ _ (o .step-from .ensures))
+    let n = turn-leaves (s .pre) (taken-is (s .pre) (t .result) (t .ensures)) (b .shard-of .ensures .1) l e in
+    let k = inPlace (t .result .step .kind) in
+    (t .ensures, (o .step-from .ensures .0 ∙ ap (λ (x : List ℕ). pick k x (now (s .args .here))) (n _ _), o .step-from .ensures .1 ∙ ap (pick k (now (s .args .there))) (n _ _)))
 
 pub do-step-spec : {M : Type 1} → statement M
 do-step-spec =

@@ -1,6 +1,6 @@
 use borrow.Author.Needs.{needs}
-use mathlib.Core.Bool.{true, false}
-use Rattle.run.proofs.Done.{turn-back, turned}
+use Rattle.run.specs.Turns.{nextBuffer}
+use Rattle.run.proofs.Done.{turn-back, from-work, from-spare}
 use Rattle.run.proofs.do_turn.Statement.{statement}
 use Rattle.run.proofs.do_turn.Tie as tie
 
@@ -17,7 +17,7 @@ returns : tie.Need-returns
 returns c =
     let d = c .before .before .before .before in
     let s = d .before .before .before .before .before .before .before in
-    (d .do-step .ensures .0, rw (d .before .before .before .if1 .taken) (turned (s .args .whole) (s .args .sharding) (d .do-step .result) true _ _ _ _ (d .do-step .ensures .1)))
+    (d .do-step .ensures .0, rw (d .before .before .before .if1 .taken) (from-work (d .do-step .result .step .kind) _ _ (nextBuffer (s .args .whole) (s .args .sharding) (d .do-step .result) _) (d .do-step .ensures .1)))
 
 do-step-requires-2 : tie.Need-do-step-requires-2
 do-step-requires-2 c κs = turn-back (c .before .before .before .before .before .before .pre)
@@ -32,7 +32,7 @@ returns-2 : tie.Need-returns-2
 returns-2 c =
     let d = c .before .before .before .before in
     let s = d .before .before .before .before .before .before .before in
-    (d .do-step2 .ensures .0, rw (d .before .before .before .if1 .left) (turned (s .args .whole) (s .args .sharding) (d .do-step2 .result) false _ _ _ _ (d .do-step2 .ensures .1)))
+    (d .do-step2 .ensures .0, rw (d .before .before .before .if1 .left) (from-spare (d .do-step2 .result .step .kind) _ _ (nextBuffer (s .args .whole) (s .args .sharding) (d .do-step2 .result) _) (d .do-step2 .ensures .1)))
 
 pub do-turn-spec : {M : Type 1} → statement M
 do-turn-spec =

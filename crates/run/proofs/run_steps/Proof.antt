@@ -76,7 +76,7 @@ loop-again c =
     let e = d .do-turn .ensures in
     let w : length (d .do-turn .last .1 .1 .1 .1 .1 .1 .0) ≡ length (t .before .loop .work) = search needs in
     let s : length (d .do-turn .last .1 .1 .1 .1 .1 .1 .1 .0) ≡ length (t .before .loop .spare) = search needs in
-    (onward (i .0) (t .loop-test .taken) (d .do-turn .result) (e .0) _ _ (n .next .given .1) (c .stands-after .ensures) (e .1) w s, w ∙ i .1, s ∙ i .2)
+    (onward (i .0) (t .loop-test .taken) (d .do-turn .result) (e .0) _ _ (n .next .given .1) (c .stands-after .ensures) (e .1 .0) (e .1 .1) w s, w ∙ i .1, s ∙ i .2)
 
 same-length-3 : tie.Need-same-length-3 Inv-loop μ-loop
 same-length-3 c = c .before .loop .inv .1

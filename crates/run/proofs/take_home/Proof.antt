@@ -51,7 +51,7 @@ loop-again c =
     let s = l .before in
     let i = l .loop .i in
     let word : ℕ → ℕ = λ k. getD (now (s .args .spare)) k 0 in
-    let v : getD (l .loop .spare) i 0 ≡ word i = ap (λ (b : List ℕ). getD b i 0) (l .loop .inv .2) ∙ front-behind (λ k. 0) (now (s .args .spare)) i in (
+    let v : getD (l .loop .spare) i 0 ≡ word i = ap (λ (b : List ℕ). getD b i 0) (l .loop .inv .2) ∙ front-behind 0 (λ k. 0) (now (s .args .spare)) i in (
       omega arith,
       ap₂ (λ (b : List ℕ) (w : ℕ). set b i w) (l .loop .inv .1) v ∙ front-step word (now (s .args .work)) i (omega arith),
       rw (l .loop .inv .2) (front-step (λ k. 0) (now (s .args .spare)) i (omega arith)),
@@ -71,7 +71,7 @@ returns c =
     let s = l .before in
     let spare = now (s .args .spare) in
     let word : ℕ → ℕ = λ k. getD spare k 0 in (
-      l .loop .inv .1 ∙ front-full word (now (s .args .work)) (l .loop .i) (omega arith) ∙ ap (λ n. tab n word) (s .pre) ∙ sym (whole-tab spare),
+      l .loop .inv .1 ∙ front-full word (now (s .args .work)) (l .loop .i) (omega arith) ∙ ap (λ n. tab n word) (s .pre) ∙ sym (whole-tab 0 spare),
       l .loop .inv .2 ∙ front-full (λ k. 0) spare (l .loop .i) (omega arith) ∙ tab-same (length spare) 0,
     )
 

@@ -19,48 +19,26 @@ Inv-loop words₀ at a m t₀ words t = (t ≤ m) × (words ≡ written words₀
 abbrev μ-loop : tie.MeasureT-loop
 μ-loop words₀ at a m t₀ words t = m - t
 
-loop-holds : tie.Need-loop-holds Inv-loop μ-loop
-loop-holds c = let s = c .before .args in (omega arith, write-start (now (s .words)) (s .at) (added (now (s .words)) (s .at) (s .a)), refl)
-
-add-wrapping-add-u32 : tie.Need-add-wrapping-add-u32 Inv-loop μ-loop
-add-wrapping-add-u32 c = omega arith
-
-mul-wrapping-add-u32 : tie.Need-mul-wrapping-add-u32 Inv-loop μ-loop
-mul-wrapping-add-u32 c = omega arith
-
-slice-read-wrapping-add-u32 : tie.Need-slice-read-wrapping-add-u32 Inv-loop μ-loop
-slice-read-wrapping-add-u32 c = omega arith
-
-add-wrapping-add-u32-2 : tie.Need-add-wrapping-add-u32-2 Inv-loop μ-loop
-add-wrapping-add-u32-2 c = omega arith
-
-mul-wrapping-add-u32-2 : tie.Need-mul-wrapping-add-u32-2 Inv-loop μ-loop
-mul-wrapping-add-u32-2 c = omega arith
-
-slice-read-wrapping-add-u32-2 : tie.Need-slice-read-wrapping-add-u32-2 Inv-loop μ-loop
-slice-read-wrapping-add-u32-2 c = omega arith
-
-wrapping-add-u32-requires : tie.Need-wrapping-add-u32-requires Inv-loop μ-loop
-wrapping-add-u32-requires c κs = search needs
-
-add-words : tie.Need-add-words Inv-loop μ-loop
-add-words c = omega arith
-
-mul-words : tie.Need-mul-words Inv-loop μ-loop
-mul-words c = omega arith
-
-slice-write-words : tie.Need-slice-write-words Inv-loop μ-loop
-slice-write-words c = omega arith
-
-add-t : tie.Need-add-t Inv-loop μ-loop
-add-t c = omega arith
-
-loop-less : tie.Need-loop-less Inv-loop μ-loop
-loop-less c = omega arith
-
-loop-again : tie.Need-loop-again Inv-loop μ-loop
-loop-again c =
-    let l = c .before .before .before .before in
+pub add-one-spec : {M : Type 1} → statement M
+add-one-spec =
+    tie.close
+    (tie.spec
+    Inv-loop
+    μ-loop
+    (λ c. let s = c .before .args in (omega arith, write-start 0 (now (s .words)) (s .at) (added (now (s .words)) (s .at) (s .a)), refl))
+    (λ c. omega arith)
+    (λ c. omega arith)
+    (λ c. omega arith)
+    (λ c. omega arith)
+    (λ c. omega arith)
+    (λ c. omega arith)
+    (λ c κs. search needs)
+    (λ c. omega arith)
+    (λ c. omega arith)
+    (λ c. omega arith)
+    (λ c. omega arith)
+    (λ c. omega arith)
+    (λ c. let l = c .before .before .before .before in
     let s = c .before .before .before .before .before .before in
     let t = l .loop .t in
     let w = now (s .args .words) in
@@ -70,42 +48,14 @@ loop-again c =
     let e : c .wrapping-add-u32 .result ≡ word t =
     c .wrapping-add-u32 .ensures ∙ rw (
       l .loop .inv .1,
-      read-behind w (s .args .at) t word (s .args .at + t) (omega arith) (omega arith),
-      read-behind w (s .args .at) t word (s .args .a + t) (omega arith) (omega arith),
+      read-behind 0 w (s .args .at) t word (s .args .at + t) (omega arith) (omega arith),
+      read-behind 0 w (s .args .at) t word (s .args .a + t) (omega arith) (omega arith),
     ) in (
       omega arith,
-      rw (l .loop .inv .1, e) (write-step w (s .args .at) t word (omega arith)),
+      rw (l .loop .inv .1, e) (write-step 0 w (s .args .at) t word (omega arith)),
       rw length-set (l .loop .inv .2),
-    )
-
-same-length : tie.Need-same-length Inv-loop μ-loop
-same-length c = c .before .loop .inv .2
-
-returns : tie.Need-returns Inv-loop μ-loop
-returns c =
-    let l = c .before in
+    ))
+    (λ c. c .before .loop .inv .2)
+    (λ c. let l = c .before in
     let e : l .loop .t ≡ c .before .before .before .args .m = omega arith in
-    rw e at (l .loop .inv .1)
-
-pub add-one-spec : {M : Type 1} → statement M
-add-one-spec =
-    tie.close
-    (tie.spec
-    Inv-loop
-    μ-loop
-    loop-holds
-    add-wrapping-add-u32
-    mul-wrapping-add-u32
-    slice-read-wrapping-add-u32
-    add-wrapping-add-u32-2
-    mul-wrapping-add-u32-2
-    slice-read-wrapping-add-u32-2
-    wrapping-add-u32-requires
-    add-words
-    mul-words
-    slice-write-words
-    add-t
-    loop-less
-    loop-again
-    same-length
-    returns)
+    rw e at (l .loop .inv .1)))

@@ -6,7 +6,7 @@ use denote.Ref.{now}
 use Rattle.rules.specs.Lists.{tab}
 use Rattle.rules.specs.Types.{axesOf}
 use Rattle.strided.specs.Strided.{offset}
-use Rattle.digits.specs.Digits.{strides, cleared, axisDigits}
+use Rattle.digits.specs.Digits.{meshStrides, cleared, axisDigits}
 use Rattle.sums.specs.Sums.{firstWords, shiftWords}
 use Rattle.sums.proofs.Tables.{strides-asked, shifts-asked, firsts-asked}
 use Rattle.sums.proofs.fill_tables.Statement.{statement}
@@ -22,33 +22,11 @@ shifted c = c .before .before .before .before .before
 abbrev placed : tie.After-list-firsts → tie.After-list-shifts
 placed c = c .before .before .before .before .before .before .before
 
-fill-strides-requires : tie.Need-fill-strides-requires
-fill-strides-requires c κs = strides-asked (c .before .before .before .before .before .pre)
-
-list-shifts-requires : tie.Need-list-shifts-requires
-list-shifts-requires c κs =
-    let f = c .before .before .before .before in
-    shifts-asked (filled f .pre) (f .fill-strides .last .0) (f .fill-strides .ensures)
-
 -- the strides that are left
 left : (c : tie.After-list-shifts)
     → (let s = filled (shifted c) in
-    c .list-shifts .last .1 .0 ≡ cleared (axesOf (s .args .axes)) (strides (now (s .args .mesh)) (s .args .m)))
+    c .list-shifts .last .1 .0 ≡ cleared (axesOf (s .args .axes)) (meshStrides (now (s .args .mesh)) (s .args .m)))
 left c = c .list-shifts .ensures .1 .1 ∙ ap (cleared (axesOf (filled (shifted c) .args .axes))) (shifted c .fill-strides .ensures)
-
-list-firsts-requires : tie.Need-list-firsts-requires
-list-firsts-requires c κs =
-    let x = c .before .before .before .before .before .before in
-    firsts-asked (filled (shifted x) .pre) (x .list-shifts .last .1 .0) (left x)
-
-same-length : tie.Need-same-length
-same-length c = search needs
-
-same-length-2 : tie.Need-same-length-2
-same-length-2 c = search needs
-
-same-length-3 : tie.Need-same-length-3
-same-length-3 c = search needs
 
 -- the members' shifts
 shifts : (c : tie.After-list-shifts)
@@ -59,25 +37,23 @@ unfolding shiftWords
 shifts c =
     let s = filled (shifted c) in
     let mesh = now (s .args .mesh) in
-    let made = axisDigits mesh (axesOf (s .args .axes)) (strides mesh (s .args .m)) [] in
+    let made = axisDigits mesh (axesOf (s .args .axes)) (meshStrides mesh (s .args .m)) [] in
     rw (c .before .before .before .before .before .fill-strides .ensures) at (c .list-shifts .ensures .1 .0)
     ∙ ap (λ n. tab n (offset made)) (c .list-shifts .ensures .0)
 
-returns : tie.Need-returns
-unfolding firstWords
-returns c =
-    let p = c .before .before in
-    let x = placed p in
-    (x .list-shifts .ensures .0, (rw (left x) at (p .list-firsts .ensures), shifts x))
-
 pub fill-tables-spec : {M : Type 1} → statement M
+unfolding firstWords
 fill-tables-spec =
     tie.close
     (tie.spec
-    fill-strides-requires
-    list-shifts-requires
-    list-firsts-requires
-    same-length
-    same-length-2
-    same-length-3
-    returns)
+    (λ c κs. strides-asked (c .before .before .before .before .before .pre))
+    (λ c κs. let f = c .before .before .before .before in
+    shifts-asked (filled f .pre) (f .fill-strides .last .0) (f .fill-strides .ensures))
+    (λ c κs. let x = c .before .before .before .before .before .before in
+    firsts-asked (filled (shifted x) .pre) (x .list-shifts .last .1 .0) (left x))
+    (λ c. search needs)
+    (λ c. search needs)
+    (λ c. search needs)
+    (λ c. let p = c .before .before in
+    let x = placed p in
+    (x .list-shifts .ensures .0, (rw (left x) at (p .list-firsts .ensures), shifts x))))

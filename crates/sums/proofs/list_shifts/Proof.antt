@@ -14,8 +14,9 @@ use Rattle.rules.specs.Types.{axesOf}
 use Rattle.rules.proofs.Lists.{length-tab}
 use Rattle.rules.proofs.Types.{axes-length}
 use Rattle.strided.specs.Strided.{offset}
+use Rattle.strided.proofs.Joins.{digit-tail}
 use Rattle.digits.specs.Digits.{axisDigits}
-use Rattle.sums.specs.Sums.{rowRoom}
+use Rattle.sums.specs.Sums.{axisRoom}
 use Rattle.rules.proofs.Fronts.{tail-all, lent-taken}
 use Rattle.sums.proofs.Tables.{axes-offsets, from-zero}
 use Rattle.sums.proofs.list_shifts.Statement.{statement}
@@ -24,35 +25,6 @@ use Rattle.sums.proofs.list_shifts.Tie as tie
 count : (s : tie.Start) → length (axesOf (s .args .axes)) ≤ mostAxes
 count s = omega (arith, axes-length (s .args .axes) (simp length-map at (s .good .1 .1 .1 .0 .1 .1 .1 .0 .1 .0 .1)))
 
-slice-aggregate-axis-digits : tie.Need-slice-aggregate-axis-digits
-slice-aggregate-axis-digits c = search needs
-
-axis-digits-requires : tie.Need-axis-digits-requires
-axis-digits-requires c κs =
-    let s = c .before .before .before .before .before in
-    record {
-      front = record { room = omega (arith, count s); inside = omega arith; count = refl; filled = omega arith };
-      of-mesh = s .pre .of-mesh;
-      devices = s .pre .devices;
-      places = s .pre .places;
-      few = omega (arith, s .pre .members, mul-one (span (now (s .args .mesh)) (axesOf (s .args .axes))));
-    }
-
-len-requires : tie.Need-len-requires
-len-requires c κs = search needs
-
-mul-first : tie.Need-mul-first
-mul-first c = omega (arith, count (c .before .before .before .before .before .before .before .before .before .before))
-
-sub-first : tie.Need-sub-first
-sub-first c = omega (arith, count (c .before .before .before .before .before .before .before .before .before .before), c .len .ensures)
-
-sub-list-offsets : tie.Need-sub-list-offsets
-sub-list-offsets c = search needs
-
-part-list-offsets-start : tie.Need-part-list-offsets-start
-part-list-offsets-start c = search needs
-
 -- the members, and the digits that list them
 members : (c : tie.After-axis-digits) → (let s = c .before .before .before .before .before .before in
     c .axis-digits .result ≡ span (now (s .args .mesh)) (axesOf (s .args .axes)))
@@ -60,55 +32,52 @@ members c =
     let s = c .before .before .before .before .before .before in
     c .axis-digits .ensures .0 ∙ mul-one (span (now (s .args .mesh)) (axesOf (s .args .axes)))
 
-part-list-offsets-end : tie.Need-part-list-offsets-end
-part-list-offsets-end c =
-    omega (
+pub list-shifts-spec : {M : Type 1} → statement M
+list-shifts-spec =
+    tie.close
+    (tie.spec
+    (λ c. search needs)
+    (λ c κs. let s = c .before .before .before .before .before in
+    record {
+      front = record { room = omega (arith, count s); inside = omega arith; count = refl; filled = omega arith };
+      of-mesh = s .pre .of-mesh;
+      has = s .pre .has;
+      few = omega (arith, s .pre .members, mul-one (span (now (s .args .mesh)) (axesOf (s .args .axes))));
+    })
+    (λ c κs. search needs)
+    (λ c. omega (arith, count (c .before .before .before .before .before .before .before .before .before .before)))
+    (λ c. omega (arith, count (c .before .before .before .before .before .before .before .before .before .before), c .len .ensures))
+    (λ c. search needs)
+    (λ c. search needs)
+    (λ c. omega (
       arith,
       c .before .before .before .before .before .before .before .before .before .before .pre .room,
       members (c .before .before .before .before),
-    )
-
-mul-list-offsets : tie.Need-mul-list-offsets
-mul-list-offsets c = search needs
-
-sub-list-offsets-2 : tie.Need-sub-list-offsets-2
-sub-list-offsets-2 c = search needs
-
-part-list-offsets-start-2 : tie.Need-part-list-offsets-start-2
-part-list-offsets-start-2 c = search needs
-
-part-list-offsets-end-2 : tie.Need-part-list-offsets-end-2
-part-list-offsets-end-2 c = search needs
-
-list-offsets-requires : tie.Need-list-offsets-requires
-list-offsets-requires c κs =
-    let s = c .before .before .before .before .before .before .before .before .before .before .before .before .before in
+    ))
+    (λ c. search needs)
+    (λ c. search needs)
+    (λ c. search needs)
+    (λ c. search needs)
+    (λ c κs. let s = c .before .before .before .before .before .before .before .before .before .before .before .before .before in
     let r = c .before .before .before .before .before .before .before .axis-digits in
-    let first = rowRoom - 3 * length (axesOf (s .args .axes)) in
+    let first = axisRoom - 3 * length (axesOf (s .args .axes)) in
     rw (
       c .before .before .before .len .ensures,
-      tail-all (r .last .0) first (rowRoom - first) (omega (arith, count s, r .kept .0)) ∙ r .ensures .1 .0,
+      tail-all (r .last .0) first (axisRoom - first) (omega (arith, count s, r .kept .0)) ∙ digit-tail _ first (r .ensures .1 .0) (omega arith),
       sub-zero (r .result),
       members (c .before .before .before .before .before .before .before),
       length-take-le (span (now (s .args .mesh)) (axesOf (s .args .axes))) (now (s .args .shifts)) (s .pre .room),
-    ) (axes-offsets (s .pre))
-
-same-length : tie.Need-same-length
-same-length c = search needs
-
-same-length-2 : tie.Need-same-length-2
-same-length-2 c = search needs
-
-returns : tie.Need-returns
-returns c =
-    let s = c .before .before .before .before .before .before .before .before .before .before .before .before .before .before .before .before in
+    ) (axes-offsets (s .pre)))
+    (λ c. search needs)
+    (λ c. search needs)
+    (λ c. let s = c .before .before .before .before .before .before .before .before .before .before .before .before .before .before .before .before in
     let r = c .before .before .before .before .before .before .before .before .before .before .axis-digits in
-    let made = axisDigits (now (s .args .mesh)) (axesOf (s .args .axes)) (now (s .args .zs)) [] in
-    let first = rowRoom - 3 * length (axesOf (s .args .axes)) in
+    let made = axisDigits (now (s .args .mesh)) (axesOf (s .args .axes)) (now (s .args .strides)) [] in
+    let first = axisRoom - 3 * length (axesOf (s .args .axes)) in
     let listed : c .before .before .list-offsets .last .0 ≡ tab (r .result) (offset made) =
     rw (
       c .before .before .before .before .before .before .len .ensures,
-      tail-all (r .last .0) first (rowRoom - first) (omega (arith, count s, r .kept .0)) ∙ r .ensures .1 .0,
+      tail-all (r .last .0) first (axisRoom - first) (omega (arith, count s, r .kept .0)) ∙ digit-tail _ first (r .ensures .1 .0) (omega arith),
       sub-zero (r .result),
       length-take-le (r .result) (now (s .args .shifts))
           (omega (arith, members (c .before .before .before .before .before .before .before .before .before .before), s .pre .room)),
@@ -120,25 +89,4 @@ returns c =
             (ap length listed ∙ length-tab (r .result) (offset made)) ∙ listed,
         r .ensures .1 .1,
       ),
-    )
-
-pub list-shifts-spec : {M : Type 1} → statement M
-list-shifts-spec =
-    tie.close
-    (tie.spec
-    slice-aggregate-axis-digits
-    axis-digits-requires
-    len-requires
-    mul-first
-    sub-first
-    sub-list-offsets
-    part-list-offsets-start
-    part-list-offsets-end
-    mul-list-offsets
-    sub-list-offsets-2
-    part-list-offsets-start-2
-    part-list-offsets-end-2
-    list-offsets-requires
-    same-length
-    same-length-2
-    returns)
+    )))

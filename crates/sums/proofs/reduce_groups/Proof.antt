@@ -5,70 +5,16 @@ use mathlib.Core.Logic.{⊎-elim}
 use lib.ListN.{length, getD}
 use denote.Ref.{now}
 use Rattle.rules.proofs.Fronts.{part-in}
+use Rattle.rules.specs.Spread.{addWords}
 use Rattle.sums.proofs.Sharing.{Upto, upto-start, upto-group, upto-skip, upto-end}
 use Rattle.sums.proofs.reduce_groups.Statement.{statement}
 use Rattle.sums.proofs.reduce_groups.Tie as tie
 
 abbrev Inv-loop : tie.InvT-loop
-Inv-loop words₀ firsts shifts m d₀ words d = (d ≤ length firsts) × Upto words₀ firsts shifts m d words × (length words ≡ length words₀)
+Inv-loop words₀ firsts shifts m d₀ words d = (d ≤ length firsts) × Upto addWords 0 words₀ firsts shifts m d words × (length words ≡ length words₀)
 
 abbrev μ-loop : tie.MeasureT-loop
 μ-loop words₀ firsts shifts m d₀ words d = length firsts - d
-
-loop-holds : tie.Need-loop-holds Inv-loop μ-loop
-loop-holds c =
-    let s = c .before .before .before .args in
-    (omega arith, upto-start (now (s .words)) (now (s .firsts)) (now (s .shifts)) (s .m), refl)
-
-mul-at : tie.Need-mul-at Inv-loop μ-loop
-mul-at c =
-    let s = c .before .before .before .before .before in
-    omega (
-      arith,
-      part-in (c .before .loop .d) (length (now (s .args .firsts))) (s .args .m) (length (now (s .args .words))) (c .loop-test .taken) (s .pre .room),
-    )
-
-mul-if1 : tie.Need-mul-if1 Inv-loop μ-loop
-mul-if1 c = omega arith
-
-shared-slice-read-if1 : tie.Need-shared-slice-read-if1 Inv-loop μ-loop
-shared-slice-read-if1 c = omega arith
-
-reduce-group-requires : tie.Need-reduce-group-requires Inv-loop μ-loop
-reduce-group-requires c κs =
-    let s = c .before .before .before .before .before .before .before .before in
-    let l = c .before .before .before .before in
-    let e : getD (now (s .args .firsts)) (l .loop .d) 0 ≡ l .loop .d * s .args .m = omega (arith, c .before .if1 .taken) in
-    rw (l .loop .inv .2, ← e) (s .pre .groups (l .loop .d) (c .before .before .before .loop-test .taken))
-
-add-d : tie.Need-add-d Inv-loop μ-loop
-add-d c = omega arith
-
-loop-less : tie.Need-loop-less Inv-loop μ-loop
-loop-less c = omega arith
-
-loop-again : tie.Need-loop-again Inv-loop μ-loop
-loop-again c =
-    let s = c .before .before .before .before .before .before .before in
-    let l = c .before .before .before in
-    let t = c .before .before .loop-test .taken in
-    let w = now (s .args .words) in (
-      omega (arith, t),
-      ⊎-elim (λ a. rw (a .5) (upto-group w (s .pre) (l .loop .d) (l .loop .words) (a .2 .last .0) t (omega (arith, a .0 .taken)) (l .loop .inv .1)
-          (a .2 .ensures)))
-          (λ a. rw (a .1) (upto-skip w (s .pre) (l .loop .d) (l .loop .words) (a .0 .left) (l .loop .inv .1))) (c .if1 .came),
-      ⊎-elim (λ a. rw (a .5) (a .2 .kept .0 ∙ l .loop .inv .2)) (λ a. rw (a .1) (l .loop .inv .2)) (c .if1 .came),
-    )
-
-same-length : tie.Need-same-length Inv-loop μ-loop
-same-length c = c .before .loop .inv .2
-
-returns : tie.Need-returns Inv-loop μ-loop
-returns c =
-    let l = c .before in
-    let s = c .before .before .before .before .before in
-    let e : l .loop .d ≡ length (now (s .args .firsts)) = omega arith in
-    upto-end (now (s .args .words)) (s .pre) (l .loop .words) (l .loop .inv .2) (rw e at (l .loop .inv .1))
 
 pub reduce-groups-spec : {M : Type 1} → statement M
 reduce-groups-spec =
@@ -76,13 +22,33 @@ reduce-groups-spec =
     (tie.spec
     Inv-loop
     μ-loop
-    loop-holds
-    mul-at
-    mul-if1
-    shared-slice-read-if1
-    reduce-group-requires
-    add-d
-    loop-less
-    loop-again
-    same-length
-    returns)
+    (λ c. let s = c .before .before .before .args in
+    (omega arith, upto-start addWords 0 (now (s .words)) (now (s .firsts)) (now (s .shifts)) (s .m), refl))
+    (λ c. let s = c .before .before .before .before .before in
+    omega (
+      arith,
+      part-in (c .before .loop .d) (length (now (s .args .firsts))) (s .args .m) (length (now (s .args .words))) (c .loop-test .taken) (s .pre .room),
+    ))
+    (λ c. omega arith)
+    (λ c. omega arith)
+    (λ c κs. let s = c .before .before .before .before .before .before .before .before in
+    let l = c .before .before .before .before in
+    let e : getD (now (s .args .firsts)) (l .loop .d) 0 ≡ l .loop .d * s .args .m = omega (arith, c .before .if1 .taken) in
+    rw (l .loop .inv .2, ← e) (s .pre .groups (l .loop .d) (c .before .before .before .loop-test .taken)))
+    (λ c. omega arith)
+    (λ c. omega arith)
+    (λ c. let s = c .before .before .before .before .before .before .before in
+    let l = c .before .before .before in
+    let t = c .before .before .loop-test .taken in
+    let w = now (s .args .words) in (
+      omega (arith, t),
+      ⊎-elim (λ a. rw (a .5) (upto-group addWords 0 w (s .pre) (l .loop .d) (l .loop .words) (a .2 .last .0) t (omega (arith, a .0 .taken)) (l .loop .inv .1)
+          (a .2 .ensures)))
+          (λ a. rw (a .1) (upto-skip addWords 0 w (s .pre) (l .loop .d) (l .loop .words) (a .0 .left) (l .loop .inv .1))) (c .if1 .came),
+      ⊎-elim (λ a. rw (a .5) (a .2 .kept .0 ∙ l .loop .inv .2)) (λ a. rw (a .1) (l .loop .inv .2)) (c .if1 .came),
+    ))
+    (λ c. c .before .loop .inv .2)
+    (λ c. let l = c .before in
+    let s = c .before .before .before .before .before in
+    let e : l .loop .d ≡ length (now (s .args .firsts)) = omega arith in
+    upto-end addWords 0 (now (s .args .words)) (s .pre) (l .loop .words) (l .loop .inv .2) (rw e at (l .loop .inv .1))))
