@@ -18,5 +18,6 @@ pub mod Next
 pub mod Whole
 pub mod Refusing
 pub mod Locality
+pub mod Stands
 pub mod Moves
 pub mod Promises

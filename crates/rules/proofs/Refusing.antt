@@ -28,6 +28,7 @@ use Rattle.rules.specs.PlanFile.{
   axesAllowed,
   rankAllowed,
   judgeHeader,
+  judgeHeaderBy,
   judgeSizes,
   sizesAt,
   listAt,
@@ -51,8 +52,10 @@ use Rattle.rules.specs.PlanFile.{
   judgeStep,
   stepsAt,
   judgeFront,
+  judgeFrontBy,
   Plan,
   judge,
+  judgeBy,
   room,
 }
 use Rattle.rules.specs.Calls.{checkOf, placeOf, groupsOf, runnable, runLeaves, runOf}
@@ -131,7 +134,7 @@ module _ (P : ℕ → ℕ → Type 0) where
 
   module _ (out : (n : ℕ) → T (mem n fileNumbers) → P n 0) where
     header-refuses : (file : List ℕ) → Refuses (judgeHeader file)
-    unfolding judgeHeader mem
+    unfolding judgeHeaderBy mem
     header-refuses file =
         tests 0 (leb leastBytes (length file)) 1 _ (out 1 tt)
         (tests 0 (leb (length file) mostBytes) 2 _ (out 2 tt)
@@ -175,7 +178,7 @@ module _ (P : ℕ → ℕ → Type 0) where
         (test 0 (divisible mesh sizes (s .dims)) 17 (out 17 tt)))
 
     front-refuses : (file : List ℕ) → Refuses (judgeFront file)
-    unfolding judgeFront mem
+    unfolding judgeFrontBy mem
     front-refuses file =
         next _ _ (header-refuses file)
         (bind _ _ (section-refuses mostDevices 10 11 (axisCount file) (meshOffset file) file 18 (out 10 tt) (out 11 tt))
@@ -242,7 +245,7 @@ listed numbers steps n t = inl (mem-in n numbers t, refl)
 
 -- the refusals of a file are numbered, among other numbers of a call too
 judge-refuses : (numbers : List ℕ) → ((n : ℕ) → In n fileNumbers → In n numbers) → (file : List ℕ) → Refuses (Numbered numbers (stepCount file)) (judge file)
-unfolding judge mem
+unfolding judgeBy mem
 judge-refuses numbers all file =
     let P : ℕ → ℕ → Type 0 = Numbered numbers (stepCount file) in
     let out : (n : ℕ) → T (mem n fileNumbers) → P n 0 = λ n t. inl (all n (mem-in n fileNumbers t), refl) in

@@ -1,5 +1,5 @@
--- The states of an accepted plan: each is a sharding, its shards have some words and at most the limit, its axes divide the devices, and the room
--- holds it (`state`); the room is bounded (`room-few`). Records that omega reads. Assumes nothing.
+-- A shard has some words and at most the limit, under any sharding (`shard-words`). The states of an accepted plan: each is a sharding, its axes
+-- divide the devices, and the room holds it (`state`); the room is bounded (`room-few`). Records that omega reads. Assumes nothing.
 use Prim.Native.Nat.{ℕ, zero, suc, _+_, _*_, _<_, _≤_, max}
 use mathlib.Core.Path.{_≡_, sym, subst}
 use mathlib.Core.List.{List, [], _∷_, _++_}
@@ -9,14 +9,14 @@ use native.Mathlib.Decide.{ℕ-discrete}
 use lib.ListN.{length, take}
 use Rattle.rules.specs.Lists.{tab, inTurn, flat, product, largest}
 use Rattle.rules.specs.Mesh.{span, devices, remaining}
-use Rattle.rules.specs.Sharding.{Sharding, named, IsSharding}
+use Rattle.rules.specs.Sharding.{Sharding, named, shardSizes, IsSharding}
 use Rattle.rules.specs.Collectives.{Step, after}
 use Rattle.rules.specs.Limits.{mostDevices, mostWords}
 use Rattle.rules.specs.PlanFile.{Plan, announced, announcedShape, room}
 use Rattle.rules.proofs.Groups.{groups-devices}
 use Rattle.rules.proofs.Sizes.{cut-product, span-pos}
 use Rattle.rules.proofs.Steps.{after-sharding, sharding-cut}
-use Rattle.rules.proofs.Accepted.{Fine, AcceptedPlan}
+use Rattle.rules.proofs.Accepted.{Fine, Within, AcceptedPlan}
 
 -- ---- the largest of numbers
 
@@ -43,6 +43,23 @@ fine-take mesh sizes zero s ts f = tt
 fine-take mesh sizes (suc k) s [] f = tt
 fine-take mesh sizes (suc k) s (t ∷ ts) f = (f .0, fine-take mesh sizes k (after t s) ts (f .1))
 
+-- the words of a shard under a sharding: some, and at most the limit
+pub record ShardWords (words : ℕ) : Type 0 where
+  pub words-pos : 0 < words
+  pub words-few : words ≤ mostWords
+
+pub shard-words : (mesh sizes : List ℕ) → Within mesh sizes → (s : Sharding) → IsSharding mesh sizes s → ShardWords (product (shardSizes mesh sizes (s .dims)))
+shard-words mesh sizes w s h =
+    let m : ℕ = product (shardSizes mesh sizes (s .dims)) in
+    let g : ℕ = span mesh (flat (s .dims)) in
+    let e : product sizes ≡ m * g = cut-product mesh (sharding-cut mesh sizes (w .sizes-pos) s h) in
+    let few : m ≤ product sizes = subst (λ z. m ≤ z) (sym e) (le-mul-of-pos-right m (span-pos mesh (w .sizes-pos) (flat (s .dims)))) in
+    record { words-pos = pos-left m g (subst (λ z. 0 < z) e (w .words-pos)); words-few = omega (arith, few, w .words-few) }
+  where
+    pos-left : (m g : ℕ) → 0 < m * g → 0 < m
+    pos-left zero g h = absurd (omega arith)
+    pos-left (suc m) g h = omega arith
+
 module _ {p : Plan} (a : AcceptedPlan p) where
   steps-sharding : (s : Sharding) (ts : List Step) → IsSharding (p .mesh) (p .sizes) s → Fine (p .mesh) (p .sizes) s ts
       → IsSharding (p .mesh) (p .sizes) (inTurn after ts s)
@@ -53,11 +70,6 @@ module _ {p : Plan} (a : AcceptedPlan p) where
   unfolding announced
   state-sharding k = steps-sharding (p .start) (take k (p .steps)) (a .start-is) (fine-take (p .mesh) (p .sizes) k (p .start) (p .steps) (a .fine))
 
-  -- the words of a shard, and of the table, in state k
-  state-words : (k : ℕ) → product (p .sizes) ≡ product (announcedShape p k) * span (p .mesh) (flat (announced p k .dims))
-  unfolding announcedShape
-  state-words k = cut-product (p .mesh) (sharding-cut (p .mesh) (p .sizes) (a .within .sizes-pos) (announced p k) (state-sharding k))
-
   -- every state fits the room
   state-fits : (k : ℕ) → k ≤ length (p .steps) → devices (p .mesh) * product (announcedShape p k) ≤ room p
   unfolding room
@@ -66,34 +78,25 @@ module _ {p : Plan} (a : AcceptedPlan p) where
   -- What code needs of state k.
   pub record State (k : ℕ) : Type 0 where
     pub sharding : IsSharding (p .mesh) (p .sizes) (announced p k)
-    pub words-pos : 0 < product (announcedShape p k)
-    pub words-few : product (announcedShape p k) ≤ mostWords
+    pub words : ShardWords (product (announcedShape p k))
     pub fits : k ≤ length (p .steps) → devices (p .mesh) * product (announcedShape p k) ≤ room p
     pub divides : span (p .mesh) (remaining (p .mesh) (named (announced p k))) * span (p .mesh) (named (announced p k)) ≡ devices (p .mesh)
 
   pub state : (k : ℕ) → State k
+  unfolding announcedShape
   state k =
       let s : IsSharding (p .mesh) (p .sizes) (announced p k) = state-sharding k in
-      let m : ℕ = product (announcedShape p k) in
-      let g : ℕ = span (p .mesh) (flat (announced p k .dims)) in
-      let e : product (p .sizes) ≡ m * g = state-words k in
-      let few : m ≤ product (p .sizes) = subst (λ z. m ≤ z) (sym e) (le-mul-of-pos-right m (span-pos (p .mesh) (a .within .sizes-pos) (flat (announced p k .dims)))) in
       record {
         sharding = s;
-        words-pos = pos-left m g (subst (λ z. 0 < z) e (a .within .words-pos));
-        words-few = omega (arith, few, a .within .words-few);
+        words = shard-words (p .mesh) (p .sizes) (a .within) (announced p k) s;
         fits = state-fits k;
         divides = groups-devices (p .mesh) (named (announced p k)) (s .once) (s .of-mesh);
       }
-    where
-      pos-left : (m g : ℕ) → 0 < m * g → 0 < m
-      pos-left zero g h = absurd (omega arith)
-      pos-left (suc m) g h = omega arith
 
   -- "so at most 1,048,576 words"
   pub room-few : room p ≤ mostDevices * mostWords
   unfolding room
   room-few =
       let w : largest (tab (length (p .steps) + 1) (λ k. product (announcedShape p k))) ≤ mostWords =
-      largest-le (length (p .steps) + 1) mostWords (λ k. product (announcedShape p k)) (λ k l. state k .words-few) in
+      largest-le (length (p .steps) + 1) mostWords (λ k. product (announcedShape p k)) (λ k l. state k .words .words-few) in
       mul-le-mul (a .within .devices-few) w

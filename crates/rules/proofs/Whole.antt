@@ -31,7 +31,7 @@ use Rattle.rules.specs.Collectives.{
   stepped,
 }
 use Rattle.rules.specs.Refusals.{Judged, accept, _>>_, _>>=_, need}
-use Rattle.rules.specs.PlanFile.{Plan, judge, announced, announcedShape, room}
+use Rattle.rules.specs.PlanFile.{Plan, judge, judgeBy, announced, announcedShape, room}
 use Rattle.rules.specs.Calls.{shardsAfter, lastState, runnable, Ran, runLeaves, runOf}
 use Rattle.rules.specs.Ledger.{fileOf}
 use Rattle.rules.specs.Demands.{Words, Fits, SpreadAt, returned, startWords, WholePlan, Spreadable, Startable, RoomLimit}
@@ -306,5 +306,5 @@ room-limit file p e = room-few (accepted file p e)
 
 -- 256 devices with all 4,096 words each have that room
 room-reached : (p : Plan) × (judge (fileOf (256 ∷ []) (4096 ∷ []) ([] ∷ [] ∷ []) []) ≡ accept p) × (room p ≡ 1_048_576)
-unfolding fileOf judge room
+unfolding fileOf judgeBy room
 room-reached = (record { mesh = 256 ∷ []; sizes = 4096 ∷ []; start = record { dims = [] ∷ []; unreduced = [] }; steps = [] }, refl, refl)

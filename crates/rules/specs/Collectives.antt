@@ -2,11 +2,12 @@
 -- The words, the locality of a step and the bounds of the code all follow from them. Source document 001 decides on what a collective does to a
 -- sharding; 01 is stricter on the axes that an all-reduce may name. Assumes nothing.
 use Prim.Native.Nat.{ℕ, _+_, _-_, _*_, _/_, _%_}
+use mathlib.Core.Path.{_≡_}
 use mathlib.Core.List.{List, [], _∷_, _++_, map}
-use lib.ListN.{length, set, take, replicate}
+use lib.ListN.{length, set, take, drop, replicate}
 use lib.Dec.{T}
-use Rattle.rules.specs.Lists.{each, flat, without}
-use Rattle.rules.specs.Mesh.{span, member, members}
+use Rattle.rules.specs.Lists.{each, flat, product, without}
+use Rattle.rules.specs.Mesh.{span, devices, member, members}
 use Rattle.rules.specs.Sharding.{Sharding, divisible, shardSizes, firstIndexes}
 use Rattle.rules.specs.Spread.{StateOf, tabulate, held, from}
 
@@ -152,3 +153,10 @@ abbrev pub moved : {W : Type 0} → W → (mesh : List ℕ) (Gs Ss : List (List 
 moved z mesh Gs Ss shape old = tabulate mesh (grown mesh Gs (shardSizes mesh shape Ss))
     (λ x i. held z mesh shape old (owner mesh Gs (shardSizes mesh shape Ss) i x)
     (from (firstIndexes mesh Ss (shardSizes mesh shape Ss) x) (within (shardSizes mesh shape Ss) i)))
+
+-- The first D times m words of a buffer are the shards; and the buffer that begins with them, its other words as they were.
+abbrev pub Stands : {W : Type 0} → List ℕ → Shards W → List W → Type 0
+Stands mesh v buffer = take (devices mesh * product (v .shape)) buffer ≡ tabulate mesh (v .shape) (v .words)
+
+abbrev pub withShards : {W : Type 0} → List ℕ → Shards W → List W → List W
+withShards mesh v buffer = tabulate mesh (v .shape) (v .words) ++ drop (devices mesh * product (v .shape)) buffer

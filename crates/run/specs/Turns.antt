@@ -1,24 +1,58 @@
--- What the parts of the run (src/lib.rt) ask for and leave. Assumes nothing.
-use Prim.Native.Nat.{ℕ, _+_, _-_, _≤_, _<_}
+-- What the parts of the run (src/lib.rt) ask for and leave: one step by itself, of no plan, and the steps of a plan that passed. Assumes nothing.
+use Prim.Native.Nat.{ℕ, _≤_}
 use mathlib.Core.Path.{_≡_}
 use mathlib.Core.Bool.{Bool, not}
 use mathlib.Core.List.{List}
-use lib.ListN.{length, take, drop}
+use lib.ListN.{length, take}
 use Rattle.rules.specs.Lists.{pick, product}
 use Rattle.rules.specs.Sharding.{shardSizes}
 use Rattle.rules.specs.Spread.{addWords}
+use Rattle.rules.specs.Collectives.{Shards, stepped, Stands, withShards}
 use Rattle.rules.specs.Refusals.{accept}
-use Rattle.rules.specs.PlanFile.{stepsAt, Plan, judge, announced, room}
+use Rattle.rules.specs.PlanFile.{Read, Plan, judge, room}
 use Rattle.rules.specs.Calls.{lastState}
 use Rattle.rules.specs.Types.{dimsOf, shardingOf, stepOf}
 use Rattle.rules.specs.declared.Kind.{Kind}
 use Rattle.rules.specs.declared.Sharding as code
+use Rattle.rules.specs.declared.Table.{Table}
 use Rattle.axes.specs.Mesh.{meshOf}
+use Rattle.axes.specs.declared.Mesh.{Mesh}
 use Rattle.dims.specs.Dims.{sizesOf}
-use Rattle.plan.specs.Parts.{Holds, takeStep, takenRead}
+use Rattle.judge.specs.Step.{Ready}
+use Rattle.plan.specs.Parts.{Holds, Move, takeStep, takenRead}
 use Rattle.plan.specs.declared.Taken.{Taken}
 use Rattle.plan.specs.declared.Whole.{Whole}
-use Rattle.step.specs.Stepping.{steppedBuffer, inPlace}
+use Rattle.step.specs.Stepping.{Stepping, inPlace}
+
+-- ---- one step
+
+-- the shard sizes of a sharding
+abbrev pub shapeOf : Mesh → Table → code.Sharding → List ℕ
+shapeOf mesh table s = shardSizes (meshOf mesh) (sizesOf table) (take (table .rank) (dimsOf s))
+
+-- step k, which is read at `at` and accepted of the sharding s, and what it asks of a buffer of `old` words with the state before it and of another one
+-- of `new` words
+pub record Turning (file : List ℕ) (at k : ℕ) (mesh : Mesh) (table : Table) (s : code.Sharding) (old new : ℕ) : Type 0 where
+  pub ready : Ready mesh table s
+  pub move : Read Move
+  pub taken : takeStep (meshOf mesh) (sizesOf table) k file at (shardingOf (table .rank) s) ≡ accept move
+  pub stepping : Stepping (meshOf mesh) (shapeOf mesh table s) (move .value .step)
+      (product (shardSizes (meshOf mesh) (sizesOf table) (move .value .sharding .dims))) old new
+
+-- what the step leaves, from the state in here: of any shards of that sharding's shape that stood there, those after the step, in here where it is done
+-- in place, else in there, with the words behind them as they were; and the other buffer as it was
+pub record Turned (file : List ℕ) (at k : ℕ) (mesh : Mesh) (table : Table) (s : code.Sharding) (here there here′ there′ : List ℕ) (r : Taken) : Type 0 where
+  pub taken : takenRead (table .rank) r ≡ takeStep (meshOf mesh) (sizesOf table) k file at (shardingOf (table .rank) s)
+  pub leaves : (v : Shards ℕ) → v .shape ≡ shapeOf mesh table s → Stands (meshOf mesh) v here
+      → pick (inPlace (r .step .kind)) here′ there′
+      ≡ withShards (meshOf mesh) (stepped addWords (meshOf mesh) (stepOf (table .rank) (r .step)) v) (pick (inPlace (r .step .kind)) here there)
+  pub keeps : pick (inPlace (r .step .kind)) there′ here′ ≡ pick (inPlace (r .step .kind)) there here
+
+-- ---- the steps of a plan
+
+-- whether the state stands in work after a step: one that is not done in place leaves it in the other buffer
+abbrev pub standsAfter : Kind → Bool → Bool
+standsAfter kind in-work = pick (inPlace kind) in-work (not in-work)
 
 -- a plan that passed, its steps from `at` on, and buffers with room for it
 pub record Runs (file : List ℕ) (at : ℕ) (w : Whole) (work spare : ℕ) : Type 0 where
@@ -27,38 +61,6 @@ pub record Runs (file : List ℕ) (at : ℕ) (w : Whole) (work spare : ℕ) : Ty
   pub holds : Holds file at w plan
   pub work-room : room plan ≤ work
   pub spare-room : room plan ≤ spare
-
--- after k steps the rest of the plan's steps is read from `at` on
-abbrev pub ReadsOn : List ℕ → ℕ → Plan → ℕ → Type 0
-ReadsOn file at p k =
-    stepsAt (p .mesh) (p .sizes) (k + 1) (length (p .steps) - k) file at (announced p k) ≡ accept (record { value = drop k (p .steps); next = length file })
-
--- such a plan when some of its steps are done: the number of the next step, where it begins, and the sharding before it
-pub record Turn (file : List ℕ) (at number : ℕ) (w : Whole) (s : code.Sharding) (work spare : ℕ) : Type 0 where
-  pub first : ℕ
-  pub runs : Runs file first w work spare
-  pub done : ℕ
-  pub number-is : number ≡ done + 1
-  pub more : done < length (runs .plan .steps)
-  pub sharding-is : shardingOf (w .table .rank) s ≡ announced (runs .plan) done
-  pub reads : ReadsOn file at (runs .plan) done
-
--- the step that is read at `at` and judged, of the number and the sharding given
-abbrev pub Takes : List ℕ → (at number : ℕ) → Whole → code.Sharding → Taken → Type 0
-Takes file at number w s r =
-    takenRead (w .table .rank) r ≡ takeStep (meshOf (w .mesh)) (sizesOf (w .table)) number file at (shardingOf (w .table .rank) s)
-
--- a state's shard sizes, and what the step that was taken leaves of the state in old: new is the buffer in which the next one stands
-abbrev pub shapeOf : Whole → code.Sharding → List ℕ
-shapeOf w s = shardSizes (meshOf (w .mesh)) (sizesOf (w .table)) (take (w .table .rank) (dimsOf s))
-
-abbrev pub nextBuffer : Whole → code.Sharding → Taken → (old new : List ℕ) → List ℕ
-nextBuffer w s r old new =
-    steppedBuffer addWords 0 (meshOf (w .mesh)) (shapeOf w s) (stepOf (w .table .rank) (r .step)) (product (shapeOf w (r .sharding))) old new
-
--- whether the state stands in work after a step: one that is not done in place leaves it in the other buffer
-abbrev pub standsAfter : Kind → Bool → Bool
-standsAfter kind in-work = pick (inPlace kind) in-work (not in-work)
 
 -- the buffer begins with the state that the plan's last step leaves, from the words given
 abbrev pub BeginsWithLast : (file given buffer : List ℕ) → Type 0

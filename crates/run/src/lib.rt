@@ -8,8 +8,8 @@ ghost use Rattle.rules.specs.Lists.{pick, product};
 ghost use Rattle.rules.specs.Limits.{mostDevices, mostWords};
 ghost use Rattle.rules.specs.Promises.{RunPromise};
 ghost use Rattle.plan.specs.Parts.{Bounded, answerOf};
-ghost use Rattle.step.specs.Stepping.{inPlace};
-ghost use Rattle.run.specs.Turns.{Runs, Turn, Takes, nextBuffer, standsAfter, BeginsWithLast};
+ghost use Rattle.run.specs.Turns.{Turning, Turned, standsAfter, Runs, BeginsWithLast};
+use axes::Mesh;
 use dims::shard_of;
 use dims::words;
 use plan::Taken;
@@ -22,6 +22,7 @@ use rules::Reason;
 use rules::Refusal;
 use rules::RunOutcome;
 use rules::Sharding;
+use rules::Table;
 use step::in_place;
 use step::step_from;
 
@@ -57,20 +58,15 @@ fn do_step(
     file: &[u8],
     at: usize,
     k: u16,
-    whole: Whole,
+    mesh: Mesh,
+    table: Table,
     sharding: Sharding,
     here: &mut [u32],
     there: &mut [u32],
 ) -> Taken
-    requires { ⌜ Turn (now file) at k whole sharding (length (now here)) (length (now there)) ⌝ }
-    ensures { λ r. ⌜ Takes (now (file .entry)) at k whole sharding r ⌝ }
-    ensures { λ r. ⌜ now (here .exit) ≡ pick (inPlace (r .step .kind)) (nextBuffer whole sharding r (now (here .entry)) (now (here .entry)))
-        (now (here .entry)) ⌝ }
-    ensures { λ r. ⌜ now (there .exit) ≡ pick (inPlace (r .step .kind)) (now (there .entry))
-        (nextBuffer whole sharding r (now (here .entry)) (now (there .entry))) ⌝ }
+    requires { ⌜ Turning (now file) at k mesh table sharding (length (now here)) (length (now there)) ⌝ }
+    ensures { λ r. ⌜ Turned (now (file .entry)) at k mesh table sharding (now (here .entry)) (now (there .entry)) (now (here .exit)) (now (there .exit)) r ⌝ }
 {
-    let mesh = whole.mesh;
-    let table = whole.table;
     let taken = take_step(file, at, k, mesh, table, sharding);
     let before = shard_of(table, sharding, mesh);
     let after = taken.sharding;
@@ -95,23 +91,22 @@ fn do_turn(
     file: &[u8],
     at: usize,
     k: u16,
-    whole: Whole,
+    mesh: Mesh,
+    table: Table,
     sharding: Sharding,
     in_work: bool,
     work: &mut [u32],
     spare: &mut [u32],
 ) -> Taken
-    requires { ⌜ Turn (now file) at k whole sharding (length (now work)) (length (now spare)) ⌝ }
-    ensures { λ r. ⌜ Takes (now (file .entry)) at k whole sharding r ⌝ }
-    ensures { λ r. ⌜ now (work .exit) ≡ pick (standsAfter (r .step .kind) in_work)
-        (nextBuffer whole sharding r (pick in_work (now (work .entry)) (now (spare .entry))) (now (work .entry))) (now (work .entry)) ⌝ }
-    ensures { λ r. ⌜ now (spare .exit) ≡ pick (standsAfter (r .step .kind) in_work) (now (spare .entry))
-        (nextBuffer whole sharding r (pick in_work (now (work .entry)) (now (spare .entry))) (now (spare .entry))) ⌝ }
+    requires { ⌜ Turning (now file) at k mesh table sharding (length (pick in_work (now work) (now spare))) (length (pick in_work (now spare) (now work))) ⌝ }
+    ensures { λ r. ⌜ Turned (now (file .entry)) at k mesh table sharding
+        (pick in_work (now (work .entry)) (now (spare .entry))) (pick in_work (now (spare .entry)) (now (work .entry)))
+        (pick in_work (now (work .exit)) (now (spare .exit))) (pick in_work (now (spare .exit)) (now (work .exit))) r ⌝ }
 {
     if in_work {
-        do_step(file, at, k, whole, sharding, work, spare)
+        do_step(file, at, k, mesh, table, sharding, work, spare)
     } else {
-        do_step(file, at, k, whole, sharding, spare, work)
+        do_step(file, at, k, mesh, table, sharding, spare, work)
     }
 }
 
@@ -127,7 +122,17 @@ fn run_steps(file: &[u8], at: usize, whole: Whole, work: &mut [u32], spare: &mut
     let mut k: usize = 0;
     while k < steps {
         let number = (k + 1) as u16;
-        let taken = do_turn(file, place, number, whole, sharding, in_work, work, spare);
+        let taken = do_turn(
+            file,
+            place,
+            number,
+            whole.mesh,
+            whole.table,
+            sharding,
+            in_work,
+            work,
+            spare,
+        );
         let next = taken.next;
         let Next::At(end) = next else {
             return in_work;

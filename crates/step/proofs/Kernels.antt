@@ -32,7 +32,7 @@ one-word : (a : ℕ) → addWords (a ∷ []) ≡ a
 unfolding addWords
 one-word a = refl
 
-sizes-pos : {mesh shape : List ℕ} {t : Step} {words old new : ℕ} → Stepping mesh shape t words old new → (a : ℕ) → 0 < getD mesh a 1
+pub sizes-pos : {mesh shape : List ℕ} {t : Step} {words old new : ℕ} → Stepping mesh shape t words old new → (a : ℕ) → 0 < getD mesh a 1
 sizes-pos {mesh} h a = size-pos mesh a (h .on .devices-pos)
 
 module _ {mesh shape : List ℕ} {t : Step} {words old new : ℕ} (h : Stepping mesh shape t words old new) where

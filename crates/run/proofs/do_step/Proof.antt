@@ -1,36 +1,32 @@
 use borrow.Author.Needs.{needs}
 use native.Mathlib.Omega.{arith}
-use Prim.Native.Nat.{ℕ}
 use mathlib.Core.Path.{sym, ap, _∙_}
-use mathlib.Core.List.{List}
 use lib.ListN.{length-map}
 use lib.Seq.{length-take-le}
-use denote.Ref.{now}
-use Rattle.rules.specs.Lists.{pick, product}
-use Rattle.step.specs.Stepping.{inPlace}
-use Rattle.run.proofs.Done.{turn-ready, taken-is, turn-asks, turn-leaves}
+use Rattle.rules.specs.Lists.{product}
+use Rattle.run.proofs.Turns.{turn-asks, turned}
 use Rattle.run.proofs.do_step.Statement.{statement}
 use Rattle.run.proofs.do_step.Tie as tie
 
 take-step-requires : tie.Need-take-step-requires
-take-step-requires c κs = turn-ready (c .before .before .before .before .before .pre)
+take-step-requires c κs = c .before .before .before .pre .ready
 
 shard-of-requires : tie.Need-shard-of-requires
-shard-of-requires c κs = let f = c .before .before .before .before .before .before .pre .runs .holds .ready .fits in (f .rank, f .sized)
+shard-of-requires c κs = let f = c .before .before .before .before .pre .ready .fits in (f .rank, f .sized)
 
 shard-of-requires-2 : tie.Need-shard-of-requires-2
-shard-of-requires-2 c κs = let f = c .before .before .before .before .before .before .before .before .pre .runs .holds .ready .fits in (f .rank, f .sized)
+shard-of-requires-2 c κs = let f = c .before .before .before .before .before .before .pre .ready .fits in (f .rank, f .sized)
 
 words-requires : tie.Need-words-requires
 words-requires c κs =
-    let f = c .before .before .before .before .before .before .before .before .before .pre .runs .holds .ready .fits in
+    let f = c .before .before .before .before .before .before .before .pre .ready .fits in
     omega (arith, f .rank, c .shard-of2 .ensures .0)
 
 array-share-prefix-axes : tie.Need-array-share-prefix-axes
 array-share-prefix-axes c =
-    let s = c .before .before .before .before .before .before .before .before .before .before .before .before .before .before in
-    let z = simp length-map at (s .good .1 .1 .1 .0 .1 .1 .1 .1 .1 .1 .0 .1 .1 .1 .0 .1 .0 .1) in
-    omega (arith, z, s .pre .runs .holds .ready .fits .axes)
+    let s = c .before .before .before .before .before .before .before .before .before .before .before .before in
+    let z = simp length-map at (s .good .1 .1 .1 .0 .1 .1 .1 .0 .1 .0 .1) in
+    omega (arith, z, s .pre .ready .fits .axes)
 
 slice-aggregate-step-from : tie.Need-slice-aggregate-step-from
 slice-aggregate-step-from c = sym (length-take-le _ _ (array-share-prefix-axes (c .before)))
@@ -38,9 +34,9 @@ slice-aggregate-step-from c = sym (length-take-le _ _ (array-share-prefix-axes (
 array-share-prefix-shape : tie.Need-array-share-prefix-shape
 array-share-prefix-shape c =
     let b = c .before .before .before .before .before .before .before .before in
-    let s = b .before .before .before .before .before .before .before in
+    let s = b .before .before .before .before .before in
     let z = simp length-map at (b .shard-of .ok .1 .1 .1 .0 .1 .0 .1) in
-    omega (arith, z, b .shard-of .ensures .0, s .pre .runs .holds .ready .fits .rank)
+    omega (arith, z, b .shard-of .ensures .0, s .pre .ready .fits .rank)
 
 slice-aggregate-step-from-2 : tie.Need-slice-aggregate-step-from-2
 slice-aggregate-step-from-2 c = sym (length-take-le _ _ (array-share-prefix-shape (c .before)))
@@ -50,9 +46,9 @@ step-from-requires c κs =
     let u = c .before .before .before .before .before .before in
     let b = u .before .before .before in
     let t = b .before .take-step in
-    let s = b .before .before .before .before .before .before .before in
-    let e = u .words .ensures ∙ ap product (u .before .shard-of2 .ensures .1) in
-    turn-asks (s .pre) (taken-is (s .pre) (t .result) (t .ensures)) (b .shard-of .ensures .1) (sym (slice-aggregate-step-from-2 c) ∙ b .shard-of .ensures .0) e
+    let s = b .before .before .before .before .before in
+    let l = sym (slice-aggregate-step-from-2 c) ∙ b .shard-of .ensures .0 in
+    turn-asks (t .result) (s .pre) (t .ensures) (b .shard-of .ensures .1) l (u .words .ensures ∙ ap product (u .before .shard-of2 .ensures .1))
 
 same-length : tie.Need-same-length
 same-length c = search needs
@@ -66,12 +62,10 @@ returns c =
     let u = o .before .before .before .before .before .before .before in
     let b = u .before .before .before in
     let t = b .before .take-step in
-    let s = b .before .before .before .before .before .before .before in
-    let e = u .words .ensures ∙ ap product (u .before .shard-of2 .ensures .1) in
+    let s = b .before .before .before .before .before in
     let l = sym (slice-aggregate-step-from-2 (o .before)) ∙ b .shard-of .ensures .0 in
-    let n = turn-leaves (s .pre) (taken-is (s .pre) (t .result) (t .ensures)) (b .shard-of .ensures .1) l e in
-    let k = inPlace (t .result .step .kind) in
-    (t .ensures, (o .step-from .ensures .0 ∙ ap (λ (x : List ℕ). pick k x (now (s .args .here))) (n _ _), o .step-from .ensures .1 ∙ ap (pick k (now (s .args .there))) (n _ _)))
+    turned (t .result) (s .pre) (t .ensures) (b .shard-of .ensures .1) l (u .words .ensures ∙ ap product (u .before .shard-of2 .ensures .1)) _ _
+    (o .step-from .ensures .0) (o .step-from .ensures .1)
 
 pub do-step-spec : {M : Type 1} → statement M
 do-step-spec =

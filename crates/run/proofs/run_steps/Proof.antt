@@ -1,7 +1,6 @@
 use borrow.Author.Needs.{needs}
 use native.Mathlib.Omega.{arith}
 use Prim.Native.Nat.{_-_}
-use mathlib.Core.Path.{_≡_, refl, _∙_}
 use lib.ListN.{length}
 use Rattle.plan.proofs.Wholes.{bounded}
 use Rattle.run.proofs.Running.{Running, running, turn, no-refusal, onward, arrived}
@@ -10,13 +9,13 @@ use Rattle.run.proofs.run_steps.Tie as tie
 
 abbrev Inv-loop : tie.InvT-loop
 Inv-loop file at whole work₀ spare₀ steps sharding₀ place₀ in-work₀ k₀ work spare sharding place in-work k =
-    Running file work₀ at whole k place sharding in-work work spare × (length work ≡ length work₀) × (length spare ≡ length spare₀)
+    Running file work₀ at whole (length spare₀) k place sharding in-work work spare
 
 abbrev μ-loop : tie.MeasureT-loop
 μ-loop file at whole work₀ spare₀ steps sharding₀ place₀ in-work₀ k₀ work spare sharding place in-work k = whole .steps - k
 
 loop-holds : tie.Need-loop-holds Inv-loop μ-loop
-loop-holds c = (running _ _ _ _ _ (c .before .before .before .before .pre), refl, refl)
+loop-holds c = running _ _ _ _ _ (c .before .before .before .before .pre)
 
 add-number : tie.Need-add-number Inv-loop μ-loop
 add-number c = omega arith
@@ -28,7 +27,7 @@ cast-number c =
     omega (arith, b .steps-few)
 
 do-turn-requires : tie.Need-do-turn-requires Inv-loop μ-loop
-do-turn-requires c κs = turn (c .before .before .before .loop .inv .0) (c .before .before .loop-test .taken)
+do-turn-requires c κs = turn (c .before .before .before .loop .inv) (c .before .before .loop-test .taken)
 
 enum-known-next : tie.Need-enum-known-next Inv-loop μ-loop
 enum-known-next c = search needs
@@ -37,23 +36,17 @@ enum-told : tie.Need-enum-told Inv-loop μ-loop
 enum-told c = search needs
 
 same-length : tie.Need-same-length Inv-loop μ-loop
-same-length c =
-    let d = c .before .before .before .before .before .before in
-    let t = d .before .before .before in
-    absurd (no-refusal (t .before .loop .inv .0) (t .loop-test .taken) (d .do-turn .result) (d .do-turn .ensures .0) (c .enum-told .given .1))
+same-length c = search needs
 
 same-length-2 : tie.Need-same-length-2 Inv-loop μ-loop
-same-length-2 c =
-    let d = c .before .before .before .before .before .before in
-    let t = d .before .before .before in
-    absurd (no-refusal (t .before .loop .inv .0) (t .loop-test .taken) (d .do-turn .result) (d .do-turn .ensures .0) (c .enum-told .given .1))
+same-length-2 c = search needs
 
 -- no step is refused again
 returns : tie.Need-returns Inv-loop μ-loop
 returns c =
     let d = c .before .before .before .before .before .before in
     let t = d .before .before .before in
-    absurd (no-refusal (t .before .loop .inv .0) (t .loop-test .taken) (d .do-turn .result) (d .do-turn .ensures .0) (c .enum-told .given .1))
+    absurd (no-refusal (t .before .loop .inv) (t .loop-test .taken) _ _ (d .do-turn .ensures) (c .enum-told .given .1))
 
 stands-after-requires : tie.Need-stands-after-requires Inv-loop μ-loop
 stands-after-requires c κs = search needs
@@ -72,20 +65,16 @@ loop-again c =
     let n = c .before .before .before .before in
     let d = n .before .before .before .before .before .before in
     let t = d .before .before .before in
-    let i = t .before .loop .inv in
-    let e = d .do-turn .ensures in
-    let w : length (d .do-turn .last .1 .1 .1 .1 .1 .1 .0) ≡ length (t .before .loop .work) = search needs in
-    let s : length (d .do-turn .last .1 .1 .1 .1 .1 .1 .1 .0) ≡ length (t .before .loop .spare) = search needs in
-    (onward (i .0) (t .loop-test .taken) (d .do-turn .result) (e .0) _ _ (n .next .given .1) (c .stands-after .ensures) (e .1 .0) (e .1 .1) w s, w ∙ i .1, s ∙ i .2)
+    onward (t .before .loop .inv) (t .loop-test .taken) _ _ (d .do-turn .ensures) (n .next .given .1) (c .stands-after .ensures) (search needs) (search needs)
 
 same-length-3 : tie.Need-same-length-3 Inv-loop μ-loop
-same-length-3 c = c .before .loop .inv .1
+same-length-3 c = search needs
 
 same-length-4 : tie.Need-same-length-4 Inv-loop μ-loop
-same-length-4 c = c .before .loop .inv .2
+same-length-4 c = search needs
 
 returns-2 : tie.Need-returns-2 Inv-loop μ-loop
-returns-2 c = arrived (c .before .loop .inv .0) (c .loop-test .left)
+returns-2 c = arrived (c .before .loop .inv) (c .loop-test .left)
 
 pub run-steps-spec : {M : Type 1} → statement M
 run-steps-spec =

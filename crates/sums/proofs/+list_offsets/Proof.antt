@@ -104,9 +104,11 @@ pub +list-offsets-spec : {M : Type 1} → statement M
     let m = getD digits 1 0 in
     let a = l .loop .i * m in
     let k = part-length (l .loop .to) a m (omega (arith, u .part, l .loop .inv .1 .size)) in
-    let r = c .before .before .list-offsets in
-    (omega (arith, x .loop-test .taken), rw (next-part (l .loop .i) m) (fill-part m (l .loop .inv .1) (u .part) (r .kept .0)
-    (rw (k, rest-is t s) at (r .ensures) ∙ turn-places digits (l .loop .i) (getD digits 0 0) m (getD digits 2 0) u))))
+    let r = c .before .before .list-offsets in (
+      omega (arith, x .loop-test .taken),
+      rw (next-part (l .loop .i) m) (fill-part m (l .loop .inv .1) (u .part) (r .kept .0)
+          (rw (k, rest-is t s) at (r .ensures) ∙ turn-places digits (l .loop .i) (getD digits 0 0) m (getD digits 2 0) u)),
+    ))
     (λ c. c .before .loop .inv .1 .size)
     (λ c. let l = c .before in
     let s = c .before .before .before .before .before .before .before .before in

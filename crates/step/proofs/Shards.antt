@@ -1,0 +1,56 @@
+-- A step that was accepted of a sharding within the limits has what it asks for (`stepping`), and leaves the shards after it of those that stood in the
+-- old buffer (`leaves-shards`). Assumes nothing.
+use Prim.Native.Nat.{ℕ, _*_, _≤_}
+use mathlib.Core.Path.{_≡_, refl, sym, ap, ap₂, _∙_, subst}
+use mathlib.Core.List.{List, _++_}
+use lib.ListN.{drop}
+use Rattle.rules.specs.Lists.{product}
+use Rattle.rules.specs.Mesh.{devices}
+use Rattle.rules.specs.Sharding.{Sharding, shardSizes, IsSharding}
+use Rattle.rules.specs.Spread.{addWords}
+use Rattle.rules.specs.Collectives.{Step, after, shapeAfter, Shards, stepped, Stands, withShards}
+use Rattle.rules.specs.Refusals.{accept}
+use Rattle.rules.specs.PlanFile.{judgeStep}
+use Rattle.rules.proofs.Sources.{Ready}
+use Rattle.rules.proofs.Steps.{facts, after-shape}
+use Rattle.rules.proofs.Accepted.{Within}
+use Rattle.rules.proofs.Room.{ShardWords, shard-words}
+use Rattle.rules.proofs.Next.{step-ready}
+use Rattle.rules.proofs.Stands.{step-stands}
+use Rattle.step.specs.Stepping.{Stepping, steppedBuffer}
+use Rattle.step.proofs.Kernels.{sizes-pos}
+
+pub stepping : {mesh sizes : List ℕ} (k : ℕ) {t : Step} {s : Sharding} {old new : ℕ} → Within mesh sizes → IsSharding mesh sizes s
+    → judgeStep mesh sizes k t s ≡ accept (after t s) → devices mesh * product (shardSizes mesh sizes (s .dims)) ≤ old
+    → devices mesh * product (shardSizes mesh sizes (after t s .dims)) ≤ new
+    → Stepping mesh (shardSizes mesh sizes (s .dims)) t (product (shardSizes mesh sizes (after t s .dims))) old new
+stepping {mesh} {sizes} k {t} {s} w h e o n =
+    let m : ShardWords (product (shardSizes mesh sizes (s .dims))) = shard-words mesh sizes w s h in
+    record {
+      sizes = sizes;
+      before = s;
+      number = k;
+      next = after t s;
+      judged = e;
+      sharding = h;
+      shape-is = refl;
+      on = record { axes-some = w .axes-some; axes-few = w .axes-few; devices-pos = w .devices-pos; devices-few = w .devices-few };
+      rank-few = w .rank-few;
+      words-pos = w .words-pos;
+      words-few = w .words-few;
+      shard-pos = m .words-pos;
+      shard-few = m .words-few;
+      words-are = ap product (sym (after-shape mesh sizes (w .sizes-pos) t s h (facts mesh sizes k t s (after t s) e .0)));
+      old-room = o;
+      new-room = n;
+    }
+
+module _ {mesh shape : List ℕ} {t : Step} {words old new : ℕ} (h : Stepping mesh shape t words old new) where
+  pub leaves-shards : (v : Shards ℕ) → v .shape ≡ shape → (olds news : List ℕ) → Stands mesh v olds
+      → steppedBuffer addWords 0 mesh shape t words olds news ≡ withShards mesh (stepped addWords mesh t v) news
+  unfolding stepped
+  leaves-shards v q olds news st =
+      let r : Ready mesh t (v .shape) = subst (Ready mesh t) (h .shape-is ∙ sym q) (step-ready mesh (h .sizes) (sizes-pos h) t (h .before) (h .sharding)
+      (facts mesh (h .sizes) (h .number) t (h .before) (h .next) (h .judged) .0)) in
+      (λ i. steppedBuffer addWords 0 mesh (sym q i) t (h .words-are i) olds news)
+      ∙ ap₂ (λ (b : List ℕ) (shape : List ℕ). b ++ drop (devices mesh * product (shapeAfter mesh t shape)) news) (step-stands mesh addWords 0 t v olds r st) (sym q)
