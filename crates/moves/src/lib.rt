@@ -10,29 +10,19 @@ use rules;
 use strided::copy_digits;
 use strided::put_digit;
 ghost use mathlib.Core.Path.{_≡_};
-ghost use mathlib.Core.List.{[], _∷_};
-ghost use Prim.Native.Nat.{_+_, _-_, _*_, _/_, _≤_, _<_};
-ghost use lib.ListN.{length, getD, drop};
+ghost use mathlib.Core.List.{_∷_};
+ghost use Prim.Native.Nat.{_-_, _*_, _/_, _≤_};
+ghost use lib.ListN.{length, drop};
 ghost use Rattle.rules.specs.Lists.{product};
 ghost use Rattle.rules.specs.Mesh.{devices, span};
 ghost use Rattle.rules.specs.Spread.{from};
-ghost use Rattle.rules.specs.Limits.{mostDims};
-ghost use Rattle.rules.specs.Types.{axesOf, dimsOf};
+ghost use Rattle.rules.specs.Types.{axesOf};
 ghost use Rattle.digits.specs.Digits.{cleared, axisDigits};
 ghost use Rattle.moves.specs.Moves.{movedShape, lists, movedBuffer, withSlice, stepDigits};
 ghost use Rattle.moves.specs.Moves.{Moving, Slicing, Adding, Dimension, Dimensions, DimensionsAt, Setting};
 
 // The most numbers of a step's digits.
 const ROOM: usize = 3 * (rules::Axis::MOST + rules::Dim::MOST + rules::Axis::MOST);
-
-// The list of a dimension.
-fn list_at(lists: rules::Sharding, j: usize) -> rules::AxisList
-    requires { ⌜ j < mostDims ⌝ }
-    ensures { λ r. ⌜ axesOf r ≡ getD (dimsOf lists) j [] ⌝ }
-{
-    let d = rules::Dim(j as u8);
-    lists.list(d)
-}
 
 // Adds the strides of a list of sliced axes, where the pieces are v words apart.
 fn add_slice(added: &mut [usize], mesh: &[u16], axes: rules::AxisList, v: usize)
@@ -116,8 +106,9 @@ fn shape_digits(
     let mut j = shape.len();
     while 0 < j {
         j -= 1;
-        let gathered = list_at(gathers, j);
-        let sliced = list_at(slices, j);
+        let dim = rules::Dim(j as u8);
+        let gathered = gathers.list(dim);
+        let sliced = slices.list(dim);
         let n = shape[j] as usize;
         count = dim_digits(
             digits,

@@ -39,7 +39,7 @@ gathered : (c : tie.After-shared-slice-known3 Inv-loop μ-loop)
     → (let l = c .before .before .before .before in
     let s = c .before .before .before .before .before .before .before .before .before .before in
     let Gs = lists (now (s .args .shape)) (dimsOf (s .args .gathers)) in
-    drop (l .loop .j - 1) Gs ≡ axesOf (c .before .before .list-at .result) ∷ drop (l .loop .j) Gs)
+    drop (l .loop .j - 1) Gs ≡ axesOf (c .before .before .list .result) ∷ drop (l .loop .j) Gs)
 gathered c =
     let l = c .before .before .before .before in
     let s = c .before .before .before .before .before .before .before .before .before .before in
@@ -47,13 +47,13 @@ gathered c =
     let n = length (now (s .args .shape)) in
     let Gs = lists (now (s .args .shape)) (dimsOf (s .args .gathers)) in
     drop-before [] Gs j (omega arith) (omega (arith, s .pre .step .gathers))
-    ∙ ap (λ L. L ∷ drop j Gs) (getD-take n (dimsOf (s .args .gathers)) (j - 1) [] (omega arith) ∙ sym (c .before .before .list-at .ensures))
+    ∙ ap (λ L. L ∷ drop j Gs) (getD-take n (dimsOf (s .args .gathers)) (j - 1) [] (omega arith) ∙ sym (c .before .before .list .ensures))
 
 sliced : (c : tie.After-shared-slice-known3 Inv-loop μ-loop)
     → (let l = c .before .before .before .before in
     let s = c .before .before .before .before .before .before .before .before .before .before in
     let Ss = lists (now (s .args .shape)) (dimsOf (s .args .slices)) in
-    drop (l .loop .j - 1) Ss ≡ axesOf (c .before .list-at2 .result) ∷ drop (l .loop .j) Ss)
+    drop (l .loop .j - 1) Ss ≡ axesOf (c .before .list2 .result) ∷ drop (l .loop .j) Ss)
 sliced c =
     let l = c .before .before .before .before in
     let s = c .before .before .before .before .before .before .before .before .before .before in
@@ -61,18 +61,18 @@ sliced c =
     let n = length (now (s .args .shape)) in
     let Ss = lists (now (s .args .shape)) (dimsOf (s .args .slices)) in
     drop-before [] Ss j (omega arith) (omega (arith, s .pre .step .slices))
-    ∙ ap (λ L. L ∷ drop j Ss) (getD-take n (dimsOf (s .args .slices)) (j - 1) [] (omega arith) ∙ sym (c .before .list-at2 .ensures))
+    ∙ ap (λ L. L ∷ drop j Ss) (getD-take n (dimsOf (s .args .slices)) (j - 1) [] (omega arith) ∙ sym (c .before .list2 .ensures))
 
 asked : (c : tie.After-shared-slice-known3 Inv-loop μ-loop)
     → (let l = c .before .before .before .before in
     let s = c .before .before .before .before .before .before .before .before .before .before in
-    Dimension (l .loop .digits) (l .loop .strides) (l .loop .added) (now (s .args .mesh)) (axesOf (c .before .before .list-at .result))
-    (axesOf (c .before .list-at2 .result))
+    Dimension (l .loop .digits) (l .loop .strides) (l .loop .added) (now (s .args .mesh)) (axesOf (c .before .before .list .result))
+    (axesOf (c .before .list2 .result))
     (getD (now (s .args .shape)) (l .loop .j - 1) 0) (l .loop .w) (l .loop .first) (l .loop .count))
 asked c =
     let l = c .before .before .before .before in
     let s = c .before .before .before .before .before .before .before .before .before .before in
-    dims-ask _ (axesOf (c .before .before .list-at .result)) (axesOf (c .before .list-at2 .result)) (l .loop .inv .4) (size c)
+    dims-ask _ (axesOf (c .before .before .list .result)) (axesOf (c .before .list2 .result)) (l .loop .inv .4) (size c)
     (gathered c) (sliced c)
     (s .pre) (l .loop .inv .1) (l .loop .inv .2 ∙ s .pre .strides-places) (l .loop .inv .3 ∙ s .pre .added-places)
     (omega (arith, c .before .before .before .loop-test .taken)) (l .loop .inv .0)
@@ -85,8 +85,9 @@ shape-digits-spec =
     μ-loop
     (λ c. (omega arith, refl, refl, refl, dims-start (c .before .before .before .before .before .pre)))
     (λ c. omega arith)
-    (λ c κs. omega (arith, c .before .before .before .before .before .before .before .pre .step .rank))
-    (λ c κs. omega (arith, c .before .before .before .before .before .before .before .before .pre .step .rank))
+    (λ c. omega (arith, c .before .before .before .before .before .before .before .pre .step .rank))
+    (λ c κs. search needs)
+    (λ c κs. search needs)
     (λ c. omega arith)
     (λ c. omega arith)
     (λ c. omega (arith, c .shared-slice-known3 .given (c .before .before .before .before .loop .j - 1)))
@@ -113,7 +114,7 @@ shape-digits-spec =
       r .kept .1 .0 ∙ l .loop .inv .2,
       r .kept .1 .1 .0 ∙ l .loop .inv .3,
       rw (c .len .ensures, r .ensures .0)
-          (dims-step _ (axesOf (x .before .before .list-at .result)) (axesOf (x .before .list-at2 .result)) (l .loop .inv .4)
+          (dims-step _ (axesOf (x .before .before .list .result)) (axesOf (x .before .list2 .result)) (l .loop .inv .4)
           (size x) (gathered x) (sliced x)
           (r .last .0) (r .last .1 .0) (r .last .1 .1 .0) (s .pre .step .gathers) (s .pre .step .slices) (s .pre .step .on .devices-pos) (r .kept .0)
           (omega (arith, d .front .room)) (dim-facts d .apart-few) (r .ensures .1 .0) (r .ensures .1 .1 .0) (r .ensures .1 .1 .1)),

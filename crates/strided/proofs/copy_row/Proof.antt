@@ -5,8 +5,7 @@ use mathlib.Core.Path.{_≡_, _∙_}
 use lib.ListN.{length}
 use denote.Ref.{now}
 use Rattle.rules.proofs.Fronts.{part-cut}
-use Rattle.strided.proofs.Laws.{run-in}
-use Rattle.strided.proofs.Laws.{run-is}
+use Rattle.strided.proofs.Laws.{run-in, run-is}
 use Rattle.strided.proofs.copy_row.Statement.{statement}
 use Rattle.strided.proofs.copy_row.Tie as tie
 
