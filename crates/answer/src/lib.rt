@@ -3,7 +3,7 @@
 // definitions; that the lines are 01's is tested (tests/plans.txt).
 ghost use mathlib.Core.Path.{_≡_};
 ghost use Rattle.rules.specs.Refusals.{numberOf};
-ghost use Rattle.ishkrela.specs.Promises.{CheckPromise};
+ghost use Rattle.rules.specs.Promises.{CheckPromise};
 use ishkrela::CheckOutcome;
 use ishkrela::Checked;
 use ishkrela::Dim;

@@ -1,8 +1,9 @@
 // One axis list at a time: the tests and changes of lists that a judgement is made of, marks of named axes, and the sizes of a mesh.
 ghost use mathlib.Core.Path.{_≡_};
-ghost use mathlib.Core.List.{List, [], _∷_, _++_};
-ghost use Prim.Native.Nat.{ℕ, _+_, _≤_, _<_};
-ghost use lib.ListN.{length, getD};
+ghost use mathlib.Core.Bool.{true, false};
+ghost use mathlib.Core.List.{[], _∷_, _++_};
+ghost use Prim.Native.Nat.{_+_, _≤_, _<_};
+ghost use lib.ListN.{length, getD, set};
 ghost use Rattle.rules.specs.Lists.{pick, mem, without as withoutOf};
 ghost use Rattle.rules.specs.Limits.{mostAxes};
 ghost use Rattle.rules.specs.Mesh.{span as spanOf};
@@ -10,7 +11,7 @@ ghost use Rattle.rules.specs.Collectives.{cutTail};
 ghost use Rattle.rules.specs.PlanFile.{allBelow, increasingFrom, allIn, isTail};
 ghost use Rattle.rules.specs.Types.{axesOf};
 ghost use Rattle.axes.specs.Mesh.{meshOf, Sized};
-ghost use Rattle.axes.specs.Marks.{StandFor};
+ghost use Rattle.axes.specs.Marks.{marksWith};
 use rules::Axis;
 use rules::AxisList;
 
@@ -196,9 +197,9 @@ pub fn join(list: AxisList, tail: AxisList) -> AxisList
     whole
 }
 
-// Whether an axis is marked as named; one past the last place has no mark.
+// Whether an axis is marked; one past the last place has no mark.
 pub fn is_marked(marks: &[bool], a: Axis) -> bool
-    ensures { λ r. ⌜ ((named : List ℕ) → StandFor (now (marks .entry)) named → a .0 < mostAxes → r ≡ mem (a .0) named) ⌝ }
+    ensures { λ r. ⌜ r ≡ getD (now (marks .entry)) (a .0) false ⌝ }
 {
     let i = a.0 as usize;
     if i < marks.len() { marks[i] } else { false }
@@ -206,7 +207,7 @@ pub fn is_marked(marks: &[bool], a: Axis) -> bool
 
 // Marks one axis more. Marks are lent: handed on by value they would be copied for each axis.
 pub fn mark(marks: &mut [bool], a: Axis)
-    ensures { λ _. ⌜ ((named : List ℕ) → StandFor (now (marks .entry)) named → StandFor (now (marks .exit)) (named ++ (a .0 ∷ []))) ⌝ }
+    ensures { λ _. ⌜ now (marks .exit) ≡ set (now (marks .entry)) (a .0) true ⌝ }
 {
     let i = a.0 as usize;
     if i < marks.len() {
@@ -216,7 +217,7 @@ pub fn mark(marks: &mut [bool], a: Axis)
 
 // Marks the axes of a list.
 pub fn mark_list(marks: &mut [bool], list: AxisList)
-    ensures { λ _. ⌜ ((named : List ℕ) → StandFor (now (marks .entry)) named → StandFor (now (marks .exit)) (named ++ axesOf list)) ⌝ }
+    ensures { λ _. ⌜ now (marks .exit) ≡ marksWith (now (marks .entry)) (axesOf list) ⌝ }
 {
     let count = list.len();
     let mut i: usize = 0;

@@ -1,36 +1,30 @@
--- Laws of the boundary: the five lists, all and one by one, their places, and the rank of an accepted plan. Assumes nothing.
+-- Laws of the boundary: the five lists, all and one by one, their places, and the library's answers in numbers (`check-told`, `place-told`).
+-- Assumes nothing.
 use Prim.Native.Nat.{ℕ, zero, suc, _+_, _*_, _/_, _%_, _<_, _≤_}
-use mathlib.Core.Path.{_≡_, refl, ap}
-use mathlib.Core.List.{List, [], _∷_, _++_, map}
+use mathlib.Core.Path.{_≡_, refl, sym, ap, subst, _∙_}
+use mathlib.Core.List.{List, [], _∷_, map}
 use native.Mathlib.Omega.{arith}
-use lib.ListN.{length, take, getD}
+use lib.ListN.{length, getD}
 use lib.Arith.{digits-div, digits-mod}
-use lib.Dec.{ltb, leb}
 use Rattle.rules.specs.Lists.{tab}
 use Rattle.rules.specs.Limits.{mostAxes, mostDims}
-use Rattle.rules.specs.Mesh.{devices}
 use Rattle.rules.specs.Sharding.{Sharding}
-use Rattle.rules.specs.Refusals.{accept}
-use Rattle.rules.specs.PlanFile.{judge}
-use Rattle.rules.specs.Calls.{CheckAnswer, PlaceAnswer, fourPlaces, Past, checkOf, placeOf}
-use Rattle.rules.specs.Types.{axesOf, dimsOf, shardingOf}
-use Rattle.rules.specs.declared.Sharding as code
+use Rattle.rules.specs.Refusals.{Judged, accept, refuse}
+use Rattle.rules.specs.Types.{axesOf, dimsOf, shardingOf, fourPlaces, listFrom, shardingFrom}
+use Rattle.rules.specs.Calls.{CheckAnswer, checkOf, checkedOf, PlaceAnswer, placeOf, placedOf}
+use Rattle.rules.specs.Promises.{CheckPromise, PlacePromise}
+use Rattle.rules.specs.declared.Checked.{Checked}
+use Rattle.rules.specs.declared.Placed.{Placed}
+use Rattle.rules.specs.declared.CheckOutcome.{CheckOutcome}
+use Rattle.rules.specs.declared.CheckOutcome.the-variants as check
+use Rattle.rules.specs.declared.PlaceOutcome.{PlaceOutcome}
+use Rattle.rules.specs.declared.PlaceOutcome.the-variants as place
 use Rattle.rules.proofs.Lists.{tab-cong}
-use Rattle.rules.proofs.Judging.{accept-inj, bind-inv, need-inv}
-use Rattle.rules.proofs.Accepted.{accepted}
-use Rattle.capi.specs.Boundary.{places, fiveLists, listOf, fiveCounts, axisIn, thirtyAxes}
+use Rattle.rules.proofs.Types.{list-axes}
+use Rattle.rules.proofs.Answers.{InPlaces, check-in-places, check-listed, place-in-places, place-listed}
+use Rattle.capi.specs.Boundary.{places, fiveLists, listOf, fiveCounts, axisIn, thirtyAxes, checkReply, placeReply, checkedReply, placedReply}
 
 -- ---- the five lists
-
--- past the rank there are none
-five-past : (rank : ℕ) (s : code.Sharding) → Past [] rank (dimsOf s) → fiveLists (shardingOf mostDims s) ≡ fiveLists (shardingOf rank s)
-five-past rank s e = ap (λ (ls : List (List ℕ)). fourPlaces [] (take mostDims ls) ++ axesOf (s .unreduced) ∷ []) e
-
-pub counts-past : (rank : ℕ) (s : code.Sharding) → Past [] rank (dimsOf s) → fiveCounts (shardingOf mostDims s) ≡ fiveCounts (shardingOf rank s)
-counts-past rank s e = ap (λ (ls : List (List ℕ)). map (λ (l : List ℕ). length l) ls) (five-past rank s e)
-
-pub axes-past : (rank : ℕ) (s : code.Sharding) → Past [] rank (dimsOf s) → thirtyAxes (shardingOf mostDims s) ≡ thirtyAxes (shardingOf rank s)
-axes-past rank s e = ap (λ (ls : List (List ℕ)). tab places (λ i. getD (getD ls (i / mostAxes) []) (i % mostAxes) 0)) (five-past rank s e)
 
 pub list-last : (s : Sharding) (d : ℕ) → d ≡ mostDims → s .unreduced ≡ listOf s d
 list-last s d e = rw e refl
@@ -48,20 +42,79 @@ pub six-places : (s : Sharding) (d : ℕ) (l : List ℕ) → l ≡ listOf s d
 six-places s d l e =
     tab-cong mostAxes (λ i. getD l i 0) (λ i. axisIn s (d * mostAxes + i)) (λ i h. rw (digits-div d h, digits-mod d h, e))
 
--- ---- the rank of a plan that is accepted
+-- the five lists of an answer of the library, where each has a place for its axes
+module _ {rank : ℕ} {s : Sharding} (f : InPlaces rank s) where
+  five-lists : fiveLists (shardingOf mostDims (shardingFrom s)) ≡ fiveLists s
+  unfolding dimsOf
+  five-lists =
+      let list : (d : ℕ) → axesOf (listFrom (getD (s .dims) d [])) ≡ getD (s .dims) d [] = λ d. list-axes (getD (s .dims) d []) (f .lists-few d) in
+      (λ i. list 0 i ∷ list 1 i ∷ list 2 i ∷ list 3 i ∷ list-axes (s .unreduced) (f .unreduced-few) i ∷ [])
 
-pub check-rank : (file : List ℕ) (a : CheckAnswer) → checkOf file ≡ accept a → a .rank ≤ mostDims
-unfolding checkOf
-check-rank file a e =
-    let j = bind-inv (judge file) _ a e in
-    let same : length (j .0 .sizes) ≡ a .rank = ap (λ (b : CheckAnswer). b .rank) (accept-inj (j .2)) in
-    omega (arith, same, accepted file (j .0) (j .1) .within .rank-few)
+  counts-of : fiveCounts (shardingOf mostDims (shardingFrom s)) ≡ fiveCounts s
+  counts-of = ap (λ (ls : List (List ℕ)). map (λ (l : List ℕ). length l) ls) five-lists
 
-pub place-rank : (file : List ℕ) (state device : ℕ) (a : PlaceAnswer) → placeOf file state device ≡ accept a → a .rank ≤ mostDims
-unfolding placeOf
-place-rank file state device a e =
-    let j = bind-inv (judge file) _ a e in
-    let s = need-inv 0 (leb state (length (j .0 .steps))) 34 _ a (j .2) in
-    let d = need-inv 0 (ltb device (devices (j .0 .mesh))) 32 _ a (s .1) in
-    let same : length (j .0 .sizes) ≡ a .rank = ap (λ (b : PlaceAnswer). b .rank) (accept-inj (d .1)) in
-    omega (arith, same, accepted file (j .0) (j .1) .within .rank-few)
+  axes-of : thirtyAxes (shardingOf mostDims (shardingFrom s)) ≡ thirtyAxes s
+  axes-of = ap (λ (ls : List (List ℕ)). tab places (λ i. getD (getD ls (i / mostAxes) []) (i % mostAxes) 0)) five-lists
+
+-- ---- the library's answers, in numbers
+
+-- the rank of an answer, 0 beside a refusal
+abbrev pub checkedRank : CheckOutcome → ℕ
+checkedRank (check.Passed t) = t .rank
+checkedRank (check.Refused r) = 0
+
+abbrev pub placedRank : PlaceOutcome → ℕ
+placedRank (place.Found rank) = rank
+placedRank (place.Refused r) = 0
+
+module _ (file : List ℕ) where
+  checked : (j : Judged CheckAnswer) → checkOf file ≡ j
+      → (checkedReply (checkedOf j .outcome) (checkedOf j) ≡ checkReply j) × (checkedRank (checkedOf j .outcome) ≤ mostDims)
+  checked (accept a) e =
+      let f = check-in-places file a e in (
+        (λ i. record {
+          refusal = 0;
+          room = a .room;
+          devices = a .devices;
+          steps = a .steps;
+          rank = a .rank;
+          shard = fourPlaces 0 (a .shard);
+          counts = counts-of f i;
+          axes = axes-of f i;
+        }),
+        f .rank-few,
+      )
+  checked (refuse n k) e = (ap (λ (m : ℕ). checkReply (refuse m k)) (check-listed file n k e), omega arith)
+
+  module _ {r : Checked} {o : CheckOutcome} (p : CheckPromise file r) (e : r .outcome ≡ o) where
+    pub check-told : checkedReply o r ≡ checkReply (checkOf file)
+    check-told =
+        ap (λ (x : CheckOutcome). checkedReply x r) (sym e) ∙ ap (λ (c : Checked). checkedReply (c .outcome) c) p ∙ checked (checkOf file) refl .0
+
+    pub check-rank : checkedRank o ≤ mostDims
+    check-rank = subst (λ (x : CheckOutcome). checkedRank x ≤ mostDims) (ap (λ (c : Checked). c .outcome) (sym p) ∙ e) (checked (checkOf file) refl .1)
+
+module _ (file : List ℕ) (state device : ℕ) where
+  placed : (j : Judged PlaceAnswer) → placeOf file state device ≡ j
+      → (placedReply (placedOf j .outcome) (placedOf j) ≡ placeReply j) × (placedRank (placedOf j .outcome) ≤ mostDims)
+  placed (accept a) e =
+      let f = place-in-places file state device a e in (
+        (λ i. record {
+          refusal = 0;
+          rank = a .rank;
+          shard = fourPlaces 0 (a .shard);
+          first = fourPlaces 0 (a .first);
+          counts = counts-of f i;
+          axes = axes-of f i;
+        }),
+        f .rank-few,
+      )
+  placed (refuse n k) e = (ap (λ (m : ℕ). placeReply (refuse m k)) (place-listed file state device n k e), omega arith)
+
+  module _ {r : Placed} {o : PlaceOutcome} (p : PlacePromise file state device r) (e : r .outcome ≡ o) where
+    pub place-told : placedReply o r ≡ placeReply (placeOf file state device)
+    place-told =
+        ap (λ (x : PlaceOutcome). placedReply x r) (sym e) ∙ ap (λ (c : Placed). placedReply (c .outcome) c) p ∙ placed (placeOf file state device) refl .0
+
+    pub place-rank : placedRank o ≤ mostDims
+    place-rank = subst (λ (x : PlaceOutcome). placedRank x ≤ mostDims) (ap (λ (c : Placed). c .outcome) (sym p) ∙ e) (placed (placeOf file state device) refl .1)

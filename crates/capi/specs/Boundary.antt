@@ -6,8 +6,15 @@ use lib.ListN.{length, getD, replicate}
 use Rattle.rules.specs.Lists.{tab}
 use Rattle.rules.specs.Limits.{mostAxes, mostDims}
 use Rattle.rules.specs.Sharding.{Sharding}
-use Rattle.rules.specs.Refusals.{Judged, accept, refuse}
-use Rattle.rules.specs.Calls.{CheckAnswer, PlaceAnswer, fourPlaces}
+use Rattle.rules.specs.Refusals.{Judged, accept, refuse, refusedBy}
+use Rattle.rules.specs.Types.{fourPlaces, shardingOf}
+use Rattle.rules.specs.Calls.{CheckAnswer, PlaceAnswer}
+use Rattle.rules.specs.declared.Checked.{Checked}
+use Rattle.rules.specs.declared.CheckOutcome.{CheckOutcome}
+use Rattle.rules.specs.declared.CheckOutcome.the-variants as check
+use Rattle.rules.specs.declared.Placed.{Placed}
+use Rattle.rules.specs.declared.PlaceOutcome.{PlaceOutcome}
+use Rattle.rules.specs.declared.PlaceOutcome.the-variants as place
 use Rattle.capi.specs.declared.CheckReply.{CheckReply}
 use Rattle.capi.specs.declared.PlaceReply.{PlaceReply}
 
@@ -82,3 +89,29 @@ placeReply (refuse n k) = record {
   counts = replicate lists 0;
   axes = replicate places 0;
 }
+
+-- ---- the same numbers, from the library's own answers
+
+abbrev pub checkedReply : CheckOutcome → Checked → CheckReply
+checkedReply (check.Passed t) c = record {
+  refusal = 0;
+  room = t .room;
+  devices = t .devices;
+  steps = t .steps;
+  rank = t .rank;
+  shard = c .shard;
+  counts = fiveCounts (shardingOf mostDims (c .sharding));
+  axes = thirtyAxes (shardingOf mostDims (c .sharding));
+}
+checkedReply (check.Refused r) c = checkReply (refusedBy r)
+
+abbrev pub placedReply : PlaceOutcome → Placed → PlaceReply
+placedReply (place.Found rank) c = record {
+  refusal = 0;
+  rank = rank;
+  shard = c .shard;
+  first = c .first;
+  counts = fiveCounts (shardingOf mostDims (c .sharding));
+  axes = thirtyAxes (shardingOf mostDims (c .sharding));
+}
+placedReply (place.Refused r) c = placeReply (refusedBy r)

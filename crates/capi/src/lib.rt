@@ -7,8 +7,8 @@ ghost use Rattle.rules.specs.Lists.{tab};
 ghost use Rattle.rules.specs.Limits.{mostAxes, mostDims};
 ghost use Rattle.rules.specs.Refusals.{numberOf, refusedBy};
 ghost use Rattle.rules.specs.Types.{axesOf, shardingOf};
-ghost use Rattle.rules.specs.Calls.{checkOf, placeOf, groupsOf, groupsLeave, runOf, checkedBy, placedBy, CheckedPast, PlacedPast};
-ghost use Rattle.capi.specs.Boundary.{refusalCode, listOf, fiveCounts, thirtyAxes, checkReply, placeReply};
+ghost use Rattle.rules.specs.Calls.{checkOf, placeOf, groupsOf, groupsLeave, runOf};
+ghost use Rattle.capi.specs.Boundary.{refusalCode, listOf, fiveCounts, thirtyAxes, checkReply, placeReply, checkedReply, placedReply};
 use ishkrela::Axis;
 use ishkrela::AxisList;
 use ishkrela::CheckOutcome;
@@ -136,8 +136,8 @@ fn check_refused(refusal: Refusal) -> CheckReply
 }
 
 fn check_passed(totals: Totals, checked: Checked) -> CheckReply
-    requires { ⌜ (totals .rank ≤ mostDims) × CheckedPast (totals .rank) checked ⌝ }
-    ensures { λ r. ⌜ r ≡ checkReply (checkedBy (CheckOutcome.Passed totals) checked) ⌝ }
+    requires { ⌜ totals .rank ≤ mostDims ⌝ }
+    ensures { λ r. ⌜ r ≡ checkedReply (CheckOutcome.Passed totals) checked ⌝ }
 {
     let sharding = checked.sharding;
     let shard = checked.shard;
@@ -182,8 +182,8 @@ fn place_refused(refusal: Refusal) -> PlaceReply
 }
 
 fn place_found(rank: usize, placed: Placed) -> PlaceReply
-    requires { ⌜ (rank ≤ mostDims) × PlacedPast rank placed ⌝ }
-    ensures { λ r. ⌜ r ≡ placeReply (placedBy (PlaceOutcome.Found rank) placed) ⌝ }
+    requires { ⌜ rank ≤ mostDims ⌝ }
+    ensures { λ r. ⌜ r ≡ placedReply (PlaceOutcome.Found rank) placed ⌝ }
 {
     let sharding = placed.sharding;
     let shard = placed.shard;

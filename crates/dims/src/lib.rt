@@ -1,20 +1,19 @@
 // Dimension by dimension: the tests and changes of one axis list for each dimension, and shard sizes. One loop over the dimensions each.
-// At the end, the arrays of an answer, with nothing past the rank.
+// At the end, the arrays of an answer, with nothing past the rank and 0 in every place that is not used.
 ghost use mathlib.Core.Path.{_≡_};
-ghost use mathlib.Core.List.{List, [], _++_};
-ghost use Prim.Native.Nat.{ℕ, _+_, _/_, _%_, _≤_, _<_};
+ghost use mathlib.Core.List.{[]};
+ghost use Prim.Native.Nat.{_/_, _%_, _≤_, _<_};
 ghost use lib.Dec.{eqb};
-ghost use lib.ListN.{length, getD, take};
+ghost use lib.ListN.{length, getD, take, drop};
 ghost use Rattle.rules.specs.Lists.{both, flat, product};
 ghost use Rattle.rules.specs.Limits.{mostAxes, mostDims};
 ghost use Rattle.rules.specs.Mesh.{span as spanOf};
 ghost use Rattle.rules.specs.Sharding.{divisible as divisibleOf, shardSizes};
 ghost use Rattle.rules.specs.Collectives.{sliced as slicedOf, gathered as gatheredOf};
 ghost use Rattle.rules.specs.PlanFile.{some, allBelow, isTail};
-ghost use Rattle.rules.specs.Types.{axesOf, dimsOf, shardingOf};
-ghost use Rattle.rules.specs.Calls.{Past};
+ghost use Rattle.rules.specs.Types.{axesOf, dimsOf, shardingOf, fourPlaces, shardingFrom, noLists};
 ghost use Rattle.axes.specs.Mesh.{meshOf, Sized};
-ghost use Rattle.axes.specs.Marks.{StandFor};
+ghost use Rattle.axes.specs.Marks.{marksWith};
 ghost use Rattle.dims.specs.Dims.{sizesOf, Room};
 use axes::Mesh;
 use axes::all_below;
@@ -63,8 +62,7 @@ pub fn names_below(lists: Sharding, rank: usize, n: usize) -> bool
 // Marks the axes of the lists.
 pub fn mark_dims(lists: Sharding, rank: usize, marks: &mut [bool])
     requires { ⌜ rank ≤ mostDims ⌝ }
-    ensures { λ _. ⌜ ((named : List ℕ) → StandFor (now (marks .entry)) named
-        → StandFor (now (marks .exit)) (named ++ flat (take rank (dimsOf lists)))) ⌝ }
+    ensures { λ _. ⌜ now (marks .exit) ≡ marksWith (now (marks .entry)) (flat (take rank (dimsOf lists))) ⌝ }
 {
     let mut d: usize = 0;
     while d < rank {
@@ -91,10 +89,11 @@ pub fn tails(sharding: Sharding, lists: Sharding, rank: usize) -> bool
     true
 }
 
-// The sharding after an all-gather: each list is cut off its dimension's list.
+// The sharding after an all-gather: each list is cut off its dimension's list. Lists past the rank stay.
 pub fn gathered(sharding: Sharding, lists: Sharding, rank: usize) -> Sharding
     requires { ⌜ rank ≤ mostDims ⌝ }
-    ensures { λ r. ⌜ shardingOf rank r ≡ gatheredOf (take rank (dimsOf lists)) (shardingOf rank sharding) ⌝ }
+    ensures { λ r. ⌜ (shardingOf rank r ≡ gatheredOf (take rank (dimsOf lists)) (shardingOf rank sharding))
+        × (drop rank (dimsOf r) ≡ drop rank (dimsOf sharding)) ⌝ }
 {
     let mut next = sharding;
     let mut d: usize = 0;
@@ -108,10 +107,11 @@ pub fn gathered(sharding: Sharding, lists: Sharding, rank: usize) -> Sharding
     next
 }
 
-// The sharding after an all-slice: each list is joined to the end of its dimension's list.
+// The sharding after an all-slice: each list is joined to the end of its dimension's list. Lists past the rank stay.
 pub fn sliced(sharding: Sharding, lists: Sharding, rank: usize) -> Sharding
     requires { ⌜ (rank ≤ mostDims) × Room (take rank (dimsOf sharding)) (take rank (dimsOf lists)) ⌝ }
-    ensures { λ r. ⌜ shardingOf rank r ≡ slicedOf (take rank (dimsOf lists)) (shardingOf rank sharding) ⌝ }
+    ensures { λ r. ⌜ (shardingOf rank r ≡ slicedOf (take rank (dimsOf lists)) (shardingOf rank sharding))
+        × (drop rank (dimsOf r) ≡ drop rank (dimsOf sharding)) ⌝ }
 {
     let mut next = sharding;
     let mut d: usize = 0;
@@ -174,10 +174,11 @@ fn quotient(size: u16, span: usize) -> u16
     (whole / span) as u16
 }
 
-// One shard of a table under a sharding, itself a table.
+// One shard of a table under a sharding, itself a table. Sizes past the rank stay.
 pub fn shard_of(table: Table, sharding: Sharding, mesh: Mesh) -> Table
     requires { ⌜ (table .rank ≤ mostDims) × Sized (meshOf mesh) ⌝ }
-    ensures { λ r. ⌜ (r .rank ≡ table .rank) × (sizesOf r ≡ shardSizes (meshOf mesh) (sizesOf table) (take (table .rank) (dimsOf sharding))) ⌝ }
+    ensures { λ r. ⌜ (r .rank ≡ table .rank) × (sizesOf r ≡ shardSizes (meshOf mesh) (sizesOf table) (take (table .rank) (dimsOf sharding)))
+        × (drop (table .rank) (r .sizes) ≡ drop (table .rank) (table .sizes)) ⌝ }
 {
     let rank = table.rank;
     let mut shard = table;
@@ -225,21 +226,26 @@ fn list_at(sharding: Sharding, rank: usize, d: usize) -> AxisList
     }
 }
 
-// The sharding of a table of a rank, with no axes past it.
+// The sharding of a table of a rank, with no axes past it and every place fixed that is not used.
 pub fn lists_within(sharding: Sharding, rank: usize) -> Sharding
-    requires { ⌜ rank ≤ mostDims ⌝ }
-    ensures { λ r. ⌜ (shardingOf rank r ≡ shardingOf rank sharding) × Past [] rank (dimsOf r) ⌝ }
+    ensures { λ r. ⌜ r ≡ shardingFrom (shardingOf rank sharding) ⌝ }
 {
-    let unreduced = sharding.unreduced;
     Sharding {
         dims: [
-            list_at(sharding, rank, 0),
-            list_at(sharding, rank, 1),
-            list_at(sharding, rank, 2),
-            list_at(sharding, rank, 3),
+            list_at(sharding, rank, 0).cleared(),
+            list_at(sharding, rank, 1).cleared(),
+            list_at(sharding, rank, 2).cleared(),
+            list_at(sharding, rank, 3).cleared(),
         ],
-        unreduced,
+        unreduced: sharding.unreduced.cleared(),
     }
+}
+
+// No axes in any list: the sharding beside a refusal.
+pub fn no_lists() -> Sharding
+    ensures { λ r. ⌜ r ≡ shardingFrom noLists ⌝ }
+{
+    lists_within(Sharding::replicated(), 0)
 }
 
 // The size of a dimension, 0 past the rank.
@@ -252,8 +258,7 @@ fn size_at(table: Table, d: usize) -> u16
 
 // The sizes of a table, 0 past the rank.
 pub fn sizes_within(table: Table) -> [u16; Dim::MOST]
-    requires { ⌜ table .rank ≤ mostDims ⌝ }
-    ensures { λ r. ⌜ (take (table .rank) r ≡ sizesOf table) × Past 0 (table .rank) r ⌝ }
+    ensures { λ r. ⌜ r ≡ fourPlaces 0 (sizesOf table) ⌝ }
 {
     [
         size_at(table, 0),

@@ -1,3 +1,2 @@
 -- What the contracts of the group listing are written with.
 pub mod Ordering
-pub mod Promises

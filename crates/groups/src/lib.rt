@@ -12,7 +12,7 @@ ghost use Rattle.rules.specs.Limits.{mostAxes, mostDevices};
 ghost use Rattle.rules.specs.Refusals.{need};
 ghost use Rattle.rules.specs.PlanFile.{judgeSizes};
 ghost use Rattle.rules.specs.Types.{axesOf};
-ghost use Rattle.rules.specs.Calls.{groupsOf, groupsLeave, groupsMeaning};
+ghost use Rattle.rules.specs.Promises.{GroupsPromise};
 ghost use Rattle.start.specs.Start.{meaning};
 ghost use Rattle.groups.specs.Ordering.{orderOf, along, repeated, IsList, IsOrder, Repeats};
 use axes::is_in;
@@ -170,8 +170,7 @@ fn write_devices(mesh: &[u16], order: AxisList, out: &mut [u16])
 
 // Lists the devices of each group along the axes, in order of position: the first D entries of the output, which a refusal leaves as it was.
 pub fn groups(mesh: &[u16], axes: &[u8], out: &mut [u16]) -> GroupsOutcome
-    ensures answers { λ r. ⌜ groupsMeaning r ≡ groupsOf (now (mesh .entry)) (now (axes .entry)) (now (out .entry)) ⌝ }
-    ensures leaves { λ r. ⌜ now (out .exit) ≡ groupsLeave (now (mesh .entry)) (now (axes .entry)) (now (out .entry)) ⌝ }
+    ensures { λ r. ⌜ GroupsPromise (now (mesh .entry)) (now (axes .entry)) (now (out .entry)) r (now (out .exit)) ⌝ }
 {
     let n = mesh.len();
     let counted = judge_count(n);

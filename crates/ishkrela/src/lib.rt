@@ -1,7 +1,6 @@
 // The library as its users see it: the four calls, and the types of what they take and answer.
-// No call asks anything of its input; what each promises is in specs/Promises.antt, of the run in rules/specs/Promises.antt.
-ghost use Rattle.rules.specs.Promises.{RunPromise};
-ghost use Rattle.ishkrela.specs.Promises.{CheckPromise, PlacePromise, GroupsPromise};
+// No call asks anything of its input; what each promises is in rules/specs/Promises.antt.
+ghost use Rattle.rules.specs.Promises.{CheckPromise, PlacePromise, GroupsPromise, RunPromise};
 pub use rules::Axis;
 pub use rules::AxisList;
 pub use rules::CheckOutcome;

@@ -1,20 +1,20 @@
 // The judgement of a step, and the sharding after it. Order and numbers are those of Rattle.rules.specs.PlanFile; gather_off, slice_on and
 // judge_step stand for the definitions of the same names.
 ghost use mathlib.Core.Path.{_≡_};
-ghost use mathlib.Core.Bool.{true};
 ghost use mathlib.Core.List.{List};
 ghost use Prim.Native.Nat.{ℕ, _≤_};
 ghost use lib.ListN.{take};
+ghost use lib.Dec.{T};
 ghost use Rattle.rules.specs.Lists.{flat};
 ghost use Rattle.rules.specs.Limits.{mostDims};
 ghost use Rattle.rules.specs.Refusals.{accept, refuse, numberOf};
 ghost use Rattle.rules.specs.Collectives.{allSlice, allReduce, allToAll, stepAxes, reduced as reducedOf};
-ghost use Rattle.rules.specs.PlanFile.{allBelow, twoDims, gatherOff, sliceOn, judgeKind, judgeStep};
+ghost use Rattle.rules.specs.PlanFile.{allBelow, twoDims, gatherOff, sliceOn, judgeKind, judgeNamed, judgeStep};
 ghost use Rattle.rules.specs.Types.{axesOf, dimsOf, shardingOf, stepOf};
 ghost use Rattle.axes.specs.Mesh.{meshOf};
 ghost use Rattle.dims.specs.Dims.{sizesOf, Room};
-ghost use Rattle.start.specs.Start.{meaning, Fits};
-ghost use Rattle.judge.specs.Step.{meaningAfter, judgeNamed, Ready};
+ghost use Rattle.start.specs.Start.{meaning, WithinPlaces};
+ghost use Rattle.judge.specs.Step.{meaningAfter, Sharded};
 use axes::Mesh;
 use axes::all_below;
 use axes::all_in;
@@ -42,7 +42,7 @@ use start::Verdict;
 use start::judge_dims;
 use start::refused;
 
-// A verdict, and the sharding after the step where it is fine.
+// A verdict, and the sharding after the step where it is fine. Its lists past the rank are free, and so are the places of a list past its count.
 pub struct After {
     pub verdict: Verdict,
     pub sharding: Sharding,
@@ -102,7 +102,7 @@ fn judge_named(step: Step, k: u16, rank: usize, n: usize) -> Verdict
 }
 
 // An all-gather: 24 by dimension, then the lists are cut off.
-pub fn gather_off(lists: Sharding, k: u16, sharding: Sharding, rank: usize) -> After
+fn gather_off(lists: Sharding, k: u16, sharding: Sharding, rank: usize) -> After
     requires { ⌜ rank ≤ mostDims ⌝ }
     ensures { λ r. ⌜ meaningAfter rank r ≡ gatherOff k (take rank (dimsOf lists)) (shardingOf rank sharding) ⌝ }
 {
@@ -117,8 +117,8 @@ pub fn gather_off(lists: Sharding, k: u16, sharding: Sharding, rank: usize) -> A
 }
 
 // A slice: 25 by dimension, of the present shard sizes, then the lists are joined.
-pub fn slice_on(lists: Sharding, k: u16, sharding: Sharding, mesh: Mesh, table: Table) -> After
-    requires { ⌜ Fits mesh table × Room (take (table .rank) (dimsOf sharding)) (take (table .rank) (dimsOf lists)) ⌝ }
+fn slice_on(lists: Sharding, k: u16, sharding: Sharding, mesh: Mesh, table: Table) -> After
+    requires { ⌜ WithinPlaces mesh table × Room (take (table .rank) (dimsOf sharding)) (take (table .rank) (dimsOf lists)) ⌝ }
     ensures { λ r. ⌜ meaningAfter (table .rank) r
         ≡ sliceOn (meshOf mesh) (sizesOf table) k (take (table .rank) (dimsOf lists)) (shardingOf (table .rank) sharding) ⌝ }
 {
@@ -134,8 +134,8 @@ pub fn slice_on(lists: Sharding, k: u16, sharding: Sharding, mesh: Mesh, table: 
 }
 
 // All-slice: 23, then the slice. The axes are below n already, so judge_dims refuses an axis that is named, and nothing else.
-pub fn judge_slice(lists: Sharding, k: u16, sharding: Sharding, mesh: Mesh, table: Table) -> After
-    requires { ⌜ Ready mesh table sharding × (allBelow (mesh .n) (flat (take (table .rank) (dimsOf lists))) ≡ true) ⌝ }
+fn judge_slice(lists: Sharding, k: u16, sharding: Sharding, mesh: Mesh, table: Table) -> After
+    requires { ⌜ Sharded mesh table sharding × T (allBelow (mesh .n) (flat (take (table .rank) (dimsOf lists)))) ⌝ }
     ensures { λ r. ⌜ meaningAfter (table .rank) r
         ≡ judgeKind (meshOf mesh) (sizesOf table) k (allSlice (take (table .rank) (dimsOf lists))) (shardingOf (table .rank) sharding) ⌝ }
 {
@@ -159,7 +159,7 @@ fn reduced(list: AxisList, sharding: Sharding) -> Sharding
 }
 
 // All-reduce: 26, then 27, then the axes are replicated.
-pub fn judge_reduce(list: AxisList, k: u16, sharding: Sharding) -> After
+fn judge_reduce(list: AxisList, k: u16, sharding: Sharding) -> After
     ensures { λ r. ⌜ ((mesh sizes : List ℕ) (rank : ℕ) → meaningAfter rank r
         ≡ judgeKind mesh sizes k (allReduce (axesOf list)) (shardingOf rank sharding)) ⌝ }
 {
@@ -194,7 +194,7 @@ fn two_dims(source: Dim, target: Dim, rank: usize) -> bool
 }
 
 // All-to-all: 28, then the gather off the source, then the slice on the target.
-pub fn judge_all_to_all(
+fn judge_all_to_all(
     source: Dim,
     target: Dim,
     list: AxisList,
@@ -203,7 +203,7 @@ pub fn judge_all_to_all(
     mesh: Mesh,
     table: Table,
 ) -> After
-    requires { ⌜ Ready mesh table sharding × (allBelow (mesh .n) (axesOf list) ≡ true) ⌝ }
+    requires { ⌜ Sharded mesh table sharding × T (allBelow (mesh .n) (axesOf list)) ⌝ }
     ensures { λ r. ⌜ meaningAfter (table .rank) r
         ≡ judgeKind (meshOf mesh) (sizesOf table) k (allToAll (source .0) (target .0) (axesOf list)) (shardingOf (table .rank) sharding) ⌝ }
 {
@@ -224,7 +224,7 @@ pub fn judge_all_to_all(
 
 // A step whose axes are judged, by its kind.
 fn judge_kind(step: Step, k: u16, sharding: Sharding, mesh: Mesh, table: Table) -> After
-    requires { ⌜ Ready mesh table sharding × (judgeNamed (mesh .n) k (stepAxes (stepOf (table .rank) step)) ≡ accept tt) ⌝ }
+    requires { ⌜ Sharded mesh table sharding × (judgeNamed (mesh .n) k (stepAxes (stepOf (table .rank) step)) ≡ accept tt) ⌝ }
     ensures { λ r. ⌜ meaningAfter (table .rank) r
         ≡ judgeKind (meshOf mesh) (sizesOf table) k (stepOf (table .rank) step) (shardingOf (table .rank) sharding) ⌝ }
 {
@@ -248,15 +248,24 @@ fn judge_kind(step: Step, k: u16, sharding: Sharding, mesh: Mesh, table: Table) 
     }
 }
 
-// Step k of a plan, after the steps that left a sharding.
+// Step k of a plan, after the steps that left a sharding, which a refused step leaves as it was.
 pub fn judge_step(step: Step, k: u16, sharding: Sharding, mesh: Mesh, table: Table) -> After
-    requires { ⌜ Ready mesh table sharding ⌝ }
+    requires { ⌜ Sharded mesh table sharding ⌝ }
     ensures { λ r. ⌜ meaningAfter (table .rank) r
         ≡ judgeStep (meshOf mesh) (sizesOf table) k (stepOf (table .rank) step) (shardingOf (table .rank) sharding) ⌝ }
+    ensures { λ r. ⌜ ((x : Refusal) → r .verdict ≡ Verdict.Refused x → r .sharding ≡ sharding) ⌝ }
 {
-    let verdict = judge_named(step, k, table.rank, mesh.n);
+    let named = judge_named(step, k, table.rank, mesh.n);
+    let Verdict::Fine = named else {
+        return After {
+            verdict: named,
+            sharding,
+        };
+    };
+    let after = judge_kind(step, k, sharding, mesh, table);
+    let verdict = after.verdict;
     let Verdict::Fine = verdict else {
         return After { verdict, sharding };
     };
-    judge_kind(step, k, sharding, mesh, table)
+    after
 }

@@ -8,6 +8,7 @@ use native.Mathlib.Omega.{arith}
 use lib.ListN.{length, getD, set, drop, replicate, length-replicate}
 use Rattle.rules.specs.Lists.{flat, product}
 use Rattle.rules.specs.Spread.{from}
+use Rattle.rules.proofs.Lists.{few-distinct}
 use Rattle.strided.specs.Strided.{counted, Copy, copied}
 use Rattle.mesh.specs.Fitting.{Factors}
 use Rattle.mesh.proofs.Sizes.{fit-sizes}
@@ -16,7 +17,6 @@ use Rattle.digits.proofs.Strides.{pos-left, pos-right, strides-length}
 use Rattle.rules.specs.Collectives.{moved}
 use Rattle.moves.specs.Moves.{left, deviceStrides, stepDigits, Adding, Dimensions, DimensionsAt, Setting}
 use Rattle.moves.proofs.Leads.{Step, shard-length, counted-dims, left-length, device-length, copy-ok, copied-is}
-use Rattle.rules.proofs.Lists.{few-distinct}
 
 -- ---- strides are small
 

@@ -1,19 +1,17 @@
 -- The placement is a state and a device: refusals and answer, and that a device's blocks end within the table. Assumes nothing.
 use Prim.Native.Nat.{ℕ, zero, suc, _*_, _≤_, _<_}
-use mathlib.Core.Bool.{Bool, true, false}
 use mathlib.Core.Path.{_≡_, refl, sym, ap, _∙_, subst}
 use mathlib.Core.List.{List, []}
 use native.Mathlib.Omega.{arith}
 use native.Mathlib.Nat.{mul-le-mul, mul-comm, le-trans}
 use borrow.Author.Tests.{lt-ltb, le-ltb}
 use lib.ListN.{length, getD, take}
-use lib.Dec.{leb, ltb}
 use Rattle.rules.specs.Lists.{product, Below}
 use Rattle.rules.specs.Mesh.{span, position, devices, deviceCoords}
-use Rattle.rules.specs.Sharding.{Sharding, firstIndexes}
+use Rattle.rules.specs.Sharding.{firstIndexes}
 use Rattle.rules.specs.Limits.{mostWords}
-use Rattle.rules.specs.Refusals.{Judged, accept, refuse, _>>=_, _>>_, need, refusedBy}
-use Rattle.rules.specs.PlanFile.{Plan, judge, announced, announcedShape}
+use Rattle.rules.specs.Refusals.{Judged, accept, refuse, refusedBy}
+use Rattle.rules.specs.PlanFile.{Plan, announced, announcedShape, StateAnswer, stateOf}
 use Rattle.rules.specs.Types.{shardingOf, dimsOf}
 use Rattle.rules.specs.Calls.{PlaceAnswer, placeOf}
 use Rattle.rules.specs.declared.Refusal.{Refusal}
@@ -21,17 +19,16 @@ use Rattle.rules.proofs.Positions.{pos-of-lt, position-lt}
 use Rattle.rules.proofs.Buffers.{below-coords}
 use Rattle.rules.proofs.Shapes.{Cut, uncut, cut}
 use Rattle.rules.proofs.Sizes.{cut-divisible}
-use Rattle.rules.proofs.Judging.{accept-inj, bind-inv, need-inv}
-use Rattle.rules.proofs.Accepted.{AcceptedPlan, accepted}
+use Rattle.rules.proofs.Accepted.{AcceptedPlan, accepted, state-inv}
 use Rattle.rules.proofs.Room.{State, state}
 use Rattle.reader.specs.Reading.{nextRefusal}
-use Rattle.reader.specs.declared.Next.{Next}
 use Rattle.reader.specs.declared.Next.the-variants as next
 use Rattle.axes.specs.Mesh.{meshOf}
 use Rattle.dims.specs.Dims.{sizesOf}
 use Rattle.mesh.specs.Fitting.{IsPlace}
-use Rattle.plan.specs.Parts.{StateAnswer, stateOf, stateBy, stateMeaning, Shaped}
+use Rattle.plan.specs.Parts.{stateAt, stateAnswer, StateTells, Shaped}
 use Rattle.plan.specs.declared.State as code
+use Rattle.plan.proofs.States.{state-on, state-stopped}
 use Rattle.place.specs.Placing.{Placing}
 
 -- ---- a block ends within the table
@@ -52,37 +49,20 @@ module _ (mesh : List ℕ) where
       let all : 1 * product wholes ≤ whole * product wholes = mul-le-mul one (omega arith) in
       omega (arith, blocks-few c b rest j, all)
 
--- ---- the plan of a state
-
--- a state of a plan
-abbrev stateIn : ℕ → Plan → StateAnswer
-stateIn k p = record {
-  devices = devices (p .mesh);
-  mesh = p .mesh;
-  sizes = p .sizes;
-  rank = length (p .sizes);
-  sharding = announced p k;
-  shard = announcedShape p k;
-}
-
-state-inv : (file : List ℕ) (k : ℕ) (a : StateAnswer) → stateOf file k ≡ accept a → (p : Plan) × (judge file ≡ accept p) × (stateIn k p ≡ a)
-unfolding stateOf
-state-inv file k a e =
-    let p = bind-inv (judge file) _ a e in
-    (p .0, p .1, accept-inj (need-inv 0 (leb k (length (p .0 .steps))) 34 _ a (p .2) .1))
+-- ---- a device of a state
 
 -- what the first indexes ask for
 Within : StateAnswer → ℕ → Type 0
 Within a d =
     IsPlace (a .mesh) d × ((j : ℕ) → position (a .mesh) (getD (a .sharding .dims) j []) (deviceCoords (a .mesh) d) * getD (a .shard) j 0 ≤ mostWords)
 
-within : (file : List ℕ) (k d : ℕ) (a : StateAnswer) → stateOf file k ≡ accept a → d < a .devices → Within a d
+within : (file : List ℕ) (k d : ℕ) (a : StateAnswer) → stateOf file k ≡ accept a → d < devices (a .mesh) → Within a d
 unfolding announcedShape Within
 within file k d a e l =
     let i = state-inv file k a e in
     let p : Plan = i .0 in
     let g : AcceptedPlan p = accepted file p (i .1) in
-    let lt : d < devices (p .mesh) = subst (λ (z : StateAnswer). d < z .devices) (sym (i .2)) l in
+    let lt : d < devices (p .mesh) = subst (λ (z : StateAnswer). d < devices (z .mesh)) (sym (i .2)) l in
     let c = cut-divisible (p .mesh) (p .sizes) (announced p k .dims) (state g k .sharding .divides) in
     subst (λ (z : StateAnswer). Within z d) (i .2) (
       record {
@@ -97,66 +77,47 @@ within file k d a e l =
       λ j. le-trans (blocks-few (p .mesh) c (below-coords (p .mesh) d lt) (g .within .words-pos) j) (g .within .words-few),
     )
 
-pub placing : (file : List ℕ) (k d : ℕ) (r : code.State) {at : ℕ} → stateMeaning r ≡ stateOf file k → Shaped r → r .next ≡ next.At at
+pub placing : (file : List ℕ) (k d : ℕ) (r : code.State) {at : ℕ} → StateTells (stateAt file k) r → Shaped r → r .next ≡ next.At at
     → d < r .devices → Placing (meshOf (r .mesh)) (r .sharding) (r .shard) d
 unfolding Within
 placing file k d r e s h l =
-    let w = within file k d _ (sym e ∙ ap (λ (x : Next). stateBy x r) h) l in
+    let w = within file k d (stateAnswer r) (state-on file k r e h) (subst (λ (n : ℕ). d < n) (s .counted .devices-are) l) in
     let mesh = meshOf (r .mesh) in
     let Few : ℕ → Type 0 = λ n. (j : ℕ) → position mesh (getD (take n (dimsOf (r .sharding))) j []) (deviceCoords mesh d) * getD (sizesOf (r .shard)) j 0 ≤ mostWords in
     record { device = w .0; rank = s .rank-few; few = subst Few (sym (s .rank-is)) (w .1) }
 
--- ---- the placement is a state and a device
+-- ---- the placement of a device in a state
 
-placedIn : Judged StateAnswer → ℕ → Judged PlaceAnswer
-placedIn m d = _>>=_ m (λ (a : StateAnswer). _>>_ (need (ltb d (a .devices)) 32) (accept (record {
-  rank = a .rank;
-  sharding = a .sharding;
-  shard = a .shard;
-  first = firstIndexes (a .mesh) (a .sharding .dims) (a .shard) (deviceCoords (a .mesh) d);
-})))
-
-place-by-state : (file : List ℕ) (k d : ℕ) → placeOf file k d ≡ placedIn (stateOf file k) d
-unfolding placeOf stateOf placedIn
-place-by-state file k d = go (judge file)
-  where
-    go : (m : Judged Plan) → _>>=_ m (λ (p : Plan). _>>_ (need (leb k (length (p .steps))) 34) (placedIn (accept (stateIn k p)) d))
-        ≡ placedIn (_>>=_ m (λ (p : Plan). _>>_ (need (leb k (length (p .steps))) 34) (accept (stateIn k p)))) d
-    go (accept p) = test (leb k (length (p .steps)))
-      where
-        test : (b : Bool) → _>>_ (need b 34) (placedIn (accept (stateIn k p)) d) ≡ placedIn (_>>_ (need b 34) (accept (stateIn k p))) d
-        test true = refl
-        test false = refl
-    go (refuse n l) = refl
-
-module _ (file : List ℕ) (k d : ℕ) (r : code.State) (e : stateMeaning r ≡ stateOf file k) where
+module _ (file : List ℕ) (k d : ℕ) (r : code.State) (e : StateTells (stateAt file k) r) where
   pub place-stops : {x t : Refusal} → r .next ≡ next.Refused x → t ≡ nextRefusal (r .next) → placeOf file k d ≡ refusedBy t
-  unfolding placedIn
-  place-stops h q = place-by-state file k d ∙ rw (← e, h, q, h) refl
+  unfolding placeOf
+  place-stops h q = rw (state-stopped file k r e h q) refl
 
-  module _ {at : ℕ} (h : r .next ≡ next.At at) where
+  module _ (s : Shaped r) {at : ℕ} (h : r .next ≡ next.At at) where
     pub no-device : r .devices ≤ d → placeOf file k d ≡ refuse 32 0
-    unfolding placedIn
-    no-device l = place-by-state file k d ∙ rw (← e, h) (simp (le-ltb d (r .devices) l))
+    unfolding placeOf
+    no-device l = rw (state-on file k r e h) (simp (le-ltb d (devices (meshOf (r .mesh))) (subst (λ (n : ℕ). n ≤ d) (s .counted .devices-are) l)))
 
-    pub place-found : d < r .devices → r .shard .rank ≡ r .table .rank → (sharding : Sharding) → sharding ≡ shardingOf (r .shard .rank) (r .sharding)
-        → (shard : List ℕ) → shard ≡ sizesOf (r .shard) → (first : List ℕ)
-        → first ≡ firstIndexes (meshOf (r .mesh)) (take (r .shard .rank) (dimsOf (r .sharding))) (sizesOf (r .shard)) (deviceCoords (meshOf (r .mesh)) d)
-        → _≡_ {A = Judged PlaceAnswer} (accept (record { rank = r .shard .rank; sharding = sharding; shard = shard; first = first })) (placeOf file k d)
-    unfolding placedIn
-    place-found l s sharding u shard v first q =
+    pub place-found : d < r .devices → placeOf file k d ≡ accept (record {
+      rank = r .shard .rank;
+      sharding = shardingOf (r .shard .rank) (r .sharding);
+      shard = sizesOf (r .shard);
+      first = firstIndexes (meshOf (r .mesh)) (take (r .shard .rank) (dimsOf (r .sharding))) (sizesOf (r .shard)) (deviceCoords (meshOf (r .mesh)) d);
+    })
+    unfolding placeOf
+    place-found l =
         let mesh = meshOf (r .mesh) in
-        let lists : ℕ → List (List ℕ) = λ n. take n (dimsOf (r .sharding)) in
-        let indexes : ℕ → List ℕ = λ n. firstIndexes mesh (lists n) (sizesOf (r .shard)) (deviceCoords mesh d) in
+        let indexes : ℕ → List ℕ = λ n. firstIndexes mesh (take n (dimsOf (r .sharding))) (sizesOf (r .shard)) (deviceCoords mesh d) in
         let answer : placeOf file k d ≡ accept (record {
-          rank = r .table .rank;
+          rank = length (sizesOf (r .table));
           sharding = shardingOf (r .table .rank) (r .sharding);
           shard = sizesOf (r .shard);
           first = indexes (r .table .rank);
-        }) = place-by-state file k d ∙ rw (← e, h) (simp (lt-ltb d (r .devices) l)) in
-        (λ i. accept (record {
-          rank = s i;
-          sharding = (u ∙ ap (λ (n : ℕ). shardingOf n (r .sharding)) s) i;
-          shard = v i;
-          first = (q ∙ ap indexes s) i;
-        })) ∙ sym answer
+        }) = rw (state-on file k r e h) (simp (lt-ltb d (devices mesh) (subst (λ (n : ℕ). d < n) (s .counted .devices-are) l))) in
+        answer
+        ∙ (λ i. accept (record {
+          rank = sym (s .rank-is ∙ s .counted .rank-is) i;
+          sharding = shardingOf (sym (s .rank-is) i) (r .sharding);
+          shard = sizesOf (r .shard);
+          first = indexes (sym (s .rank-is) i);
+        }))

@@ -1,17 +1,19 @@
 // The placement: a state's sharding and shard sizes, and a device's first indexes.
 // What it answers is defined in rules/specs/Calls.antt (placeOf); specs/Placing.antt has what the parts ask for.
 ghost use mathlib.Core.Path.{_≡_};
-ghost use Prim.Native.Nat.{ℕ, _*_, _≤_};
+ghost use Prim.Native.Nat.{_*_, _≤_};
 ghost use lib.ListN.{take};
 ghost use Rattle.rules.specs.Mesh.{deviceCoords};
 ghost use Rattle.rules.specs.Sharding.{firstIndexes};
 ghost use Rattle.rules.specs.Limits.{mostWords};
-ghost use Rattle.rules.specs.Refusals.{accept, refuse, refusedBy};
+ghost use Rattle.rules.specs.Refusals.{refusedBy};
 ghost use Rattle.rules.specs.Types.{dimsOf};
-ghost use Rattle.rules.specs.Calls.{PlaceAnswer, PlacedPast, PlacedNone, placeMeaning, placeOf};
+ghost use Rattle.rules.specs.Calls.{placedOf};
+ghost use Rattle.rules.specs.Promises.{PlacePromise};
 ghost use Rattle.dims.specs.Dims.{sizesOf};
 ghost use Rattle.place.specs.Placing.{Placing};
 use dims::lists_within;
+use dims::no_lists;
 use dims::sizes_within;
 use mesh::position_of;
 use plan::State;
@@ -55,9 +57,9 @@ fn first_indexes(mesh: &[u16], sharding: Sharding, shard: Table, device: Device)
 
 // No lists, no sizes and no indexes, beside a refusal.
 fn refused(refusal: Refusal) -> Placed
-    ensures { λ r. ⌜ (placeMeaning r ≡ refusedBy refusal) × PlacedNone r ⌝ }
+    ensures { λ r. ⌜ r ≡ placedOf (refusedBy refusal) ⌝ }
 {
-    let sharding = Sharding::replicated();
+    let sharding = no_lists();
     Placed {
         outcome: PlaceOutcome::Refused(refusal),
         sharding,
@@ -68,9 +70,7 @@ fn refused(refusal: Refusal) -> Placed
 
 // The placement: the file's refusal, then 34, then 32; or the state's sharding, its shard sizes and the device's first indexes.
 pub fn place(file: &[u8], state: u16, device: Device) -> Placed
-    ensures { λ r. ⌜ placeMeaning r ≡ placeOf (now (file .entry)) state (device .0) ⌝ }
-    ensures { λ r. ⌜ ((a : PlaceAnswer) → placeOf (now (file .entry)) state (device .0) ≡ accept a → PlacedPast (a .rank) r) ⌝ }
-    ensures { λ r. ⌜ ((n k : ℕ) → placeOf (now (file .entry)) state (device .0) ≡ refuse n k → PlacedNone r) ⌝ }
+    ensures { λ r. ⌜ PlacePromise (now (file .entry)) state (device .0) r ⌝ }
 {
     let found = state_after(file, state as usize);
     let next = found.next;

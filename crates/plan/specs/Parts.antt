@@ -1,27 +1,29 @@
 -- What the parts of the check (src/lib.rt) answer, in the rules' own judgements: the sizes, what stands before the steps, one step taken, so many
--- steps in turn. Assumes nothing.
-use Prim.Native.Nat.{ℕ, _+_, _*_, _≤_}
+-- steps in turn, the whole file, a state. A mesh is told by its n sizes, a table by the sizes up to its rank, a sharding by the lists up to the rank,
+-- a list by the axes up to its count; the places past these are free, and nothing reads them. Assumes nothing.
+use Prim.Native.Nat.{ℕ, _*_, _≤_}
 use mathlib.Core.Path.{_≡_}
-use mathlib.Core.List.{List}
+use mathlib.Core.List.{List, []}
 use lib.ListN.{length, take}
-use lib.Dec.{leb}
-use Rattle.rules.specs.Lists.{tab, inTurn, product, largest}
-use Rattle.rules.specs.Mesh.{devices}
+use Rattle.rules.specs.Mesh.{devices as devicesOf}
 use Rattle.rules.specs.Sharding.{Sharding, shardSizes}
-use Rattle.rules.specs.Collectives.{Step, after}
+use Rattle.rules.specs.Collectives.{Step}
 use Rattle.rules.specs.Limits.{mostAxes, mostDevices, mostWords, mostDims, mostSteps}
-use Rattle.rules.specs.Refusals.{Judged, accept, _>>=_, _>>_, need, refusedBy}
-use Rattle.rules.specs.PlanFile.{Read, meshOffset, tensorOffset, stepCount, sizesAt, stepAt, judgeStep, stepsAt, Front, judgeFront, Plan, judge, judgeBy, announced, announcedShape, room}
+use Rattle.rules.specs.Refusals.{Judged, accept, _>>=_, refusedBy}
+use Rattle.rules.specs.PlanFile.{Read, MeshAndTable, meshAndTableAt, stepCount, stepAt, judgeStep, stepsAt, Front, judgeFront, Plan, judge, announced, largestShard, room, StateAnswer, stateOf}
 use Rattle.rules.specs.Types.{dimsOf, shardingOf, stepOf}
 use Rattle.rules.specs.Calls.{CheckAnswer}
-use Rattle.reader.specs.Reading.{reading, headerOf}
+use Rattle.rules.specs.declared.Sharding as code
+use Rattle.rules.specs.declared.Table.{Table}
+use Rattle.reader.specs.Reading.{reading, Tells, noLists, noStep, headerOf}
 use Rattle.reader.specs.declared.Header.{Header}
 use Rattle.reader.specs.declared.Next.{Next}
 use Rattle.reader.specs.declared.Next.the-variants as next
+use Rattle.axes.specs.declared.Mesh.{Mesh}
 use Rattle.axes.specs.Mesh.{meshOf}
 use Rattle.dims.specs.Dims.{sizesOf}
-use Rattle.start.specs.Start.{Fits}
-use Rattle.judge.specs.Step.{Ready}
+use Rattle.start.specs.Start.{WithinPlaces}
+use Rattle.judge.specs.Step.{Sharded}
 use Rattle.plan.specs.declared.Shape.{Shape}
 use Rattle.plan.specs.declared.Opening.{Opening}
 use Rattle.plan.specs.declared.Taken.{Taken}
@@ -29,27 +31,22 @@ use Rattle.plan.specs.declared.Walk.{Walk}
 use Rattle.plan.specs.declared.Whole.{Whole}
 use Rattle.plan.specs.declared.State.{State}
 
+-- D is the product of the mesh sizes; a mesh and a table have as many sizes as they say
+pub record Counted (devices : ℕ) (mesh : Mesh) (table : Table) : Type 0 where
+  pub devices-are : devices ≡ devicesOf (meshOf mesh)
+  pub n-is : mesh .n ≡ length (meshOf mesh)
+  pub rank-is : table .rank ≡ length (sizesOf table)
+
+-- beside a refusal: no axes, no dimensions
+pub record NoShape (devices : ℕ) (mesh : Mesh) (table : Table) : Type 0 where
+  pub devices-are : devices ≡ 1
+  pub n-is : mesh .n ≡ 0
+  pub rank-is : table .rank ≡ 0
+
 -- ---- the sizes of mesh and tensor
 
-pub record Sizes : Type 0 where
-  pub mesh : List ℕ
-  pub sizes : List ℕ
-
-unfoldable pub shapeAt : (n rank : ℕ) → List ℕ → Judged (Read Sizes)
-unfolding sizesAt
-shapeAt n rank file = do
-  m ← sizesAt mostDevices 10 11 n (meshOffset file) file 18
-  t ← sizesAt mostWords 12 13 rank (tensorOffset file) file (m .next)
-  accept (record { value = record { mesh = m .value; sizes = t .value }; next = t .next })
-
-abbrev pub shapeRead : Shape → Judged (Read Sizes)
+abbrev pub shapeRead : Shape → Judged (Read MeshAndTable)
 shapeRead r = reading (r .next) (record { mesh = meshOf (r .mesh); sizes = sizesOf (r .table) })
-
--- the counts of a shape, refused ones too
-pub record Counts (n rank : ℕ) (r : Shape) : Type 0 where
-  pub n-is : r .mesh .n ≡ n
-  pub rank-is : r .table .rank ≡ rank
-  pub devices-are : r .devices ≡ product (meshOf (r .mesh))
 
 -- ---- what stands before the steps
 
@@ -68,32 +65,36 @@ openRead r = openedBy (r .next) r
 -- what is read so far: the header, and the sizes up to `at`
 pub record Opens (file : List ℕ) (header : Header) (shape : Shape) (at : ℕ) : Type 0 where
   pub header-is : headerOf file ≡ accept header
-  pub shape-is : shapeAt (header .axes) (header .rank) file ≡ accept (record { value = record { mesh = meshOf (shape .mesh); sizes = sizesOf (shape .table) }; next = at })
-  pub counts : Counts (header .axes) (header .rank) shape
+  pub shape-is : meshAndTableAt (header .axes) (header .rank) file
+      ≡ accept (record { value = record { mesh = meshOf (shape .mesh); sizes = sizesOf (shape .table) }; next = at })
+  pub counted : Counted (shape .devices) (shape .mesh) (shape .table)
 
--- beside what stands before the steps: D, and the number of steps
-pub record Counted (file : List ℕ) (r : Opening) : Type 0 where
-  pub devices-are : (f : Front) → judgeFront file ≡ accept f → r .devices ≡ devices (f .mesh)
+pub record Opened (file : List ℕ) (r : Opening) : Type 0 where
+  pub reads : openRead r ≡ judgeFront file
+  pub counted : Counted (r .devices) (r .mesh) (r .table)
   pub steps-are : (f : Front) → judgeFront file ≡ accept f → r .steps ≡ stepCount file
-  pub fits : (f : Front) → judgeFront file ≡ accept f → Fits (r .mesh) (r .table)
-  pub rank-is : (f : Front) → judgeFront file ≡ accept f → length (sizesOf (r .table)) ≡ r .table .rank
 
 -- ---- one step
 
 -- a step that was read and judged, and the sharding after it
-pub record Move : Type 0 where
+pub record StepTaken : Type 0 where
   pub step : Step
   pub sharding : Sharding
 
-unfoldable pub takeStep : (mesh sizes : List ℕ) → ℕ → List ℕ → ℕ → Sharding → Judged (Read Move)
+unfoldable pub takeStep : (mesh sizes : List ℕ) → ℕ → List ℕ → ℕ → Sharding → Judged (Read StepTaken)
 unfolding stepAt judgeStep
 takeStep mesh sizes k file at s = do
   t ← stepAt (length mesh) (length sizes) k file at
   a ← judgeStep mesh sizes k (t .value) s
   accept (record { value = record { step = t .value; sharding = a }; next = t .next })
 
-abbrev pub takenRead : ℕ → Taken → Judged (Read Move)
+abbrev pub takenRead : ℕ → Taken → Judged (Read StepTaken)
 takenRead rank r = reading (r .next) (record { step = stepOf rank (r .step); sharding = shardingOf rank (r .sharding) })
+
+-- beside a refusal: no step, and the sharding s as it was
+abbrev pub TakenTells : ℕ → Sharding → Judged (Read StepTaken) → Taken → Type 0
+TakenTells rank s j r =
+    Tells (record { step = noStep; sharding = s }) j (r .next) (record { step = stepOf rank (r .step); sharding = shardingOf rank (r .sharding) })
 
 -- ---- steps in turn
 
@@ -103,21 +104,14 @@ pub record Walked : Type 0 where
   pub kept : Sharding
   pub most : ℕ
 
-abbrev pub wordsAfter : (mesh sizes : List ℕ) → Sharding → List Step → ℕ → ℕ
-wordsAfter mesh sizes s ts k = product (shardSizes mesh sizes (inTurn after (take k ts) s .dims))
+abbrev pub walkedOf : Plan → ℕ → Walked
+walkedOf p state = record { sharding = announced p (length (p .steps)); kept = announced p state; most = largestShard p }
 
 unfoldable pub walkAt : (mesh sizes : List ℕ) → (state count : ℕ) → List ℕ → ℕ → Sharding → Judged (Read Walked)
-unfolding stepsAt after
+unfolding stepsAt
 walkAt mesh sizes state count file at s = do
   ts ← stepsAt mesh sizes 1 count file at s
-  accept (record {
-    value = record {
-      sharding = inTurn after (ts .value) s;
-      kept = inTurn after (take state (ts .value)) s;
-      most = largest (tab (length (ts .value) + 1) (wordsAfter mesh sizes s (ts .value)));
-    };
-    next = ts .next;
-  })
+  accept (record { value = walkedOf (record { mesh = mesh; sizes = sizes; start = s; steps = ts .value }) state; next = ts .next })
 
 abbrev pub walkRead : ℕ → Walk → Judged (Read Walked)
 walkRead rank r = reading (r .next) (record {
@@ -128,29 +122,67 @@ walkRead rank r = reading (r .next) (record {
 
 -- ---- the whole file
 
--- w holds the plan p, whose steps begin at `at`
-pub record Holds (file : List ℕ) (at : ℕ) (w : Whole) (p : Plan) : Type 0 where
+-- what a plan that passed is told by
+pub record WholeAnswer : Type 0 where
+  pub mesh : List ℕ
+  pub sizes : List ℕ
+  pub start : Sharding
+  pub steps : ℕ
+  pub most : ℕ
+  pub last : Sharding
+
+abbrev pub planAnswer : Plan → WholeAnswer
+planAnswer p = record {
+  mesh = p .mesh;
+  sizes = p .sizes;
+  start = p .start;
+  steps = length (p .steps);
+  most = largestShard p;
+  last = announced p (length (p .steps));
+}
+
+-- the plan, and where its steps begin
+unfoldable pub wholeOf : List ℕ → Judged (Read WholeAnswer)
+wholeOf file = do
+  f ← judgeFront file
+  p ← judge file
+  accept (record { value = planAnswer p; next = f .next })
+
+-- beside a refusal: no axes, no dimensions, no steps
+abbrev pub noPlan : Plan
+noPlan = record { mesh = []; sizes = []; start = noLists 0; steps = [] }
+
+abbrev pub wholeAnswer : Whole → WholeAnswer
+wholeAnswer w = record {
+  mesh = meshOf (w .mesh);
+  sizes = sizesOf (w .table);
+  start = shardingOf (w .table .rank) (w .start);
+  steps = w .steps;
+  most = w .most;
+  last = shardingOf (w .table .rank) (w .last);
+}
+
+pub record WholeTells (j : Judged (Read WholeAnswer)) (w : Whole) : Type 0 where
+  pub tells : Tells (planAnswer noPlan) j (w .next) (wholeAnswer w)
+  pub counted : Counted (w .devices) (w .mesh) (w .table)
+
+-- the sharding that the plan announces after so many steps
+abbrev pub Keeps : List ℕ → ℕ → ℕ → code.Sharding → Type 0
+Keeps file state rank kept = (p : Plan) → judge file ≡ accept p → announced p state ≡ shardingOf rank kept
+
+-- w holds the plan p, whose steps begin at `at`: what the code asks of it
+pub record HoldsPlan (file : List ℕ) (at : ℕ) (w : Whole) (p : Plan) : Type 0 where
   pub mesh-is : p .mesh ≡ meshOf (w .mesh)
   pub sizes-are : p .sizes ≡ sizesOf (w .table)
   pub rank-is : length (p .sizes) ≡ w .table .rank
   pub start-is : p .start ≡ shardingOf (w .table .rank) (w .start)
   pub steps-are : length (p .steps) ≡ w .steps
-  pub devices-are : devices (p .mesh) ≡ w .devices
+  pub devices-are : devicesOf (p .mesh) ≡ w .devices
   pub room-is : room p ≡ w .devices * w .most
   pub last-is : announced p (length (p .steps)) ≡ shardingOf (w .table .rank) (w .last)
-  pub ready : Ready (w .mesh) (w .table) (w .start)
+  pub opens : judgeFront file ≡ accept (record { mesh = p .mesh; sizes = p .sizes; start = p .start; next = at })
+  pub ready : Sharded (w .mesh) (w .table) (w .start)
   pub begins : stepsAt (p .mesh) (p .sizes) 1 (w .steps) file at (p .start) ≡ accept (record { value = p .steps; next = length file })
-
-abbrev pub judgesBy : Next → List ℕ → Whole → Type 0
-judgesBy (next.At at) file w = (p : Plan) × (judge file ≡ accept p) × Holds file at w p
-judgesBy (next.Refused r) file w = judge file ≡ refusedBy r
-
-abbrev pub Judges : List ℕ → Whole → Type 0
-Judges file w = judgesBy (w .next) file w
-
--- w keeps the sharding that the plan announces after so many steps
-abbrev pub Keeps : List ℕ → ℕ → Whole → Type 0
-Keeps file state w = (p : Plan) → judge file ≡ accept p → announced p state ≡ shardingOf (w .table .rank) (w .kept)
 
 -- what the check answers of it, where its numbers are within their limits
 abbrev pub answerOf : Whole → CheckAnswer
@@ -164,52 +196,38 @@ answerOf w = record {
 }
 
 pub record Bounded (w : Whole) : Type 0 where
-  pub fits : Fits (w .mesh) (w .table)
+  pub fits : WithinPlaces (w .mesh) (w .table)
   pub devices-few : w .devices ≤ mostDevices
   pub steps-few : w .steps ≤ mostSteps
   pub room-few : w .devices * w .most ≤ mostDevices * mostWords
 
 -- ---- a state
 
--- the announced sharding and shard sizes after k steps
-pub record StateAnswer : Type 0 where
-  pub devices : ℕ
-  pub mesh : List ℕ
-  pub sizes : List ℕ
-  pub rank : ℕ
-  pub sharding : Sharding
-  pub shard : List ℕ
+-- the state, and where the plan's steps begin
+unfoldable pub stateAt : List ℕ → ℕ → Judged (Read StateAnswer)
+stateAt file k = do
+  f ← judgeFront file
+  s ← stateOf file k
+  accept (record { value = s; next = f .next })
 
-unfoldable pub stateOf : List ℕ → ℕ → Judged StateAnswer
-unfolding judgeBy announced announcedShape
-stateOf file k = do
-  p ← judge file
-  need (leb k (length (p .steps))) 34
-  accept (record {
-    devices = devices (p .mesh);
-    mesh = p .mesh;
-    sizes = p .sizes;
-    rank = length (p .sizes);
-    sharding = announced p k;
-    shard = announcedShape p k;
-  })
-
-abbrev pub stateBy : Next → State → Judged StateAnswer
-stateBy (next.At k) r = accept (record {
-  devices = r .devices;
+abbrev pub stateAnswer : State → StateAnswer
+stateAnswer r = record {
   mesh = meshOf (r .mesh);
   sizes = sizesOf (r .table);
-  rank = r .table .rank;
   sharding = shardingOf (r .table .rank) (r .sharding);
   shard = sizesOf (r .shard);
-})
-stateBy (next.Refused x) r = refusedBy x
+}
 
-abbrev pub stateMeaning : State → Judged StateAnswer
-stateMeaning r = stateBy (r .next) r
+-- beside a refusal: no axes, no dimensions
+abbrev pub noState : StateAnswer
+noState = record { mesh = []; sizes = []; sharding = noLists 0; shard = [] }
 
--- the places of a state's mesh and shard, refused or not
+abbrev pub StateTells : Judged (Read StateAnswer) → State → Type 0
+StateTells j r = Tells noState j (r .next) (stateAnswer r)
+
+-- the counts of a state, refused or not
 pub record Shaped (r : State) : Type 0 where
+  pub counted : Counted (r .devices) (r .mesh) (r .table)
   pub rank-is : r .shard .rank ≡ r .table .rank
   pub rank-few : r .shard .rank ≤ mostDims
   pub axes-few : r .mesh .n ≤ mostAxes

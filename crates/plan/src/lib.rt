@@ -1,22 +1,26 @@
 // The check of a plan file: what stands before its steps, the steps in turn, and the answer.
 // Order and numbers are those of rules/specs/PlanFile.antt; specs/Parts.antt says what the parts answer.
 ghost use mathlib.Core.Path.{_≡_};
-ghost use Prim.Native.Nat.{ℕ, _+_, _≤_, _<_, max};
-ghost use lib.ListN.{length, take};
+ghost use mathlib.Core.List.{[]};
+ghost use Prim.Native.Nat.{ℕ, _≤_, _<_, max};
+ghost use lib.ListN.{take};
 ghost use Rattle.rules.specs.Lists.{product};
 ghost use Rattle.rules.specs.Limits.{mostSteps, mostDims};
 ghost use Rattle.rules.specs.Refusals.{accept, refuse, refusedBy};
-ghost use Rattle.rules.specs.PlanFile.{stepCount, judgeFront};
+ghost use Rattle.rules.specs.PlanFile.{meshAndTableAt};
 ghost use Rattle.rules.specs.Sharding.{shardSizes};
-ghost use Rattle.rules.specs.Types.{dimsOf, shardingOf};
-ghost use Rattle.rules.specs.Calls.{CheckAnswer, CheckedPast, CheckedNone, checkMeaning, checkOf};
+ghost use Rattle.rules.specs.Types.{axesOf, dimsOf, shardingOf};
+ghost use Rattle.rules.specs.Calls.{checkedOf};
+ghost use Rattle.rules.specs.Promises.{CheckPromise};
 ghost use Rattle.reader.specs.Reading.{headerOf};
 ghost use Rattle.axes.specs.Mesh.{meshOf};
 ghost use Rattle.dims.specs.Dims.{sizesOf};
-ghost use Rattle.judge.specs.Step.{Ready};
-ghost use Rattle.plan.specs.Parts.{shapeAt, shapeRead, openRead, Counts, Opens, Counted, takeStep, takenRead, walkAt, walkRead, Judges, Keeps, Bounded, answerOf, stateOf, stateMeaning, Shaped};
+ghost use Rattle.judge.specs.Step.{Sharded};
+ghost use Rattle.plan.specs.Parts.{Counted, NoShape, shapeRead, openRead, Opens, Opened, takeStep, TakenTells, walkAt, walkRead};
+ghost use Rattle.plan.specs.Parts.{wholeOf, WholeTells, Keeps, Bounded, answerOf, stateAt, StateTells, Shaped};
 use axes::Mesh;
 use dims::lists_within;
+use dims::no_lists;
 use dims::shard_of;
 use dims::sizes_within;
 use dims::span_dims;
@@ -48,21 +52,21 @@ use start::judge_start;
 use start::refusal_of;
 
 // The sizes of mesh and table, and where the next byte is.
-pub struct Shape {
-    pub next: Next,
-    pub devices: usize,
-    pub mesh: Mesh,
-    pub table: Table,
+struct Shape {
+    next: Next,
+    devices: usize,
+    mesh: Mesh,
+    table: Table,
 }
 
 // What stands before the steps, and where they begin.
-pub struct Opening {
-    pub next: Next,
-    pub devices: usize,
-    pub steps: usize,
-    pub mesh: Mesh,
-    pub table: Table,
-    pub start: Sharding,
+struct Opening {
+    next: Next,
+    devices: usize,
+    steps: usize,
+    mesh: Mesh,
+    table: Table,
+    start: Sharding,
 }
 
 // A step that was read and judged, the sharding after it, and where the next byte is.
@@ -73,24 +77,24 @@ pub struct Taken {
 }
 
 // The sharding after some steps, the one that was kept on the way, the most words that a shard had, and where the next byte is.
-pub struct Walk {
-    pub next: Next,
-    pub most: usize,
-    pub sharding: Sharding,
-    pub kept: Sharding,
+struct Walk {
+    next: Next,
+    most: usize,
+    sharding: Sharding,
+    kept: Sharding,
 }
 
 impl Shape {
-    // Refused, for a mesh of n axes and a table of a rank.
-    fn refused(refusal: Refusal, n: usize, rank: usize) -> Shape
-        ensures { λ r. ⌜ (shapeRead r ≡ refusedBy refusal) × Counts n rank r ⌝ }
+    // Refused, with no axes and no dimensions.
+    fn refused(refusal: Refusal) -> Shape
+        ensures { λ r. ⌜ (shapeRead r ≡ refusedBy refusal) × NoShape (r .devices) (r .mesh) (r .table) ⌝ }
     {
         let mesh = Mesh {
-            n,
+            n: 0,
             sizes: [1; Axis::MOST],
         };
         let table = Table {
-            rank,
+            rank: 0,
             sizes: [1; Dim::MOST],
         };
         Shape {
@@ -116,8 +120,8 @@ fn table_of(rank: usize, sizes: [u16; Axis::MOST]) -> Table
 // The mesh and the tensor sections.
 fn read_shape(file: &[u8], header: Header) -> Shape
     requires { ⌜ headerOf (now file) ≡ accept header ⌝ }
-    ensures { λ r. ⌜ shapeRead r ≡ shapeAt (header .axes) (header .rank) (now (file .entry)) ⌝ }
-    ensures { λ r. ⌜ Counts (header .axes) (header .rank) r ⌝ }
+    ensures { λ r. ⌜ shapeRead r ≡ meshAndTableAt (header .axes) (header .rank) (now (file .entry)) ⌝ }
+    ensures { λ r. ⌜ Counted (r .devices) (r .mesh) (r .table) ⌝ }
 {
     let n = header.axes;
     let rank = header.rank;
@@ -133,7 +137,7 @@ fn read_shape(file: &[u8], header: Header) -> Shape
     );
     let next = first.next;
     let Next::At(place) = next else {
-        return Shape::refused(next.refusal(), n, rank);
+        return Shape::refused(next.refusal());
     };
     let offset = u16_at(file, 10);
     let second = read_sizes(
@@ -147,7 +151,7 @@ fn read_shape(file: &[u8], header: Header) -> Shape
     );
     let last = second.next;
     let Next::At(end) = last else {
-        return Shape::refused(last.refusal(), n, rank);
+        return Shape::refused(last.refusal());
     };
     let devices = first.product;
     let sizes = first.sizes;
@@ -163,15 +167,15 @@ fn read_shape(file: &[u8], header: Header) -> Shape
 
 impl Opening {
     fn refused(refusal: Refusal) -> Opening
-        ensures { λ r. ⌜ openRead r ≡ refusedBy refusal ⌝ }
+        ensures { λ r. ⌜ (openRead r ≡ refusedBy refusal) × NoShape (r .devices) (r .mesh) (r .table) × (axesOf (r .start .unreduced) ≡ []) ⌝ }
     {
-        let none = Shape::refused(refusal, 0, 0);
+        let none = Shape::refused(refusal);
         let mesh = none.mesh;
         let table = none.table;
         let start = Sharding::replicated();
         Opening {
             next: Next::Refused(refusal),
-            devices: 1,
+            devices: none.devices,
             steps: 0,
             mesh,
             table,
@@ -183,8 +187,7 @@ impl Opening {
 // The sharding section, the steps' offset, and the judgement of the start.
 fn open_with(file: &[u8], header: Header, shape: Shape, at: usize) -> Opening
     requires { ⌜ Opens (now file) header shape at ⌝ }
-    ensures { λ r. ⌜ openRead r ≡ judgeFront (now (file .entry)) ⌝ }
-    ensures { λ r. ⌜ Counted (now (file .entry)) r ⌝ }
+    ensures { λ r. ⌜ Opened (now (file .entry)) r ⌝ }
 {
     let mesh = shape.mesh;
     let table = shape.table;
@@ -218,9 +221,8 @@ fn open_with(file: &[u8], header: Header, shape: Shape, at: usize) -> Opening
 }
 
 // What stands before the steps.
-pub fn open(file: &[u8]) -> Opening
-    ensures { λ r. ⌜ openRead r ≡ judgeFront (now (file .entry)) ⌝ }
-    ensures { λ r. ⌜ Counted (now (file .entry)) r ⌝ }
+fn open(file: &[u8]) -> Opening
+    ensures { λ r. ⌜ Opened (now (file .entry)) r ⌝ }
 {
     let read = read_header(file);
     let HeaderRead::Is(header) = read else {
@@ -235,12 +237,19 @@ pub fn open(file: &[u8]) -> Opening
 }
 
 impl Taken {
-    fn refused(refusal: Refusal, step: Step, sharding: Sharding) -> Taken
-        ensures { λ r. ⌜ ((rank : ℕ) → takenRead rank r ≡ refusedBy refusal) ⌝ }
+    // Refused, with no step, and the sharding as it was.
+    fn refused(refusal: Refusal, sharding: Sharding) -> Taken
+        ensures { λ r. ⌜ ((rank : ℕ) → TakenTells rank (shardingOf rank sharding) (refusedBy refusal) r) ⌝ }
     {
+        let lists = Sharding::replicated();
         Taken {
             next: Next::Refused(refusal),
-            step,
+            step: Step {
+                kind: Kind::Unknown,
+                source: Dim(0),
+                target: Dim(0),
+                lists,
+            },
             sharding,
         }
     }
@@ -255,19 +264,20 @@ pub fn take_step(
     table: Table,
     sharding: Sharding,
 ) -> Taken
-    requires { ⌜ Ready mesh table sharding ⌝ }
-    ensures { λ r. ⌜ takenRead (table .rank) r ≡ takeStep (meshOf mesh) (sizesOf table) k (now (file .entry)) at (shardingOf (table .rank) sharding) ⌝ }
+    requires { ⌜ Sharded mesh table sharding ⌝ }
+    ensures { λ r. ⌜ TakenTells (table .rank) (shardingOf (table .rank) sharding)
+        (takeStep (meshOf mesh) (sizesOf table) k (now (file .entry)) at (shardingOf (table .rank) sharding)) r ⌝ }
 {
     let read = read_step(file, at, mesh.n, table.rank, k);
     let next = read.next;
     let step = read.step;
     let Next::At(end) = next else {
-        return Taken::refused(next.refusal(), step, sharding);
+        return Taken::refused(next.refusal(), sharding);
     };
     let judged = judge_step(step, k, sharding, mesh, table);
     let verdict = judged.verdict;
     let Verdict::Fine = verdict else {
-        return Taken::refused(refusal_of(verdict), step, sharding);
+        return Taken::refused(refusal_of(verdict), sharding);
     };
     let after = judged.sharding;
     Taken {
@@ -305,7 +315,7 @@ fn kept_until(state: usize, k: usize, earlier: Sharding, later: Sharding) -> Sha
 
 // The words of one shard of a table of so many words. The table's words are divided once, by the span of all axes that split it.
 fn shard_words(total: usize, mesh: Mesh, table: Table, sharding: Sharding) -> usize
-    requires { ⌜ Ready mesh table sharding × (total ≡ product (sizesOf table)) ⌝ }
+    requires { ⌜ Sharded mesh table sharding × (total ≡ product (sizesOf table)) ⌝ }
     ensures { λ r. ⌜ r ≡ product (shardSizes (meshOf mesh) (sizesOf table) (take (table .rank) (dimsOf sharding))) ⌝ }
 {
     total / span_dims(sharding, table.rank, mesh)
@@ -321,7 +331,7 @@ fn walk_steps(
     table: Table,
     start: Sharding,
 ) -> Walk
-    requires { ⌜ Ready mesh table start × (count ≤ mostSteps) ⌝ }
+    requires { ⌜ Sharded mesh table start × (count ≤ mostSteps) ⌝ }
     ensures { λ r. ⌜ walkRead (table .rank) r ≡ walkAt (meshOf mesh) (sizesOf table) state count (now (file .entry)) at (shardingOf (table .rank) start) ⌝ }
 {
     let mut sharding = start;
@@ -350,8 +360,7 @@ fn walk_steps(
     }
 }
 
-// A file that was judged whole: what stands before its steps, where these begin, the most words of a shard, the last sharding, and the one that
-// was kept on the way.
+// A file that was judged whole: what stands before its steps, where these begin, the most words of a shard, and the last sharding.
 pub struct Whole {
     pub next: Next,
     pub devices: usize,
@@ -361,40 +370,46 @@ pub struct Whole {
     pub table: Table,
     pub start: Sharding,
     pub last: Sharding,
-    pub kept: Sharding,
 }
 
-impl Whole {
-    fn refused(refusal: Refusal) -> Whole
-        ensures { λ r. ⌜ r .next ≡ Next.Refused refusal ⌝ }
+// A file that was judged whole, and a sharding that was kept on the way.
+struct Keeping {
+    whole: Whole,
+    kept: Sharding,
+}
+
+impl Keeping {
+    // Refused, with the plan of no axes, no dimensions and no steps, whose shard is one word.
+    fn refused(refusal: Refusal) -> Keeping
+        ensures { λ r. ⌜ WholeTells (refusedBy refusal) (r .whole) ⌝ }
     {
         let none = Opening::refused(refusal);
         let mesh = none.mesh;
         let table = none.table;
         let start = none.start;
-        Whole {
+        let whole = Whole {
             next: Next::Refused(refusal),
-            devices: 1,
+            devices: none.devices,
             steps: 0,
-            most: 0,
+            most: 1,
             mesh,
             table,
             start,
             last: start,
-            kept: start,
-        }
+        };
+        Keeping { whole, kept: start }
     }
 }
 
 // The whole file; the sharding after a state's steps is kept.
-fn judge_keeping(file: &[u8], state: usize) -> Whole
-    ensures { λ r. ⌜ Judges (now (file .entry)) r ⌝ }
-    ensures { λ r. ⌜ Keeps (now (file .entry)) state r ⌝ }
+fn judge_keeping(file: &[u8], state: usize) -> Keeping
+    ensures { λ r. ⌜ WholeTells (wholeOf (now (file .entry))) (r .whole) ⌝ }
+    ensures { λ r. ⌜ Keeps (now (file .entry)) state (r .whole .table .rank) (r .kept) ⌝ }
 {
     let opening = open(file);
     let next = opening.next;
     let Next::At(at) = next else {
-        return Whole::refused(next.refusal());
+        return Keeping::refused(next.refusal());
     };
     let devices = opening.devices;
     let steps = opening.steps;
@@ -404,10 +419,10 @@ fn judge_keeping(file: &[u8], state: usize) -> Whole
     let walk = walk_steps(file, at, steps, state, mesh, table, start);
     let end = walk.next;
     let Next::At(place) = end else {
-        return Whole::refused(end.refusal());
+        return Keeping::refused(end.refusal());
     };
     if place != file.len() {
-        return Whole::refused(Refusal {
+        return Keeping::refused(Refusal {
             reason: Reason::BytesLeft,
             step: 0,
         });
@@ -415,7 +430,7 @@ fn judge_keeping(file: &[u8], state: usize) -> Whole
     let most = walk.most;
     let last = walk.sharding;
     let kept = walk.kept;
-    Whole {
+    let whole = Whole {
         next: Next::At(at),
         devices,
         steps,
@@ -424,22 +439,23 @@ fn judge_keeping(file: &[u8], state: usize) -> Whole
         table,
         start,
         last,
-        kept,
-    }
+    };
+    Keeping { whole, kept }
 }
 
 // The whole file.
 pub fn judge_file(file: &[u8]) -> Whole
-    ensures { λ r. ⌜ Judges (now (file .entry)) r ⌝ }
+    ensures { λ r. ⌜ WholeTells (wholeOf (now (file .entry))) r ⌝ }
 {
-    judge_keeping(file, 0)
+    let keeping = judge_keeping(file, 0);
+    keeping.whole
 }
 
 // No lists and no sizes, beside a refusal.
 fn refused(refusal: Refusal) -> Checked
-    ensures { λ r. ⌜ (checkMeaning r ≡ refusedBy refusal) × CheckedNone r ⌝ }
+    ensures { λ r. ⌜ r ≡ checkedOf (refusedBy refusal) ⌝ }
 {
-    let sharding = Sharding::replicated();
+    let sharding = no_lists();
     Checked {
         outcome: CheckOutcome::Refused(refusal),
         sharding,
@@ -450,7 +466,7 @@ fn refused(refusal: Refusal) -> Checked
 // The answer for a plan that passed.
 fn passed(whole: Whole) -> Checked
     requires { ⌜ Bounded whole ⌝ }
-    ensures { λ r. ⌜ (checkMeaning r ≡ accept (answerOf whole)) × CheckedPast (whole .table .rank) r ⌝ }
+    ensures { λ r. ⌜ r ≡ checkedOf (accept (answerOf whole)) ⌝ }
 {
     let mesh = whole.mesh;
     let table = whole.table;
@@ -473,9 +489,7 @@ fn passed(whole: Whole) -> Checked
 
 // The check: the room, D, the number of steps, the rank, the final sharding and its shard sizes, or the refusal.
 pub fn check(file: &[u8]) -> Checked
-    ensures { λ r. ⌜ checkMeaning r ≡ checkOf (now (file .entry)) ⌝ }
-    ensures { λ r. ⌜ ((a : CheckAnswer) → checkOf (now (file .entry)) ≡ accept a → CheckedPast (a .rank) r) ⌝ }
-    ensures { λ r. ⌜ ((n k : ℕ) → checkOf (now (file .entry)) ≡ refuse n k → CheckedNone r) ⌝ }
+    ensures { λ r. ⌜ CheckPromise (now (file .entry)) r ⌝ }
 {
     let whole = judge_file(file);
     let next = whole.next;
@@ -496,16 +510,17 @@ pub struct State {
 }
 
 impl State {
+    // Refused, with no axes and no dimensions.
     fn refused(refusal: Refusal) -> State
-        ensures { λ r. ⌜ (stateMeaning r ≡ refusedBy refusal) × Shaped r ⌝ }
+        ensures { λ r. ⌜ StateTells (refusedBy refusal) r × Shaped r ⌝ }
     {
-        let none = Shape::refused(refusal, 0, 0);
+        let none = Shape::refused(refusal);
         let mesh = none.mesh;
         let table = none.table;
         let sharding = Sharding::replicated();
         State {
             next: Next::Refused(refusal),
-            devices: 1,
+            devices: none.devices,
             mesh,
             table,
             sharding,
@@ -516,9 +531,10 @@ impl State {
 
 // What the plan announces after so many steps; 34 where it has fewer.
 pub fn state_after(file: &[u8], state: usize) -> State
-    ensures { λ r. ⌜ (stateMeaning r ≡ stateOf (now (file .entry)) state) × Shaped r ⌝ }
+    ensures { λ r. ⌜ StateTells (stateAt (now (file .entry)) state) r × Shaped r ⌝ }
 {
-    let whole = judge_keeping(file, state);
+    let keeping = judge_keeping(file, state);
+    let whole = keeping.whole;
     let next = whole.next;
     let Next::At(first) = next else {
         return State::refused(next.refusal());
@@ -529,7 +545,7 @@ pub fn state_after(file: &[u8], state: usize) -> State
     }
     let mesh = whole.mesh;
     let table = whole.table;
-    let sharding = whole.kept;
+    let sharding = keeping.kept;
     let shard = shard_of(table, sharding, mesh);
     State {
         next: Next::At(first),

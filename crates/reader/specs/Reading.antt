@@ -1,13 +1,15 @@
--- What the reader's answers (src/lib.rt) stand for: `..Read` gives the judgement that an answer stands for, `..Refusal` the refusal that its
--- method `refusal` takes out. The judgements themselves are those of rules/specs/PlanFile.antt. Assumes nothing.
+-- What the reader's answers (src/lib.rt) stand for: `..Read` gives the judgement that an answer stands for, `..Tells` says so and what stands beside a
+-- refusal, `..Refusal` is the refusal that its method `refusal` takes out. The judgements themselves are those of rules/specs/PlanFile.antt.
+-- An array is told by its first places, as many as were asked for; what stands in the others is free, and nothing reads them. Assumes nothing.
 use Prim.Native.Nat.{ℕ}
-use mathlib.Core.List.{List}
-use lib.ListN.{length, getD, take}
+use mathlib.Core.Path.{_≡_}
+use mathlib.Core.List.{List, []}
+use lib.ListN.{length, getD, take, replicate}
 use lib.Dec.{ltb}
 use Rattle.rules.specs.Lists.{pick}
 use Rattle.rules.specs.Refusals.{Judged, accept, _>>_, refusedBy}
 use Rattle.rules.specs.Sharding.{Sharding}
-use Rattle.rules.specs.Collectives.{Step}
+use Rattle.rules.specs.Collectives.{Step, allReduce}
 use Rattle.rules.specs.PlanFile.{Read, judgeHeader, judgeHeaderBy, axisCount, rankCount, stepCount}
 use Rattle.rules.specs.Types.{axesOf, dimsOf, shardingOf, stepOf}
 use Rattle.rules.specs.declared.Kind.{Kind}
@@ -35,6 +37,16 @@ abbrev pub reading : {A : Type 0} → Next → A → Judged (Read A)
 reading (next.At k) value = accept (record { value = value; next = k })
 reading (next.Refused r) value = refusedBy r
 
+-- beside a refusal stands one value
+abbrev pub Beside : {A : Type 0} → Next → A → A → Type 0
+Beside (next.At k) value none = Unit {0}
+Beside (next.Refused r) value none = value ≡ none
+
+-- an answer tells a judgement: the value and where the next byte is, or the refusal with `none` beside it
+pub record Tells {A : Type 0} (none : A) (j : Judged (Read A)) (next : Next) (value : A) : Type 0 where
+  pub reads : reading next value ≡ j
+  pub beside : Beside next value none
+
 abbrev pub nextRefusal : Next → Refusal
 nextRefusal (next.At k) = record { reason = SectionPastEnd; step = 0 }
 nextRefusal (next.Refused r) = r
@@ -55,10 +67,11 @@ abbrev pub headerRefusal : HeaderRead → Refusal
 headerRefusal (header.Is h) = record { reason = CountOutsideLimits; step = 0 }
 headerRefusal (header.Refused r) = r
 
--- ---- sizes, lists, shardings, steps: the first places of an array, as many as were asked for
+-- ---- sizes, lists, shardings, steps
 
-abbrev pub sizesRead : ℕ → SizesRead → Judged (Read (List ℕ))
-sizesRead count r = reading (r .next) (take count (r .sizes))
+-- beside a refusal all sizes are 1
+abbrev pub SizesTell : ℕ → Judged (Read (List ℕ)) → SizesRead → Type 0
+SizesTell count j r = Tells (replicate count 1) j (r .next) (take count (r .sizes))
 
 abbrev pub listRead : ListRead → Judged (Read (List ℕ))
 listRead r = reading (r .next) (axesOf (r .list))
@@ -66,11 +79,19 @@ listRead r = reading (r .next) (axesOf (r .list))
 abbrev pub listsRead : ℕ → ShardingRead → Judged (Read (List (List ℕ)))
 listsRead rank r = reading (r .next) (take rank (dimsOf (r .sharding)))
 
-abbrev pub shardingRead : ℕ → ShardingRead → Judged (Read Sharding)
-shardingRead rank r = reading (r .next) (shardingOf rank (r .sharding))
+-- beside a refusal all axes are replicated
+abbrev pub noLists : ℕ → Sharding
+noLists rank = record { dims = replicate rank []; unreduced = [] }
 
-abbrev pub stepRead : ℕ → StepRead → Judged (Read Step)
-stepRead rank r = reading (r .next) (stepOf rank (r .step))
+abbrev pub ShardingTells : ℕ → Judged (Read Sharding) → ShardingRead → Type 0
+ShardingTells rank j r = Tells (noLists rank) j (r .next) (shardingOf rank (r .sharding))
+
+-- beside a refusal the step names no axis
+abbrev pub noStep : Step
+noStep = allReduce []
+
+abbrev pub StepTells : ℕ → Judged (Read Step) → StepRead → Type 0
+StepTells rank j r = Tells noStep j (r .next) (stepOf rank (r .step))
 
 -- the kinds that have one list per dimension
 abbrev pub PerDim : Kind → Type 0

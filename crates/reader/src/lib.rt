@@ -11,7 +11,7 @@ ghost use Rattle.rules.specs.Refusals.{refuse, numberOf, refusedBy};
 ghost use Rattle.rules.specs.PlanFile.{u16At, sizesAt, listAt, listsAt, shardingAt, kindOf, listsOf, stepAt};
 ghost use Rattle.rules.specs.declared.Kind.the-variants.{AllReduce, AllToAll};
 ghost use Rattle.reader.specs.Reading.{byteAt, nextRefusal, headerOf, headerRead, headerRefusal};
-ghost use Rattle.reader.specs.Reading.{sizesRead, listRead, listsRead, shardingRead, stepRead, PerDim};
+ghost use Rattle.reader.specs.Reading.{SizesTell, listRead, listsRead, ShardingTells, StepTells, PerDim};
 use rules::Axis;
 use rules::AxisList;
 use rules::Dim;
@@ -23,13 +23,13 @@ use rules::Sharding;
 use rules::Step;
 
 // A byte of a file, or none past its end.
-pub enum Byte {
+enum Byte {
     Is(u8),
     PastEnd,
 }
 
 // The byte at a position.
-pub fn byte_at(file: &[u8], at: usize) -> Byte
+fn byte_at(file: &[u8], at: usize) -> Byte
     ensures { λ r. ⌜ r ≡ byteAt (now (file .entry)) at ⌝ }
 {
     if at < file.len() {
@@ -157,7 +157,7 @@ pub fn read_header(file: &[u8]) -> HeaderRead
     HeaderRead::Is(Header { axes, rank, steps })
 }
 
-// Sizes that were read, their product, and where the next byte is; a place that was not read has size 1.
+// Sizes that were read, their product, and where the next byte is.
 pub struct SizesRead {
     pub next: Next,
     pub product: usize,
@@ -167,7 +167,8 @@ pub struct SizesRead {
 impl SizesRead {
     // Refused, outside the steps.
     fn refused_for(reason: Reason) -> SizesRead
-        ensures { λ r. ⌜ ((count : ℕ) → (sizesRead count r ≡ refuse (numberOf reason) 0) × (r .product ≡ product (take count (r .sizes)))) ⌝ }
+        ensures { λ r. ⌜ ((count : ℕ) → count ≤ mostAxes
+            → SizesTell count (refuse (numberOf reason) 0) r × (r .product ≡ product (take count (r .sizes)))) ⌝ }
     {
         SizesRead {
             next: Next::Refused(Refusal { reason, step: 0 }),
@@ -188,7 +189,7 @@ pub fn read_sizes(
     over: Reason,
 ) -> SizesRead
     requires { ⌜ (at ≤ length (now file)) × (count ≤ mostAxes) × (most ≤ mostWords) ⌝ }
-    ensures { λ r. ⌜ sizesRead count r ≡ sizesAt most (numberOf zero) (numberOf over) count offset (now (file .entry)) at ⌝ }
+    ensures { λ r. ⌜ SizesTell count (sizesAt most (numberOf zero) (numberOf over) count offset (now (file .entry)) at) r ⌝ }
     ensures { λ r. ⌜ r .product ≡ product (take count (r .sizes)) ⌝ }
 {
     if offset != at {
@@ -220,7 +221,7 @@ pub fn read_sizes(
 }
 
 // A list that was read, and where the next byte is.
-pub struct ListRead {
+struct ListRead {
     pub next: Next,
     pub list: AxisList,
 }
@@ -252,7 +253,7 @@ fn axis_in(file: &[u8], first: usize, count: usize, i: usize) -> Axis
 
 // "A list is a count byte and that many axis bytes."
 // The axes are put in place all at once: a list stored byte by byte and then handed on as a whole makes the processor wait.
-pub fn read_list(file: &[u8], at: usize, n: usize) -> ListRead
+fn read_list(file: &[u8], at: usize, n: usize) -> ListRead
     requires { ⌜ n ≤ mostAxes ⌝ }
     ensures { λ r. ⌜ listRead r ≡ listAt n (now (file .entry)) at ⌝ }
 {
@@ -294,7 +295,7 @@ pub struct ShardingRead {
 impl ShardingRead {
     // Refused, with no lists.
     fn refused(refusal: Refusal) -> ShardingRead
-        ensures { λ r. ⌜ ((rank : ℕ) → (listsRead rank r ≡ refusedBy refusal) × (shardingRead rank r ≡ refusedBy refusal)) ⌝ }
+        ensures { λ r. ⌜ ((rank : ℕ) → rank ≤ mostDims → (listsRead rank r ≡ refusedBy refusal) × ShardingTells rank (refusedBy refusal) r) ⌝ }
     {
         let sharding = Sharding::replicated();
         ShardingRead {
@@ -305,7 +306,7 @@ impl ShardingRead {
 }
 
 // One list for each dimension.
-pub fn read_lists(file: &[u8], at: usize, n: usize, rank: usize) -> ShardingRead
+fn read_lists(file: &[u8], at: usize, n: usize, rank: usize) -> ShardingRead
     requires { ⌜ (n ≤ mostAxes) × (rank ≤ mostDims) ⌝ }
     ensures { λ r. ⌜ listsRead rank r ≡ listsAt n rank (now (file .entry)) at ⌝ }
 {
@@ -334,7 +335,7 @@ pub fn read_lists(file: &[u8], at: usize, n: usize, rank: usize) -> ShardingRead
 // "The sharding is one list per dimension, then the unreduced list."
 pub fn read_sharding(file: &[u8], at: usize, n: usize, rank: usize, offset: usize) -> ShardingRead
     requires { ⌜ (n ≤ mostAxes) × (rank ≤ mostDims) ⌝ }
-    ensures { λ r. ⌜ shardingRead rank r ≡ shardingAt n rank offset (now (file .entry)) at ⌝ }
+    ensures { λ r. ⌜ ShardingTells rank (shardingAt n rank offset (now (file .entry)) at) r ⌝ }
 {
     if offset != at {
         return ShardingRead::refused(Refusal {
@@ -370,7 +371,7 @@ pub struct StepRead {
 impl StepRead {
     // Refused, with no step.
     fn refused(refusal: Refusal) -> StepRead
-        ensures { λ r. ⌜ ((rank : ℕ) → stepRead rank r ≡ refusedBy refusal) ⌝ }
+        ensures { λ r. ⌜ ((rank : ℕ) → StepTells rank (refusedBy refusal) r) ⌝ }
     {
         let lists = Sharding::replicated();
         StepRead {
@@ -386,7 +387,7 @@ impl StepRead {
 }
 
 // "1 all-slice, 2 all-gather .., 3 all-reduce .., 4 all-to-all"
-pub fn kind_of(byte: u8) -> Kind
+fn kind_of(byte: u8) -> Kind
     ensures { λ r. ⌜ r ≡ kindOf byte ⌝ }
 {
     if byte == 1 {
@@ -405,7 +406,7 @@ pub fn kind_of(byte: u8) -> Kind
 // An all-slice or all-gather after its kind byte: one list per dimension.
 fn read_per_dim(file: &[u8], at: usize, n: usize, rank: usize, kind: Kind) -> StepRead
     requires { ⌜ (n ≤ mostAxes) × (rank ≤ mostDims) × PerDim kind ⌝ }
-    ensures { λ r. ⌜ ((k : ℕ) → stepRead rank r ≡ listsOf n rank k (now (file .entry)) at kind) ⌝ }
+    ensures { λ r. ⌜ ((k : ℕ) → StepTells rank (listsOf n rank k (now (file .entry)) at kind) r) ⌝ }
 {
     let read = read_lists(file, at, n, rank);
     let next = read.next;
@@ -427,7 +428,7 @@ fn read_per_dim(file: &[u8], at: usize, n: usize, rank: usize, kind: Kind) -> St
 // An all-reduce after its kind byte: one list.
 fn read_all_reduce(file: &[u8], at: usize, n: usize) -> StepRead
     requires { ⌜ n ≤ mostAxes ⌝ }
-    ensures { λ r. ⌜ ((rank k : ℕ) → stepRead rank r ≡ listsOf n rank k (now (file .entry)) at AllReduce) ⌝ }
+    ensures { λ r. ⌜ ((rank k : ℕ) → StepTells rank (listsOf n rank k (now (file .entry)) at AllReduce) r) ⌝ }
 {
     let read = read_list(file, at, n);
     let next = read.next;
@@ -451,7 +452,7 @@ fn read_all_reduce(file: &[u8], at: usize, n: usize) -> StepRead
 // An all-to-all after its kind byte: "source byte, target byte, one list".
 fn read_all_to_all(file: &[u8], at: usize, n: usize) -> StepRead
     requires { ⌜ n ≤ mostAxes ⌝ }
-    ensures { λ r. ⌜ ((rank k : ℕ) → stepRead rank r ≡ listsOf n rank k (now (file .entry)) at AllToAll) ⌝ }
+    ensures { λ r. ⌜ ((rank k : ℕ) → StepTells rank (listsOf n rank k (now (file .entry)) at AllToAll) r) ⌝ }
 {
     let first = byte_at(file, at);
     let Byte::Is(source) = first else {
@@ -489,7 +490,7 @@ fn read_all_to_all(file: &[u8], at: usize, n: usize) -> StepRead
 // Step k: "A step is a kind byte and its lists"; "A kind or count byte is judged when read."
 pub fn read_step(file: &[u8], at: usize, n: usize, rank: usize, k: u16) -> StepRead
     requires { ⌜ (n ≤ mostAxes) × (rank ≤ mostDims) ⌝ }
-    ensures { λ r. ⌜ stepRead rank r ≡ stepAt n rank k (now (file .entry)) at ⌝ }
+    ensures { λ r. ⌜ StepTells rank (stepAt n rank k (now (file .entry)) at) r ⌝ }
 {
     let first = byte_at(file, at);
     let Byte::Is(byte) = first else {

@@ -30,7 +30,11 @@ use Rattle.rules.specs.PlanFile.{
   judgeHeaderBy,
   judgeSizes,
   sizesAt,
+  MeshAndTable,
+  meshAndTableAt,
+  meshAndTableAtBy,
   shardingAt,
+  judgeAxis,
   judgeAxes,
   judgeStart,
   stepAt,
@@ -42,6 +46,10 @@ use Rattle.rules.specs.PlanFile.{
   Plan,
   judge,
   judgeBy,
+  announced,
+  announcedShape,
+  StateAnswer,
+  stateOf,
 }
 use Rattle.rules.proofs.Lists.{T-and, length-tab, not-mem, distinct-append, in-append}
 use Rattle.rules.proofs.Judging.{accept-inj, need-inv, need-true, then-inv, bind-inv}
@@ -90,10 +98,10 @@ pub axes-facts : (n : ℕ) (increasing : Bool) (low : ℕ) (before axes : List �
 unfolding judgeAxes
 axes-facts n increasing low before [] e = record { below = λ a i. absurd i; once = tt; off = λ a i. absurd i }
 axes-facts n increasing low before (b ∷ axes) e =
-    let p : T (ltb b n) × (_ ≡ accept tt) = need-inv 0 (ltb b n) 14 _ tt e in
+    let j = then-inv (judgeAxis n low before b) _ tt e in
+    let p : T (ltb b n) × (_ ≡ accept tt) = need-inv 0 (ltb b n) 14 _ tt (j .0 .1) in
     let q : T (not (mem b before)) × (_ ≡ accept tt) = need-inv 0 (not (mem b before)) 15 _ tt (p .1) in
-    let r : T (leb low b) × (judgeAxes n increasing (pick increasing (b + 1) 0) (b ∷ before) axes ≡ accept tt) = need-inv 0 (leb low b) 16 _ tt (q .1) in
-    let f : AxesFacts n (b ∷ before) axes = axes-facts n increasing (pick increasing (b + 1) 0) (b ∷ before) axes (r .1) in
+    let f : AxesFacts n (b ∷ before) axes = axes-facts n increasing (pick increasing (b + 1) 0) (b ∷ before) axes (j .1) in
     record {
       below = λ a. ⊎-elim (λ w. subst (λ z. z < n) (sym w) (ltb→lt b n (p .0))) (f .below a);
       once = ((λ i. f .off b i (inl refl)), f .once);
@@ -143,6 +151,7 @@ pub record Within (mesh sizes : List ℕ) : Type 0 where
   pub axes-some : 1 ≤ length mesh
   pub axes-few : length mesh ≤ mostAxes
   pub sizes-pos : (a : ℕ) → 0 < getD mesh a 1
+  pub sizes-few : (a : ℕ) → getD mesh a 1 ≤ mostDevices
   pub devices-pos : 0 < product mesh
   pub devices-few : product mesh ≤ mostDevices
   pub rank-some : 1 ≤ length sizes
@@ -204,6 +213,24 @@ section-facts most z o count offset file at r l e =
       inside = leb→le (at + 2 * count) (length file) (b .0);
     })
 
+-- What accepted mesh and tensor sections tell.
+pub record MeshAndTableFacts (n rank : ℕ) (r : MeshAndTable) : Type 0 where
+  pub axes-many : length (r .mesh) ≡ n
+  pub mesh : SizesFacts mostDevices 1 (r .mesh)
+  pub rank-many : length (r .sizes) ≡ rank
+  pub sizes : SizesFacts mostWords 1 (r .sizes)
+
+pub mesh-and-table-facts : (n rank : ℕ) (file : List ℕ) (r : Read MeshAndTable) → meshAndTableAt n rank file ≡ accept r → MeshAndTableFacts n rank (r .value)
+unfolding meshAndTableAtBy
+mesh-and-table-facts n rank file r e =
+    let m = bind-inv (sizesAt mostDevices 10 11 n (meshOffset file) file 18) _ r e in
+    let t = bind-inv (sizesAt mostWords 12 13 rank (tensorOffset file) file (m .0 .next)) _ r (m .2) in
+    let f : SectionFacts mostDevices n file 18 (m .0) = section-facts mostDevices 10 11 n (meshOffset file) file 18 (m .0) (lit≤ tt) (m .1) in
+    let g : SectionFacts mostWords rank file (m .0 .next) (t .0) =
+    section-facts mostWords 12 13 rank (tensorOffset file) file (m .0 .next) (t .0) (lit≤ tt) (t .1) in
+    subst (λ (x : Read MeshAndTable). MeshAndTableFacts n rank (x .value)) (accept-inj (t .2))
+    (record { axes-many = f .many; mesh = f .sizes; rank-many = g .many; sizes = g .sizes })
+
 -- What stands before the steps, where it is accepted.
 pub record AcceptedFront (file : List ℕ) (f : Front) : Type 0 where
   pub within : Within (f .mesh) (f .sizes)
@@ -215,28 +242,26 @@ unfolding judgeFrontBy
 front-accepted file f e =
     let h0 = then-inv (judgeHeader file) _ f e in
     let h : HeaderFacts file = header-facts file (h0 .0 .1) in
-    let m = bind-inv (sizesAt mostDevices 10 11 (axisCount file) (meshOffset file) file 18) _ f (h0 .1) in
-    let t = bind-inv (sizesAt mostWords 12 13 (rankCount file) (tensorOffset file) file (m .0 .next)) _ f (m .2) in
-    let s = bind-inv (shardingAt (axisCount file) (rankCount file) (shardingOffset file) file (t .0 .next)) _ f (t .2) in
+    let m = bind-inv (meshAndTableAt (axisCount file) (rankCount file) file) _ f (h0 .1) in
+    let s = bind-inv (shardingAt (axisCount file) (rankCount file) (shardingOffset file) file (m .0 .next)) _ f (m .2) in
     let o = need-inv 0 (eqb (stepsOffset file) (s .0 .next)) 6 _ f (s .2) in
-    let j = then-inv (judgeStart (m .0 .value) (t .0 .value) (s .0 .value)) _ f (o .1) in
-    let fm : SectionFacts mostDevices (axisCount file) file 18 (m .0) =
-    section-facts mostDevices 10 11 (axisCount file) (meshOffset file) file 18 (m .0) (lit≤ tt) (m .1) in
-    let ft : SectionFacts mostWords (rankCount file) file (m .0 .next) (t .0) =
-    section-facts mostWords 12 13 (rankCount file) (tensorOffset file) file (m .0 .next) (t .0) (lit≤ tt) (t .1) in
+    let j = then-inv (judgeStart (m .0 .value .mesh) (m .0 .value .sizes) (s .0 .value)) _ f (o .1) in
+    let g : MeshAndTableFacts (axisCount file) (rankCount file) (m .0 .value) =
+    mesh-and-table-facts (axisCount file) (rankCount file) file (m .0) (m .1) in
     subst (AcceptedFront file) (accept-inj (j .1)) (record {
       within = record {
-        axes-some = omega (arith, fm .many);
-        axes-few = omega (arith, fm .many);
-        sizes-pos = fm .sizes .each-pos;
-        devices-pos = omega (arith, fm .sizes .pos);
-        devices-few = omega (arith, fm .sizes .few);
-        rank-some = omega (arith, ft .many);
-        rank-few = omega (arith, ft .many);
-        words-pos = omega (arith, ft .sizes .pos);
-        words-few = omega (arith, ft .sizes .few);
+        axes-some = omega (arith, g .axes-many);
+        axes-few = omega (arith, g .axes-many);
+        sizes-pos = g .mesh .each-pos;
+        sizes-few = g .mesh .each-few;
+        devices-pos = omega (arith, g .mesh .pos);
+        devices-few = omega (arith, g .mesh .few);
+        rank-some = omega (arith, g .rank-many);
+        rank-few = omega (arith, g .rank-many);
+        words-pos = omega (arith, g .sizes .pos);
+        words-few = omega (arith, g .sizes .few);
       };
-      start-is = start-sharding (m .0 .value) (t .0 .value) (s .0 .value) (j .0 .1);
+      start-is = start-sharding (m .0 .value .mesh) (m .0 .value .sizes) (s .0 .value) (j .0 .1);
       steps-few = h .steps-few;
     })
 
@@ -259,3 +284,11 @@ accepted file p e =
     steps-fine (f .0 .mesh) (f .0 .sizes) 1 (stepCount file) file (f .0 .next) (f .0 .start) (ts .0) (ts .1) in
     subst AcceptedPlan (accept-inj (z .1))
     (record { within = a .within; start-is = a .start-is; steps-few = omega (arith, fs .1, a .steps-few); fine = fs .0 })
+
+-- the plan of an accepted state
+pub state-inv : (file : List ℕ) (k : ℕ) (a : StateAnswer) → stateOf file k ≡ accept a
+    → (p : Plan) × (judge file ≡ accept p) × (record { mesh = p .mesh; sizes = p .sizes; sharding = announced p k; shard = announcedShape p k } ≡ a)
+unfolding stateOf
+state-inv file k a e =
+    let p = bind-inv (judge file) _ a e in
+    (p .0, p .1, accept-inj (need-inv 0 (leb k (length (p .0 .steps))) 34 _ a (p .2) .1))

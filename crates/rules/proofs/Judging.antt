@@ -10,7 +10,7 @@ use lib.Dec.{T, T-not, eqb, ltb, leb, eqb→eq, eqb-refl, ltb→lt, leb→le}
 use Rattle.rules.specs.Lists.{each, both, mem, In, Distinct}
 use Rattle.rules.specs.Collectives.{cutTail}
 use Rattle.rules.specs.Refusals.{Judged, accept, refuse, _>>=_, _>>_, needAt}
-use Rattle.rules.specs.PlanFile.{allBelow, fresh, same, isTail, increasingFrom, allIn, twoDims}
+use Rattle.rules.specs.PlanFile.{some, allBelow, fresh, same, isTail, increasingFrom, allIn, twoDims, judgeNamed}
 use Rattle.rules.proofs.Lists.{T-and, mem-in, not-mem}
 
 -- ---- tests in order
@@ -37,9 +37,23 @@ pub bind-inv : {A B : Type 0} (m : Judged A) (f : A → Judged B) (b : B) → _>
 bind-inv (accept a) f b e = (a, refl, e)
 bind-inv (refuse n k) f b e = absurd (never e)
 
+-- tests in order, taken together otherwise
+pub then-assoc : {A B C : Type 0} (m : Judged A) (l : Judged B) (r : Judged C) → _>>_ (_>>_ m l) r ≡ _>>_ m (_>>_ l r)
+then-assoc (accept a) l r = refl
+then-assoc (refuse n k) l r = refl
+
+pub bind-assoc : {A B C : Type 0} (m : Judged A) (f : A → Judged B) (g : B → Judged C) → _>>=_ (_>>=_ m f) g ≡ _>>=_ m (λ a. _>>=_ (f a) g)
+bind-assoc (accept a) f g = refl
+bind-assoc (refuse n k) f g = refl
+
 -- ---- tests of axis lists
 
--- 22
+-- 21, 22
+pub named-inv : (n k : ℕ) (L : List ℕ) → judgeNamed n k L ≡ accept tt → T (some L) × T (allBelow n L)
+named-inv n k L e =
+    let p : T (some L) × (needAt k (allBelow n L) 22 ≡ accept tt) = need-inv k (some L) 21 (needAt k (allBelow n L) 22) tt e in
+    (p .0, need-true k (allBelow n L) 22 (p .1))
+
 pub allBelow-lt : (n : ℕ) (L : List ℕ) → T (allBelow n L) → (a : ℕ) → In a L → a < n
 unfolding allBelow
 allBelow-lt n (b ∷ L) t a (inl e) = subst (λ z. z < n) (sym e) (ltb→lt b n (T-and (ltb b n) (allBelow n L) t .0))

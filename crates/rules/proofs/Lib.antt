@@ -1,6 +1,7 @@
 -- The laws of the rules, from below.
 pub mod Lists
 pub mod Types
+pub mod Refusals
 pub mod Positions
 pub mod Buffers
 pub mod Groups
@@ -17,6 +18,7 @@ pub mod Room
 pub mod Next
 pub mod Whole
 pub mod Refusing
+pub mod Answers
 pub mod Locality
 pub mod Stands
 pub mod Moves

@@ -10,7 +10,7 @@ use native.Mathlib.Decide.{ℕ-discrete}
 use lib.ListN.{length, getD, take, drop, replicate, length-append, List·getD-append}
 use lib.Seq.{drop-cons, getD-at}
 use lib.Dec.{T, T-not, not-T, eqb, eqb-refl, eqb→eq}
-use Rattle.rules.specs.Lists.{tab, each, both, pick, flat, mem, keep, without, In, Distinct, All, done, _&_, Below, none, more}
+use Rattle.rules.specs.Lists.{tab, each, both, inTurn, pick, flat, mem, keep, without, In, Distinct, All, done, _&_, Below, none, more}
 
 -- ---- tabulated lists
 
@@ -54,6 +54,11 @@ pub any-default : (l : List ℕ) (a x y : ℕ) → a < length l → getD l a x �
 any-default [] a x y h = absurd (omega arith)
 any-default (b ∷ l) zero x y h = refl
 any-default (b ∷ l) (suc a) x y h = any-default l a x y (omega arith)
+
+-- f of one list in turn, and then of another
+pub in-turn-append : {A B : Type 0} (f : A → B → B) (l m : List A) (b : B) → inTurn f (l ++ m) b ≡ inTurn f m (inTurn f l b)
+in-turn-append f [] m b = refl
+in-turn-append f (a ∷ l) m b = in-turn-append f l m (f a b)
 
 -- ---- P of each entry
 
@@ -99,6 +104,12 @@ in-flat a l ls h = ⊎-elim (in-left a l (flat ls)) (in-right a l (flat ls)) h
 
 pub flat-in : (a : ℕ) (l : List ℕ) (ls : List (List ℕ)) → In a (flat (l ∷ ls)) → In a l ⊎ In a (flat ls)
 flat-in a l ls i = in-append a l (flat ls) i
+
+-- one of the lists by its place
+pub at-flat : (a : ℕ) (ls : List (List ℕ)) (d : ℕ) → In a (getD ls d []) → In a (flat ls)
+at-flat a [] d i = absurd i
+at-flat a (l ∷ ls) zero i = in-left a l (flat ls) i
+at-flat a (l ∷ ls) (suc d) i = in-right a l (flat ls) (at-flat a ls d i)
 
 -- the entries of joined lists are those of the two
 pub joined-left : (a : ℕ) (ds Ss : List (List ℕ)) → length ds ≡ length Ss → In a (flat ds) → In a (flat (each _++_ ds Ss))
@@ -190,6 +201,11 @@ pub distinct-append : (l m : List ℕ) → Distinct l → Distinct m → ((a : �
 distinct-append [] m hl hm off = hm
 distinct-append (b ∷ l) m hl hm off =
     ((λ i. ⊎-elim (λ j. hl .0 j) (λ j. off b j (inl refl)) (in-append b l m i)), distinct-append l m (hl .1) hm (λ a i j. off a i (inr j)))
+
+pub distinct-at : (ls : List (List ℕ)) (d : ℕ) → Distinct (flat ls) → Distinct (getD ls d [])
+distinct-at [] d h = tt
+distinct-at (l ∷ ls) zero h = distinct-split l (flat ls) h .0
+distinct-at (l ∷ ls) (suc d) h = distinct-at ls d (distinct-split l (flat ls) h .1)
 
 -- joined place by place, and taken apart again
 pub distinct-joined : (ds Ss : List (List ℕ)) → Distinct (flat ds) → Distinct (flat Ss) → ((a : ℕ) → In a (flat Ss) → ¬ In a (flat ds))
@@ -346,28 +362,8 @@ pub without-absent : (L U : List ℕ) → ((a : ℕ) → In a U → ¬ In a L) �
 unfolding without
 without-absent L U off = keep-all (λ c. not (mem c L)) U (λ c i. mem-not c L (off c i))
 
--- distinct axes of a mesh are no more than its axes
--- ---- entries below sizes
+-- ---- distinct numbers below n are at most n
 
-pub below-length : {xs ns : List ℕ} → Below xs ns → length xs ≡ length ns
-below-length none = refl
-below-length (more l b) = ap suc (below-length b)
-
--- ---- entries and numbers
-
--- one turn of a loop that counts a list down
-pub drop-before : {A : Type 0} (z : A) (l : List A) (i : ℕ) → 0 < i → i ≤ length l → drop (i - 1) l ≡ getD l (i - 1) z ∷ drop i l
-drop-before z l i h g =
-    let e : suc (i - 1) ≡ i = omega arith in
-    rw e at (drop-cons l (i - 1) z (omega arith))
-
--- an entry of a list is in it
-pub at-in : (l : List ℕ) (i : ℕ) → i < length l → In (getD l i 0) l
-at-in [] i h = absurd (omega arith)
-at-in (a ∷ l) zero h = inl refl
-at-in (a ∷ l) (suc i) h = inr (at-in l i (omega arith))
-
--- distinct numbers below n are at most n
 one-less : (a : ℕ) (L : List ℕ) → Distinct L → length L ≤ suc (length (without L (a ∷ [])))
 one-less a [] d = omega arith
 one-less a (b ∷ L) d = go (ℕ-discrete a b) (one-less a L (d .1))
@@ -390,3 +386,23 @@ few-distinct (suc n) L d h =
     let k : ¬ (a ≡ n) = λ e. not-in-without a (n ∷ []) L (inl e) i in
     omega arith) in
     omega (arith, one-less n L d)
+
+-- ---- entries below sizes
+
+pub below-length : {xs ns : List ℕ} → Below xs ns → length xs ≡ length ns
+below-length none = refl
+below-length (more l b) = ap suc (below-length b)
+
+-- ---- entries and numbers
+
+-- one turn of a loop that counts a list down
+pub drop-before : {A : Type 0} (z : A) (l : List A) (i : ℕ) → 0 < i → i ≤ length l → drop (i - 1) l ≡ getD l (i - 1) z ∷ drop i l
+drop-before z l i h g =
+    let e : suc (i - 1) ≡ i = omega arith in
+    rw e at (drop-cons l (i - 1) z (omega arith))
+
+-- an entry of a list is in it
+pub at-in : (l : List ℕ) (i : ℕ) → i < length l → In (getD l i 0) l
+at-in [] i h = absurd (omega arith)
+at-in (a ∷ l) zero h = inl refl
+at-in (a ∷ l) (suc i) h = inr (at-in l i (omega arith))

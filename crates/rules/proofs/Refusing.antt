@@ -31,9 +31,12 @@ use Rattle.rules.specs.PlanFile.{
   judgeHeaderBy,
   judgeSizes,
   sizesAt,
+  meshAndTableAt,
+  meshAndTableAtBy,
   listAt,
   listsAt,
   shardingAt,
+  judgeAxis,
   judgeAxes,
   judgeStart,
   kindOf,
@@ -49,6 +52,7 @@ use Rattle.rules.specs.PlanFile.{
   gatherOff,
   sliceOn,
   judgeKind,
+  judgeNamed,
   judgeStep,
   stepsAt,
   judgeFront,
@@ -57,6 +61,7 @@ use Rattle.rules.specs.PlanFile.{
   judge,
   judgeBy,
   room,
+  stateOf,
 }
 use Rattle.rules.specs.Calls.{checkOf, placeOf, groupsOf, runnable, runLeaves, runOf}
 use Rattle.rules.specs.Demands.{fileNumbers, stepNumbers, Numbered, RefusalNumbers}
@@ -127,8 +132,8 @@ module _ (P : ℕ → ℕ → Type 0) where
   unfolding judgeAxes
   axes-refuse n increasing low before [] f g h = accepts tt
   axes-refuse n increasing low before (a ∷ axes) f g h =
-      tests 0 (ltb a n) 14 _ f (tests 0 (not (mem a before)) 15 _ g (next (need (leb low a) 16) _ (low-test increasing low a h)
-      (axes-refuse n increasing (pick increasing (a + 1) 0) (a ∷ before) axes f g (low-next increasing low a h))))
+      next (judgeAxis n low before a) _ (tests 0 (ltb a n) 14 _ f (tests 0 (not (mem a before)) 15 _ g (low-test increasing low a h)))
+      (axes-refuse n increasing (pick increasing (a + 1) 0) (a ∷ before) axes f g (low-next increasing low a h))
 
   -- ---- a file
 
@@ -149,6 +154,12 @@ module _ (P : ℕ → ℕ → Type 0) where
         tests 0 (eqb offset at) 6 _ (out 6 tt)
         (tests 0 (leb (at + 2 * count) (length file)) 7 _ (out 7 tt)
         (next _ _ (sizes-refuse most z o 1 (tab count (λ i. u16At file (at + 2 * i))) hz ho) (accepts _)))
+
+    sections-refuse : (n rank : ℕ) (file : List ℕ) → Refuses (meshAndTableAt n rank file)
+    unfolding meshAndTableAtBy mem
+    sections-refuse n rank file =
+        bind _ _ (section-refuses mostDevices 10 11 n (meshOffset file) file 18 (out 10 tt) (out 11 tt))
+        (λ m. bind _ _ (section-refuses mostWords 12 13 rank (tensorOffset file) file (m .next) (out 12 tt) (out 13 tt)) (λ t. accepts _))
 
     list-refuses : (n : ℕ) (file : List ℕ) (at : ℕ) → Refuses (listAt n file at)
     unfolding listAt mem
@@ -181,10 +192,10 @@ module _ (P : ℕ → ℕ → Type 0) where
     unfolding judgeFrontBy mem
     front-refuses file =
         next _ _ (header-refuses file)
-        (bind _ _ (section-refuses mostDevices 10 11 (axisCount file) (meshOffset file) file 18 (out 10 tt) (out 11 tt))
-        (λ m. bind _ _ (section-refuses mostWords 12 13 (rankCount file) (tensorOffset file) file (m .next) (out 12 tt) (out 13 tt))
-        (λ t. bind _ _ (sharding-refuses (axisCount file) (rankCount file) (shardingOffset file) file (t .next))
-        (λ s. tests 0 (eqb (stepsOffset file) (s .next)) 6 _ (out 6 tt) (next _ _ (start-refuses (m .value) (t .value) (s .value)) (accepts _))))))
+        (bind _ _ (sections-refuse (axisCount file) (rankCount file) file)
+        (λ m. bind _ _ (sharding-refuses (axisCount file) (rankCount file) (shardingOffset file) file (m .next))
+        (λ s. tests 0 (eqb (stepsOffset file) (s .next)) 6 _ (out 6 tt)
+        (next _ _ (start-refuses (m .value .mesh) (m .value .sizes) (s .value)) (accepts _)))))
 
     -- ---- its steps
 
@@ -223,8 +234,9 @@ module _ (P : ℕ → ℕ → Type 0) where
       step-judged : (mesh sizes : List ℕ) (t : Step) (s : Sharding) → Refuses (judgeStep mesh sizes k t s)
       unfolding judgeStep mem
       step-judged mesh sizes t s =
-          tests k (some (stepAxes t)) 21 _ (inside 21 tt)
-          (tests k (allBelow (length mesh) (stepAxes t)) 22 _ (inside 22 tt) (kind-judged mesh sizes t s))
+          next (judgeNamed (length mesh) k (stepAxes t)) _
+          (tests k (some (stepAxes t)) 21 _ (inside 21 tt) (test k (allBelow (length mesh) (stepAxes t)) 22 (inside 22 tt)))
+          (kind-judged mesh sizes t s)
 
     module _ (steps : ℕ) (inside : (n k : ℕ) → T (mem n stepNumbers) → 1 ≤ k → k ≤ steps → P n k) where
       steps-refuse : (mesh sizes : List ℕ) (k count : ℕ) (file : List ℕ) (at : ℕ) (s : Sharding) → 1 ≤ k → k + count ≤ steps + 1
@@ -272,16 +284,17 @@ run-refuses P work spare (accept p) h = accepts P tt
 run-refuses P work spare (refuse n k) h = refuses P n k (h n k refl)
 
 pub refusal-numbers : RefusalNumbers
-unfolding checkOf placeOf groupsOf runOf runnable mem
+unfolding checkOf stateOf placeOf groupsOf runOf runnable mem
 refusal-numbers = record {
   check = λ file. bind (Numbered fileNumbers (stepCount file)) _ _ (judge-refuses fileNumbers (λ n i. i) file) (λ p. accepts _ _);
   place = λ file state device.
       let numbers : List ℕ = 32 ∷ 34 ∷ fileNumbers in
       let steps : ℕ = stepCount file in
       let P : ℕ → ℕ → Type 0 = Numbered numbers steps in
-      bind P _ _ (judge-refuses numbers (λ n i. inr (inr i)) file)
-      (λ p. tests P 0 (leb state (length (p .steps))) 34 _ (listed numbers steps 34 tt)
-      (tests P 0 (ltb device (devices (p .mesh))) 32 _ (listed numbers steps 32 tt) (accepts P _)));
+      bind P (stateOf file state) _
+      (bind P _ _ (judge-refuses numbers (λ n i. inr (inr i)) file)
+      (λ p. tests P 0 (leb state (length (p .steps))) 34 _ (listed numbers steps 34 tt) (accepts P _)))
+      (λ s. tests P 0 (ltb device (devices (s .mesh))) 32 _ (listed numbers steps 32 tt) (accepts P _));
   groups = λ mesh axes out.
       let numbers : List ℕ = 5 ∷ 10 ∷ 11 ∷ 14 ∷ 15 ∷ 33 ∷ [] in
       let P : ℕ → ℕ → Type 0 = Numbered numbers 0 in

@@ -1,5 +1,6 @@
--- A shard has some words and at most the limit, under any sharding (`shard-words`). The states of an accepted plan: each is a sharding, its axes
--- divide the devices, and the room holds it (`state`); the room is bounded (`room-few`). Records that omega reads. Assumes nothing.
+-- A shard has some words and at most the limit, under any sharding (`shard-words`). The states of an accepted plan: each is a sharding that names at
+-- most six axes, its axes divide the devices, and the room holds it (`state`); the room is bounded (`room-few`). Records that omega reads. Assumes
+-- nothing.
 use Prim.Native.Nat.{ℕ, zero, suc, _+_, _*_, _<_, _≤_, max}
 use mathlib.Core.Path.{_≡_, sym, subst}
 use mathlib.Core.List.{List, [], _∷_, _++_}
@@ -11,8 +12,9 @@ use Rattle.rules.specs.Lists.{tab, inTurn, flat, product, largest}
 use Rattle.rules.specs.Mesh.{span, devices, remaining}
 use Rattle.rules.specs.Sharding.{Sharding, named, shardSizes, IsSharding}
 use Rattle.rules.specs.Collectives.{Step, after}
-use Rattle.rules.specs.Limits.{mostDevices, mostWords}
+use Rattle.rules.specs.Limits.{mostAxes, mostDevices, mostWords}
 use Rattle.rules.specs.PlanFile.{Plan, announced, announcedShape, room}
+use Rattle.rules.proofs.Lists.{few-distinct}
 use Rattle.rules.proofs.Groups.{groups-devices}
 use Rattle.rules.proofs.Sizes.{cut-product, span-pos}
 use Rattle.rules.proofs.Steps.{after-sharding, sharding-cut}
@@ -78,6 +80,7 @@ module _ {p : Plan} (a : AcceptedPlan p) where
   -- What code needs of state k.
   pub record State (k : ℕ) : Type 0 where
     pub sharding : IsSharding (p .mesh) (p .sizes) (announced p k)
+    pub names-few : length (named (announced p k)) ≤ mostAxes
     pub words : ShardWords (product (announcedShape p k))
     pub fits : k ≤ length (p .steps) → devices (p .mesh) * product (announcedShape p k) ≤ room p
     pub divides : span (p .mesh) (remaining (p .mesh) (named (announced p k))) * span (p .mesh) (named (announced p k)) ≡ devices (p .mesh)
@@ -88,6 +91,7 @@ module _ {p : Plan} (a : AcceptedPlan p) where
       let s : IsSharding (p .mesh) (p .sizes) (announced p k) = state-sharding k in
       record {
         sharding = s;
+        names-few = omega (arith, few-distinct (length (p .mesh)) (named (announced p k)) (s .once) (s .of-mesh), a .within .axes-few);
         words = shard-words (p .mesh) (p .sizes) (a .within) (announced p k) s;
         fits = state-fits k;
         divides = groups-devices (p .mesh) (named (announced p k)) (s .once) (s .of-mesh);

@@ -27,7 +27,7 @@ use Rattle.rules.specs.Collectives.{
   shapeAfter,
 }
 use Rattle.rules.specs.Refusals.{Judged, accept}
-use Rattle.rules.specs.PlanFile.{some, allBelow, fresh, isTail, increasingFrom, allIn, twoDims, gatherOff, sliceOn, judgeKind, judgeStep}
+use Rattle.rules.specs.PlanFile.{some, allBelow, fresh, isTail, increasingFrom, allIn, twoDims, gatherOff, sliceOn, judgeKind, judgeNamed, judgeStep}
 use Rattle.rules.proofs.Lists.{
   length-each,
   in-left,
@@ -47,7 +47,7 @@ use Rattle.rules.proofs.Lists.{
 }
 use Rattle.rules.proofs.Shapes.{Cut, cut-lengths}
 use Rattle.rules.proofs.Sizes.{cut-divisible, cut-joined, cut-grown, cut-is}
-use Rattle.rules.proofs.Judging.{accept-inj, need-inv, bind-inv, allBelow-lt, fresh-distinct, tails-joined, increasing-distinct, allIn-in, twoDims-facts}
+use Rattle.rules.proofs.Judging.{accept-inj, need-inv, then-inv, bind-inv, named-inv, allBelow-lt, fresh-distinct, tails-joined, increasing-distinct, allIn-in, twoDims-facts}
 
 -- one list among empty ones
 pub flat-empty : (r : ℕ) → flat {A = ℕ} (replicate r []) ≡ []
@@ -58,6 +58,13 @@ pub flat-only : (r i : ℕ) (L : List ℕ) → i < r → flat (only r i L) ≡ L
 flat-only zero i L h = absurd (omega arith)
 flat-only (suc r) zero L h = ap (λ (l : List ℕ). L ++ l) (flat-empty r) ∙ append-nil L
 flat-only (suc r) (suc i) L h = flat-only r i L (omega arith)
+
+-- a gather off the lists
+pub gather-inv : (k : ℕ) (Gs : List (List ℕ)) (s r : Sharding) → gatherOff k Gs s ≡ accept r → T (both isTail (s .dims) Gs) × (gathered Gs s ≡ r)
+unfolding gatherOff
+gather-inv k Gs s r e =
+    let p : T (both isTail (s .dims) Gs) × (accept (gathered Gs s) ≡ accept r) = need-inv k (both isTail (s .dims) Gs) 24 (accept (gathered Gs s)) r e in
+    (p .0, accept-inj (p .1))
 
 -- ---- what an accepted step of each kind satisfies
 
@@ -87,13 +94,7 @@ module _ (mesh sizes : List ℕ) where
   Facts (allReduce L) s = ReduceFacts L s
   Facts (allToAll source target L) s = ToAllFacts source target L s
 
-  -- a gather off the lists, and a slice on them
-  gather-inv : (k : ℕ) (Gs : List (List ℕ)) (s r : Sharding) → gatherOff k Gs s ≡ accept r → T (both isTail (s .dims) Gs) × (gathered Gs s ≡ r)
-  unfolding gatherOff
-  gather-inv k Gs s r e =
-      let p : T (both isTail (s .dims) Gs) × (accept (gathered Gs s) ≡ accept r) = need-inv k (both isTail (s .dims) Gs) 24 (accept (gathered Gs s)) r e in
-      (p .0, accept-inj (p .1))
-
+  -- a slice on the lists
   slice-inv : (k : ℕ) (Ss : List (List ℕ)) (s r : Sharding) → sliceOn mesh sizes k Ss s ≡ accept r
       → T (divisible mesh (shardSizes mesh sizes (s .dims)) Ss) × (sliced Ss s ≡ r)
   unfolding sliceOn
@@ -136,10 +137,10 @@ module _ (mesh sizes : List ℕ) where
   pub facts : (k : ℕ) (t : Step) (s r : Sharding) → judgeStep mesh sizes k t s ≡ accept r → AcceptedStep t s × (after t s ≡ r)
   unfolding judgeStep
   facts k t s r e =
-      let p : T (some (stepAxes t)) × (_ ≡ accept r) = need-inv k (some (stepAxes t)) 21 _ r e in
-      let q : T (allBelow (length mesh) (stepAxes t)) × (judgeKind mesh sizes k t s ≡ accept r) = need-inv k (allBelow (length mesh) (stepAxes t)) 22 _ r (p .1) in
-      let f : Facts t s × (after t s ≡ r) = kind-facts k t s r (q .1) in
-      (record { axes = allBelow-lt (length mesh) (stepAxes t) (q .0); by-kind = f .0 }, f .1)
+      let p = then-inv (judgeNamed (length mesh) k (stepAxes t)) (judgeKind mesh sizes k t s) r e in
+      let q : T (some (stepAxes t)) × T (allBelow (length mesh) (stepAxes t)) = named-inv (length mesh) k (stepAxes t) (p .0 .1) in
+      let f : Facts t s × (after t s ≡ r) = kind-facts k t s r (p .1) in
+      (record { axes = allBelow-lt (length mesh) (stepAxes t) (q .1); by-kind = f .0 }, f .1)
 
 -- ---- the sharding after an accepted step is one, in the shape that the step itself leaves
 

@@ -1,6 +1,6 @@
--- Laws of what the code's lists of axes stand for: the length of one, the axis at a place, and one axis more.
+-- Laws of what the code's lists of axes stand for: the length of one, the axis at a place, one axis more, and that a list is read back (`list-axes`).
 -- `full` is what the prover knows of every AxisList: it has a place for each axis. Assumes nothing.
-use Prim.Native.Nat.{ℕ, zero, suc, _+_, _<_, min}
+use Prim.Native.Nat.{ℕ, zero, suc, _+_, _≤_, _<_, min}
 use mathlib.Core.Path.{_≡_, refl, ap, sym, _∙_}
 use mathlib.Core.List.{List, [], _∷_, map, _++_}
 use native.Mathlib.Numerals.{add-one}
@@ -8,7 +8,7 @@ use native.Mathlib.Omega.{arith}
 use lib.ListN.{set, length, length-map, length-take, getD, List·getD-map}
 use lib.Seq.{take-suc-set, getD-take}
 use Rattle.rules.specs.Limits.{mostAxes}
-use Rattle.rules.specs.Types.{axesOf}
+use Rattle.rules.specs.Types.{axesOf, listFrom}
 use Rattle.rules.specs.declared.Axis.{Axis}
 use Rattle.rules.specs.declared.AxisList.{AxisList}
 
@@ -34,3 +34,15 @@ module _ (l : AxisList) (full : length (l .axes) ≡ mostAxes) where
   axes-with a h =
       rw (add-one (l .count), map-set (λ (b : Axis). b .0) (l .axes) (l .count) a)
       (take-suc-set (map (λ (b : Axis). b .0) (l .axes)) (l .count) (a .0) (simp length-map (omega (arith, full))))
+
+-- a list with a place for each of its axes
+pub list-axes : (l : List ℕ) → length l ≤ mostAxes → axesOf (listFrom l) ≡ l
+unfolding axesOf listFrom
+list-axes [] h = refl
+list-axes (a ∷ []) h = refl
+list-axes (a ∷ b ∷ []) h = refl
+list-axes (a ∷ b ∷ c ∷ []) h = refl
+list-axes (a ∷ b ∷ c ∷ d ∷ []) h = refl
+list-axes (a ∷ b ∷ c ∷ d ∷ e ∷ []) h = refl
+list-axes (a ∷ b ∷ c ∷ d ∷ e ∷ f ∷ []) h = refl
+list-axes (a ∷ b ∷ c ∷ d ∷ e ∷ f ∷ g ∷ l) h = absurd (omega (arith, h))

@@ -1,40 +1,27 @@
--- Document 01, "Calls": what each of the four calls answers, and leaves in the memory lent to it, on any input. And what the code's answers stand for.
+-- Document 01, "Calls": what each of the four calls answers, and leaves in the memory lent to it, on any input; and the code's answers.
 -- Assumes nothing.
 use Prim.Native.Nat.{ℕ, _+_, _-_}
 use mathlib.Core.Bool.{false}
-use mathlib.Core.Path.{_≡_}
 use mathlib.Core.List.{List, [], _++_}
-use lib.ListN.{length, getD, take, drop, replicate}
+use lib.ListN.{length, take, drop, replicate}
 use lib.Dec.{ltb, leb}
-use Rattle.rules.specs.Lists.{tab, inTurn}
+use Rattle.rules.specs.Lists.{inTurn}
 use Rattle.rules.specs.Mesh.{devices, deviceCoords, listing}
 use Rattle.rules.specs.Sharding.{Sharding, firstIndexes}
 use Rattle.rules.specs.Spread.{tabulate, held, addWords}
 use Rattle.rules.specs.Collectives.{Shards, stepped}
-use Rattle.rules.specs.Limits.{mostDevices, mostDims}
-use Rattle.rules.specs.Refusals.{Judged, accept, refuse, _>>=_, _>>_, need, refusedBy}
-use Rattle.rules.specs.PlanFile.{Plan, judge, judgeBy, axesAllowed, judgeSizes, judgeAxes, announced, announcedShape, room}
-use Rattle.rules.specs.Types.{axesOf, dimsOf, shardingOf}
+use Rattle.rules.specs.Limits.{mostDevices}
+use Rattle.rules.specs.Refusals.{Judged, accept, refuse, _>>=_, _>>_, need, refusedBy, refusalOf}
+use Rattle.rules.specs.PlanFile.{Plan, judge, judgeBy, axesAllowed, judgeSizes, judgeAxes, announced, announcedShape, room, stateOf}
+use Rattle.rules.specs.Types.{fourPlaces, shardingFrom, noLists}
 use Rattle.rules.specs.declared.Checked.{Checked}
-use Rattle.rules.specs.declared.CheckOutcome.{CheckOutcome}
 use Rattle.rules.specs.declared.CheckOutcome.the-variants as check
 use Rattle.rules.specs.declared.Placed.{Placed}
-use Rattle.rules.specs.declared.PlaceOutcome.{PlaceOutcome}
 use Rattle.rules.specs.declared.PlaceOutcome.the-variants as place
 use Rattle.rules.specs.declared.GroupsOutcome.{GroupsOutcome}
 use Rattle.rules.specs.declared.GroupsOutcome.the-variants as groups
 use Rattle.rules.specs.declared.RunOutcome.{RunOutcome}
 use Rattle.rules.specs.declared.RunOutcome.the-variants as run
-
--- ---- the arrays beside an outcome
-
--- an entry for each of four dimensions, z past the list's end
-abbrev pub fourPlaces : {A : Type 0} → A → List A → List A
-fourPlaces z l = tab mostDims (λ d. getD l d z)
-
--- the places of an array past the rank hold z
-abbrev pub Past : {A : Type 0} → A → ℕ → List A → Type 0
-Past z rank l = l ≡ fourPlaces z (take rank l)
 
 -- ---- the check
 
@@ -60,28 +47,18 @@ checkOf file = do
     shard = announcedShape p (length (p .steps));
   })
 
-abbrev pub checkedBy : CheckOutcome → Checked → Judged CheckAnswer
-checkedBy (check.Passed t) c = accept (record {
-  room = t .room;
-  devices = t .devices;
-  steps = t .steps;
-  rank = t .rank;
-  sharding = shardingOf (t .rank) (c .sharding);
-  shard = take (t .rank) (c .shard);
-})
-checkedBy (check.Refused r) c = refusedBy r
-
-abbrev pub checkMeaning : Checked → Judged CheckAnswer
-checkMeaning c = checkedBy (c .outcome) c
-
--- past the rank there are no axes, and sizes are 0
-pub record CheckedPast (rank : ℕ) (c : Checked) : Type 0 where
-  pub lists : Past [] rank (dimsOf (c .sharding))
-  pub sizes : Past 0 rank (c .shard)
-
--- beside a refusal: all axes replicated, all sizes 0
-abbrev pub CheckedNone : Checked → Type 0
-CheckedNone c = CheckedPast 0 c × (axesOf (c .sharding .unreduced) ≡ [])
+-- The answer of the code, every place of it: past the rank no axes and sizes of 0, and so in every place beside a refusal.
+abbrev pub checkedOf : Judged CheckAnswer → Checked
+checkedOf (accept a) = record {
+  outcome = check.Passed (record { room = a .room; devices = a .devices; steps = a .steps; rank = a .rank });
+  sharding = shardingFrom (a .sharding);
+  shard = fourPlaces 0 (a .shard);
+}
+checkedOf (refuse n k) = record {
+  outcome = check.Refused (refusalOf n k);
+  sharding = shardingFrom noLists;
+  shard = fourPlaces 0 [];
+}
 
 -- ---- the placement
 
@@ -94,39 +71,31 @@ pub record PlaceAnswer : Type 0 where
   pub first : List ℕ
 
 unfoldable pub placeOf : List ℕ → ℕ → ℕ → Judged PlaceAnswer
-unfolding judgeBy announced announcedShape
+unfolding stateOf
 placeOf file state device = do
-  p ← judge file
-  need (leb state (length (p .steps))) 34
-  need (ltb device (devices (p .mesh))) 32
+  s ← stateOf file state
+  need (ltb device (devices (s .mesh))) 32
   accept (record {
-    rank = length (p .sizes);
-    sharding = announced p state;
-    shard = announcedShape p state;
-    first = firstIndexes (p .mesh) (announced p state .dims) (announcedShape p state) (deviceCoords (p .mesh) device);
+    rank = length (s .sizes);
+    sharding = s .sharding;
+    shard = s .shard;
+    first = firstIndexes (s .mesh) (s .sharding .dims) (s .shard) (deviceCoords (s .mesh) device);
   })
 
-abbrev pub placedBy : PlaceOutcome → Placed → Judged PlaceAnswer
-placedBy (place.Found rank) c = accept (record {
-  rank = rank;
-  sharding = shardingOf rank (c .sharding);
-  shard = take rank (c .shard);
-  first = take rank (c .first);
-})
-placedBy (place.Refused r) c = refusedBy r
-
-abbrev pub placeMeaning : Placed → Judged PlaceAnswer
-placeMeaning c = placedBy (c .outcome) c
-
--- past the rank there are no axes, and sizes and first indexes are 0
-pub record PlacedPast (rank : ℕ) (c : Placed) : Type 0 where
-  pub lists : Past [] rank (dimsOf (c .sharding))
-  pub sizes : Past 0 rank (c .shard)
-  pub indexes : Past 0 rank (c .first)
-
--- beside a refusal: all axes replicated, all sizes and first indexes 0
-abbrev pub PlacedNone : Placed → Type 0
-PlacedNone c = PlacedPast 0 c × (axesOf (c .sharding .unreduced) ≡ [])
+-- the answer of the code; first indexes are 0 where sizes are
+abbrev pub placedOf : Judged PlaceAnswer → Placed
+placedOf (accept a) = record {
+  outcome = place.Found (a .rank);
+  sharding = shardingFrom (a .sharding);
+  shard = fourPlaces 0 (a .shard);
+  first = fourPlaces 0 (a .first);
+}
+placedOf (refuse n k) = record {
+  outcome = place.Refused (refusalOf n k);
+  sharding = shardingFrom noLists;
+  shard = fourPlaces 0 [];
+  first = fourPlaces 0 [];
+}
 
 -- ---- the group listing
 

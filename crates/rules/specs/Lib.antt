@@ -14,4 +14,5 @@ pub mod Ledger
 pub mod WorkedRefusals
 pub mod WorkedLimits
 pub mod WorkedAnswers
+pub mod WorkedPlaces
 pub mod Promises

@@ -96,6 +96,22 @@ sizesAt most ifZero ifOver count offset file at = do
   judgeSizes most ifZero ifOver 1 (tab count (λ i. u16At file (at + 2 * i)))
   accept (record { value = tab count (λ i. u16At file (at + 2 * i)); next = at + 2 * count })
 
+-- the sizes of mesh and table
+pub record MeshAndTable : Type 0 where
+  pub mesh : List ℕ
+  pub sizes : List ℕ
+
+-- "the mesh sizes start at 18": the mesh section of n sizes, then the tensor section of one size per dimension
+unfoldable pub meshAndTableAtBy : Reader → (n rank : ℕ) → List ℕ → Judged (Read MeshAndTable)
+unfolding u16At sizesAt
+meshAndTableAtBy r n rank file = do
+  m ← sizesAt (r .devices) 10 11 n (meshOffset file) file 18
+  t ← sizesAt (r .words) 12 13 rank (tensorOffset file) file (m .next)
+  accept (record { value = record { mesh = m .value; sizes = t .value }; next = t .next })
+
+abbrev pub meshAndTableAt : (n rank : ℕ) → List ℕ → Judged (Read MeshAndTable)
+meshAndTableAt n rank file = meshAndTableAtBy present n rank file
+
 -- ---- axis lists
 
 -- "A list is a count byte and that many axis bytes." "A kind or count byte is judged when read."
@@ -126,15 +142,19 @@ shardingAt n rank offset file at = do
   u ← listAt n file (ds .next)
   accept (record { value = record { dims = ds .value; unreduced = u .value }; next = u .next })
 
--- "axis by axis in file order 14, 15, 16 (all three at one axis before the next)": an axis of an increasing list is at least `low`, one more than
--- the axis before it.
+-- "14, 15, 16 (all three at one axis before the next)": an axis of an increasing list is at least `low`, one more than the axis before it.
+abbrev pub judgeAxis : (n low : ℕ) → (before : List ℕ) → ℕ → Judged (Unit {0})
+judgeAxis n low before a = do
+  need (ltb a n) 14
+  need (not (mem a before)) 15
+  need (leb low a) 16
+
+-- "axis by axis in file order"
 unfoldable pub judgeAxes : (n : ℕ) → (increasing : Bool) → (low : ℕ) → (before : List ℕ) → List ℕ → Judged (Unit {0})
 unfolding mem
 judgeAxes n increasing low before [] = accept tt
 judgeAxes n increasing low before (a ∷ axes) = do
-  need (ltb a n) 14
-  need (not (mem a before)) 15
-  need (leb low a) 16
+  judgeAxis n low before a
   judgeAxes n increasing (pick increasing (a + 1) 0) (a ∷ before) axes
 
 -- "then 17"
@@ -250,12 +270,16 @@ judgeKind mesh sizes k (allToAll source target L) s = do
   g ← gatherOff k (only (length (s .dims)) source L) s
   sliceOn mesh sizes k (only (length (s .dims)) target L) g
 
--- "then 21, then 22 in file order"
+-- "then 21, then 22 in file order": of the axes that step k names
+abbrev pub judgeNamed : (n k : ℕ) → List ℕ → Judged (Unit {0})
+judgeNamed n k axes = do
+  needAt k (some axes) 21
+  needAt k (allBelow n axes) 22
+
 unfoldable pub judgeStep : (mesh sizes : List ℕ) → ℕ → Step → Sharding → Judged Sharding
 unfolding allBelow judgeKind
 judgeStep mesh sizes k t s = do
-  needAt k (some (stepAxes t)) 21
-  needAt k (allBelow (length mesh) (stepAxes t)) 22
+  judgeNamed (length mesh) k (stepAxes t)
   judgeKind mesh sizes k t s
 
 -- so many steps, the first of them step k, each read and judged before the next is read
@@ -277,17 +301,16 @@ pub record Front : Type 0 where
   pub start : Sharding
   pub next : ℕ
 
--- "Then mesh, tensor, sharding and steps." "the mesh sizes start at 18" "Every offset is where the section before it ends"
+-- "Then mesh, tensor, sharding and steps." "Every offset is where the section before it ends"
 unfoldable pub judgeFrontBy : Reader → List ℕ → Judged Front
-unfolding u16At judgeHeaderBy sizesAt shardingAt judgeStart
+unfolding u16At judgeHeaderBy meshAndTableAtBy shardingAt judgeStart
 judgeFrontBy r file = do
   judgeHeaderBy r file
-  m ← sizesAt (r .devices) 10 11 (axisCount file) (meshOffset file) file 18
-  t ← sizesAt (r .words) 12 13 (rankCount file) (tensorOffset file) file (m .next)
-  s ← shardingAt (axisCount file) (rankCount file) (shardingOffset file) file (t .next)
+  m ← meshAndTableAtBy r (axisCount file) (rankCount file) file
+  s ← shardingAt (axisCount file) (rankCount file) (shardingOffset file) file (m .next)
   need (eqb (stepsOffset file) (s .next)) 6
-  judgeStart (m .value) (t .value) (s .value)
-  accept (record { mesh = m .value; sizes = t .value; start = s .value; next = s .next })
+  judgeStart (m .value .mesh) (m .value .sizes) (s .value)
+  accept (record { mesh = m .value .mesh; sizes = m .value .sizes; start = s .value; next = s .next })
 
 abbrev pub judgeFront : List ℕ → Judged Front
 judgeFront file = judgeFrontBy present file
@@ -324,6 +347,25 @@ unfolding announced
 announcedShape p k = shardSizes (p .mesh) (p .sizes) (announced p k .dims)
 
 -- "The room of a plan is D times the largest m among all its states, start included"
-unfoldable pub room : Plan → ℕ
+unfoldable pub largestShard : Plan → ℕ
 unfolding announcedShape
-room p = devices (p .mesh) * largest (tab (length (p .steps) + 1) (λ k. product (announcedShape p k)))
+largestShard p = largest (tab (length (p .steps) + 1) (λ k. product (announcedShape p k)))
+
+unfoldable pub room : Plan → ℕ
+unfolding largestShard
+room p = devices (p .mesh) * largestShard p
+
+-- a state: what the plan announces after so many steps
+pub record StateAnswer : Type 0 where
+  pub mesh : List ℕ
+  pub sizes : List ℕ
+  pub sharding : Sharding
+  pub shard : List ℕ
+
+-- 34: "state number above the step count"
+unfoldable pub stateOf : List ℕ → ℕ → Judged StateAnswer
+unfolding judgeBy announced announcedShape
+stateOf file k = do
+  p ← judge file
+  need (leb k (length (p .steps))) 34
+  accept (record { mesh = p .mesh; sizes = p .sizes; sharding = announced p k; shard = announcedShape p k })

@@ -1,14 +1,15 @@
 -- The promises: what each call answers and leaves, on any input, as the `ensures` of its function and of the library's; and what the rules promise of
--- themselves (`RulesPromise`; proofs/Promises.antt proves it). Assumes nothing.
+-- themselves (`RulesPromise`; proofs/Promises.antt proves it). `file`, `mesh` and `axes` are lent with `&`, so no call can change them. Assumes nothing.
 use Prim.Native.Nat.{ℕ, _≤_}
 use mathlib.Core.Path.{_≡_}
 use mathlib.Core.Logic.{_↔_}
 use mathlib.Core.List.{List}
-use lib.ListN.{length}
+use lib.ListN.{length, take, drop}
 use Rattle.rules.specs.Lists.{All}
-use Rattle.rules.specs.Refusals.{accept}
+use Rattle.rules.specs.Mesh.{devices, Rearrangement}
+use Rattle.rules.specs.Refusals.{accept, refuse}
 use Rattle.rules.specs.PlanFile.{Plan, judge}
-use Rattle.rules.specs.Calls.{CheckAnswer, checkOf, runOf, runMeaning}
+use Rattle.rules.specs.Calls.{CheckAnswer, checkOf, checkedOf, placeOf, placedOf, groupsOf, groupsLeave, groupsMeaning, runOf, runMeaning}
 use Rattle.rules.specs.Demands.{
   Demand3,
   WholePlan,
@@ -24,8 +25,35 @@ use Rattle.rules.specs.Ledger.{Holds, ledger, beside as besideIt}
 use Rattle.rules.specs.WorkedRefusals.{refusals}
 use Rattle.rules.specs.WorkedLimits.{limits}
 use Rattle.rules.specs.declared.Refusal.{Refusal}
+use Rattle.rules.specs.declared.Checked.{Checked}
+use Rattle.rules.specs.declared.Placed.{Placed}
+use Rattle.rules.specs.declared.GroupsOutcome.{GroupsOutcome}
 use Rattle.rules.specs.declared.RunOutcome.{RunOutcome}
 use Rattle.rules.specs.declared.RunOutcome.the-variants as run
+
+-- ---- the check
+
+-- Its answer is the definition's, in every place.
+abbrev pub CheckPromise : List ℕ → Checked → Type 0
+CheckPromise file r = r ≡ checkedOf (checkOf file)
+
+-- ---- the placement
+
+-- Its answer is the definition's, in every place.
+abbrev pub PlacePromise : List ℕ → (state device : ℕ) → Placed → Type 0
+PlacePromise file state device r = r ≡ placedOf (placeOf file state device)
+
+-- ---- the group listing
+
+-- Its answer and what it leaves are the definition's. "The D numbers are a rearrangement of 0 to D-1." "Entries after the first D stay." After a
+-- refusal all entries are as they were.
+pub record GroupsPromise (mesh axes out : List ℕ) (r : GroupsOutcome) (outAfter : List ℕ) : Type 0 where
+  pub answers : groupsMeaning r ≡ groupsOf mesh axes out
+  pub leaves : outAfter ≡ groupsLeave mesh axes out
+  pub all : (d : ℕ) → groupsMeaning r ≡ accept d → d ≡ devices mesh
+  pub rearranged : (d : ℕ) → groupsMeaning r ≡ accept d → Rearrangement d (take d outAfter)
+  pub stay : (d : ℕ) → groupsMeaning r ≡ accept d → drop d outAfter ≡ drop d out
+  pub refused : (n k : ℕ) → groupsMeaning r ≡ refuse n k → outAfter ≡ out
 
 -- ---- the run
 

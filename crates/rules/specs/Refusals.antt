@@ -2,6 +2,9 @@
 -- Assumes nothing.
 use Prim.Native.Nat.{ℕ}
 use mathlib.Core.Bool.{Bool, true, false}
+use mathlib.Core.List.{List, [], _∷_}
+use lib.Dec.{eqb}
+use Rattle.rules.specs.Lists.{pick}
 use Rattle.rules.specs.declared.Reason.{Reason}
 use Rattle.rules.specs.declared.Reason.the-variants.{
   FileTooShort,
@@ -71,6 +74,21 @@ numberOf NoSuchDevice = 32
 numberOf OutputTooShort = 33
 numberOf NoSuchState = 34
 
+-- the reason that has a number; one that no reason has stands for the first
+abbrev pub reasons : List Reason
+reasons =
+    FileTooShort ∷ FileTooLong ∷ UnknownEdition ∷ WrongLength ∷ CountOutsideLimits ∷ WrongOffset ∷ SectionPastEnd ∷ ListTooLong ∷ BytesLeft
+    ∷ MeshSizeZero ∷ TooManyDevices ∷ TensorSizeZero ∷ TooManyWords ∷ StartAxisTooLarge ∷ StartAxisRepeated ∷ StartNotIncreasing ∷ StartNotDivisible
+    ∷ UnknownKind ∷ NoAxis ∷ AxisTooLarge ∷ NotReplicated ∷ NotTail ∷ ShardNotDivisible ∷ NotIncreasing ∷ NotUnreduced ∷ WrongDims ∷ WorkTooShort
+    ∷ SpareTooShort ∷ NoSuchDevice ∷ OutputTooShort ∷ NoSuchState ∷ []
+
+abbrev pub numbered : ℕ → List Reason → Reason
+numbered n [] = FileTooShort
+numbered n (x ∷ xs) = pick (eqb (numberOf x) n) x (numbered n xs)
+
+unfoldable pub reasonOf : ℕ → Reason
+reasonOf n = numbered n reasons
+
 -- "A refusal is a reason together with a step number": a judgement is a value, or a refusal by 01's number and the step number.
 pub data Judged (A : Type 0) : Type 0 where
   accept : A → Judged A
@@ -93,6 +111,9 @@ needAt k false n = refuse n k
 abbrev pub need : Bool → ℕ → Judged (Unit {0})
 need test n = needAt 0 test n
 
--- what a refusal of the code stands for
+-- what a refusal of the code stands for, and the refusal of the code with a number and a step
 abbrev pub refusedBy : {A : Type 0} → Refusal → Judged A
 refusedBy r = refuse (numberOf (r .reason)) (r .step)
+
+abbrev pub refusalOf : (n k : ℕ) → Refusal
+refusalOf n k = record { reason = reasonOf n; step = k }

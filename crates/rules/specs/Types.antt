@@ -1,7 +1,9 @@
--- What the types of the code (src/lib.rt) stand for in the rules. Assumes nothing.
+-- What the types of the code (src/lib.rt) stand for in the rules, and the values of the code that an answer is made of. Assumes nothing.
 use Prim.Native.Nat.{ℕ}
 use mathlib.Core.List.{List, [], map}
-use lib.ListN.{take}
+use lib.ListN.{length, getD, take}
+use Rattle.rules.specs.Lists.{tab}
+use Rattle.rules.specs.Limits.{mostAxes, mostDims}
 use Rattle.rules.specs.Sharding.{Sharding}
 use Rattle.rules.specs.Collectives as rules
 use Rattle.rules.specs.declared.Axis.{Axis}
@@ -33,3 +35,20 @@ ofKind Unknown rank t = rules.allReduce []
 
 abbrev pub stepOf : ℕ → Step → rules.Step
 stepOf rank t = ofKind (t .kind) rank t
+
+-- ---- the other way: every place of an answer is fixed, and those that are not used hold 0
+
+-- an entry for each of four dimensions, z past the list's end
+abbrev pub fourPlaces : {A : Type 0} → A → List A → List A
+fourPlaces z l = tab mostDims (λ d. getD l d z)
+
+-- a list of axes, in six places
+unfoldable pub listFrom : List ℕ → AxisList
+listFrom l = record { count = length l; axes = tab mostAxes (λ i. record { 0 = getD l i 0 }) }
+
+-- a sharding: a list for each of four dimensions, no axes past the rank; and none at all
+abbrev pub shardingFrom : Sharding → code.Sharding
+shardingFrom s = record { dims = map listFrom (fourPlaces [] (s .dims)); unreduced = listFrom (s .unreduced) }
+
+abbrev pub noLists : Sharding
+noLists = record { dims = []; unreduced = [] }

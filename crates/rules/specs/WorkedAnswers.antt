@@ -1,5 +1,5 @@
 -- What the answers of the code stand for, on plans of the ledger: each call's answer as the types of the code hold it, beside the answer of the rules.
--- Places past a list's count, and past the rank, hold nines: they stand for nothing. What the library's own answers hold there is `pasts`.
+-- Places past a list's count, and past the rank, hold nines: they stand for nothing. The check's and the placement's answers are in WorkedPlaces.
 -- Assumes nothing.
 use Prim.Native.Nat.{ℕ, _-_}
 use mathlib.Core.Path.{_≡_, refl}
@@ -7,10 +7,9 @@ use mathlib.Core.List.{List, [], _∷_, _++_, map}
 use lib.ListN.{length, replicate}
 use Rattle.rules.specs.Collectives.{allSlice, allGather, allReduce, allToAll}
 use Rattle.rules.specs.Limits.{mostAxes, mostDims}
-use Rattle.rules.specs.Types.{axesOf, dimsOf, stepOf}
-use Rattle.rules.specs.Calls.{checkOf, checkMeaning, CheckedPast, CheckedNone, placeOf, placeMeaning, PlacedPast, PlacedNone}
+use Rattle.rules.specs.Types.{dimsOf, stepOf}
 use Rattle.rules.specs.Calls.{groupsOf, groupsMeaning, runOf, runMeaning}
-use Rattle.rules.specs.Ledger.{fileOf, w1, w4, nines}
+use Rattle.rules.specs.Ledger.{w1, nines}
 use Rattle.rules.specs.declared.Axis.{Axis}
 use Rattle.rules.specs.declared.AxisList.{AxisList}
 use Rattle.rules.specs.declared.Sharding.{Sharding}
@@ -18,10 +17,8 @@ use Rattle.rules.specs.declared.Kind.{Kind}
 use Rattle.rules.specs.declared.Kind.the-variants.{AllSlice, AllGather, AllReduce, AllToAll}
 use Rattle.rules.specs.declared.Step.{Step}
 use Rattle.rules.specs.declared.Reason.{Reason}
-use Rattle.rules.specs.declared.Reason.the-variants.{NotTail, WorkTooShort, NoSuchDevice, OutputTooShort}
+use Rattle.rules.specs.declared.Reason.the-variants.{WorkTooShort, OutputTooShort}
 use Rattle.rules.specs.declared.Refusal.{Refusal}
-use Rattle.rules.specs.declared.CheckOutcome.the-variants as check
-use Rattle.rules.specs.declared.PlaceOutcome.the-variants as place
 use Rattle.rules.specs.declared.GroupsOutcome.the-variants as groups
 use Rattle.rules.specs.declared.RunOutcome.the-variants as run
 
@@ -45,23 +42,8 @@ refusal reason step = record { reason = reason; step = step }
 -- ---- what they stand for
 
 pub meanings :
-    -- the check: W1, and W6 with gather [1]
-    (checkMeaning (record {
-      outcome = check.Passed (record { room = 32; devices = 4; steps = 1; rank = 2 });
-      sharding = lists ((0 ∷ []) ∷ [] ∷ []) [];
-      shard = 2 ∷ 4 ∷ nines 2;
-    }) ≡ checkOf w1)
-    × (checkMeaning (record { outcome = check.Refused (refusal NotTail 1); sharding = lists [] []; shard = nines 4 })
-    ≡ checkOf (w4 ((2 ∷ 1 ∷ 1 ∷ []) ∷ [])))
-    -- the placement: W4, device 1; W1 after its step, device 3; W4, device 4
-    × (placeMeaning (record { outcome = place.Found 1; sharding = lists ((1 ∷ 0 ∷ []) ∷ []) []; shard = 1 ∷ nines 3; first = 2 ∷ nines 3 })
-    ≡ placeOf (w4 []) 0 1)
-    × (placeMeaning (record { outcome = place.Found 2; sharding = lists ((0 ∷ []) ∷ [] ∷ []) []; shard = 2 ∷ 4 ∷ nines 2; first = 2 ∷ 0 ∷ nines 2 })
-    ≡ placeOf w1 1 3)
-    × (placeMeaning (record { outcome = place.Refused (refusal NoSuchDevice 0); sharding = lists [] []; shard = nines 4; first = nines 4 })
-    ≡ placeOf (w4 []) 0 4)
     -- the group listing: W3, and with one place too few
-    × (groupsMeaning (groups.Listed 120) ≡ groupsOf (2 ∷ 3 ∷ 4 ∷ 5 ∷ []) (3 ∷ 1 ∷ []) (nines 120))
+    (groupsMeaning (groups.Listed 120) ≡ groupsOf (2 ∷ 3 ∷ 4 ∷ 5 ∷ []) (3 ∷ 1 ∷ []) (nines 120))
     × (groupsMeaning (groups.Refused (refusal OutputTooShort 0)) ≡ groupsOf (2 ∷ 3 ∷ 4 ∷ 5 ∷ []) (3 ∷ 1 ∷ []) (nines 119))
     -- the run: W2, and with one word too few
     × (runMeaning run.Finished ≡ runOf w1 (nines 32) (nines 32) .outcome)
@@ -71,37 +53,5 @@ pub meanings :
     × (stepOf 1 (step AllGather 9 9 (lists ((1 ∷ 0 ∷ []) ∷ []) (nines 1))) ≡ allGather ((1 ∷ 0 ∷ []) ∷ []))
     × (stepOf 1 (step AllReduce 9 9 (lists [] (0 ∷ []))) ≡ allReduce (0 ∷ []))
     × (stepOf 2 (step AllToAll 0 1 (lists [] (0 ∷ []))) ≡ allToAll 0 1 (0 ∷ []))
-unfolding fileOf checkOf placeOf groupsOf runOf dimsOf
-meanings = (refl, refl, refl, refl, refl, refl, refl, refl, refl, refl, refl, refl, refl)
-
--- ---- past the rank
-
--- the sharding of W1's last state, with no axes past the rank; and no sharding
-abbrev pub within : Sharding
-within = record { dims = map axes ((0 ∷ []) ∷ [] ∷ [] ∷ [] ∷ []); unreduced = axes [] }
-
-abbrev pub nowhere : Sharding
-nowhere = record { dims = replicate mostDims (axes []); unreduced = axes [] }
-
--- the check and the placement of W1, of device 3, as the library answers them; then refused
-pub pasts :
-    CheckedPast 2 (record {
-      outcome = check.Passed (record { room = 32; devices = 4; steps = 1; rank = 2 });
-      sharding = within;
-      shard = 2 ∷ 4 ∷ 0 ∷ 0 ∷ [];
-    })
-    × CheckedNone (record { outcome = check.Refused (refusal NotTail 1); sharding = nowhere; shard = replicate mostDims 0 })
-    × PlacedPast 2 (record { outcome = place.Found 2; sharding = within; shard = 2 ∷ 4 ∷ 0 ∷ 0 ∷ []; first = 2 ∷ 0 ∷ 0 ∷ 0 ∷ [] })
-    × PlacedNone (record {
-      outcome = place.Refused (refusal NoSuchDevice 0);
-      sharding = nowhere;
-      shard = replicate mostDims 0;
-      first = replicate mostDims 0;
-    })
-unfolding dimsOf axesOf
-pasts = (
-  record { lists = refl; sizes = refl },
-  (record { lists = refl; sizes = refl }, refl),
-  record { lists = refl; sizes = refl; indexes = refl },
-  (record { lists = refl; sizes = refl; indexes = refl }, refl),
-)
+unfolding groupsOf runOf dimsOf
+meanings = (refl, refl, refl, refl, refl, refl, refl, refl)

@@ -6,7 +6,7 @@ ghost use Prim.Native.Nat.{ℕ, _+_, _<_, _≤_};
 ghost use lib.ListN.{length, getD, set, replicate};
 ghost use Rattle.rules.specs.Limits.{mostAxes, mostDevices, mostDims, mostWords, mostSteps, leastBytes, mostBytes};
 ghost use Rattle.rules.specs.Refusals.{numberOf};
-ghost use Rattle.rules.specs.Types.{axesOf, dimsOf};
+ghost use Rattle.rules.specs.Types.{axesOf, dimsOf, listFrom};
 
 // An axis number of a mesh.
 pub struct Axis(pub u8);
@@ -224,7 +224,8 @@ pub enum CheckOutcome {
     Refused(Refusal),
 }
 
-// The check's answer: beside the outcome, the final sharding and its shard sizes. Past the rank there are no axes, and sizes are 0.
+// The check's answer: beside the outcome, the final sharding and its shard sizes. Past the rank there are no axes, and sizes are 0; so it is in every
+// place beside a refusal. Places of a list that are not used are 0.
 pub struct Checked {
     pub outcome: CheckOutcome,
     pub sharding: Sharding,
@@ -300,6 +301,24 @@ impl AxisList {
         next.axes[at] = a;
         next.count = (at + 1) as u16;
         next
+    }
+
+    // The same axes, with axis 0 in the places that are not used.
+    pub fn cleared(self) -> AxisList
+        ensures { λ r. ⌜ r ≡ listFrom (axesOf self) ⌝ }
+    {
+        let count = self.len() as u16;
+        AxisList {
+            count,
+            axes: [
+                self.at(0),
+                self.at(1),
+                self.at(2),
+                self.at(3),
+                self.at(4),
+                self.at(5),
+            ],
+        }
     }
 }
 

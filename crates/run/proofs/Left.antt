@@ -17,7 +17,7 @@ use Rattle.rules.specs.PlanFile.{Read, stepAt, judgeStep, stepsAt}
 use Rattle.rules.proofs.Judging.{accept-inj, bind-inv}
 use Rattle.rules.proofs.Steps.{facts, after-sharding, after-shape}
 use Rattle.rules.proofs.Accepted.{Within}
-use Rattle.plan.specs.Parts.{Move, takeStep}
+use Rattle.plan.specs.Parts.{StepTaken, takeStep}
 use Rattle.plan.proofs.Takes.{step-taken}
 use Rattle.step.specs.Stepping.{Stepping}
 use Rattle.step.proofs.Shards.{stepping}
@@ -48,13 +48,13 @@ module _ {file mesh sizes : List ℕ} {room : ℕ} {last : Shards ℕ} {count k 
       subst (λ (v : Shards ℕ). Stands mesh v buffer) (ap (λ (r : Read (List Step)). inTurn (stepped addWords mesh) (r .value) (g .state)) e ∙ g .leads) (g .stands)
 
   -- what the first of them, read and accepted as m, asks for and leaves
-  pub record NextLeft (m : Read Move) : Type 0 where
+  pub record NextLeft (m : Read StepTaken) : Type 0 where
     pub asks : (old new : ℕ) → room ≤ old → room ≤ new
         → Stepping mesh (shardSizes mesh sizes (s .dims)) (m .value .step) (product (shardSizes mesh sizes (m .value .sharding .dims))) old new
     pub others-left : (next : List ℕ) → Stands mesh (stepped addWords mesh (m .value .step) (g .state)) next
         → StepsLeft file mesh sizes room last count (k + 1) (m .next) (m .value .sharding) next
 
-  pub next-left : k < count → (m : Read Move) × (takeStep mesh sizes (k + 1) file at s ≡ accept m) × NextLeft m
+  pub next-left : k < count → (m : Read StepTaken) × (takeStep mesh sizes (k + 1) file at s ≡ accept m) × NextLeft m
   unfolding stepsAt stepped
   next-left l =
       let n : ℕ = count - (k + 1) in

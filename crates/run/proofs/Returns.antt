@@ -19,7 +19,7 @@ use Rattle.rules.specs.Demands.{Fits}
 use Rattle.rules.proofs.Accepted.{AcceptedPlan, accepted}
 use Rattle.rules.proofs.Room.{state, room-few}
 use Rattle.rules.proofs.Whole.{judged, run-is, run-fits, last-length}
-use Rattle.plan.specs.Parts.{Holds, answerOf}
+use Rattle.plan.specs.Parts.{HoldsPlan, answerOf}
 use Rattle.plan.specs.declared.Whole.{Whole}
 
 -- ---- the four ways out
@@ -45,12 +45,12 @@ module _ (file work spare : List ℕ) where
 
 -- ---- the last state, as the code has it
 
-module _ {file : List ℕ} {at : ℕ} {w : Whole} (h : (p : Plan) × (judge file ≡ accept p) × Holds file at w p) where
+module _ {file : List ℕ} {at : ℕ} {w : Whole} (h : (p : Plan) × (judge file ≡ accept p) × HoldsPlan file at w p) where
   pub last-size : (given : List ℕ) → w .devices * product (answerOf w .shard) ≡ length (lastState (h .0) given)
   unfolding announcedShape
   last-size given =
       let p : Plan = h .0 in
-      let g : Holds file at w p = h .2 in
+      let g : HoldsPlan file at w p = h .2 in
       sym (last-length (accepted file p (h .1)) given
       ∙ (λ i. g .devices-are i * product (shardSizes (g .mesh-is i) (g .sizes-are i) (g .last-is i .dims))))
 

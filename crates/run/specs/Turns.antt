@@ -19,7 +19,7 @@ use Rattle.axes.specs.Mesh.{meshOf}
 use Rattle.axes.specs.declared.Mesh.{Mesh}
 use Rattle.dims.specs.Dims.{sizesOf}
 use Rattle.judge.specs.Step.{Ready}
-use Rattle.plan.specs.Parts.{Holds, Move, takeStep, takenRead}
+use Rattle.plan.specs.Parts.{HoldsPlan, StepTaken, takeStep, takenRead}
 use Rattle.plan.specs.declared.Taken.{Taken}
 use Rattle.plan.specs.declared.Whole.{Whole}
 use Rattle.step.specs.Stepping.{Stepping, inPlace}
@@ -34,7 +34,7 @@ shapeOf mesh table s = shardSizes (meshOf mesh) (sizesOf table) (take (table .ra
 -- of `new` words
 pub record Turning (file : List ℕ) (at k : ℕ) (mesh : Mesh) (table : Table) (s : code.Sharding) (old new : ℕ) : Type 0 where
   pub ready : Ready mesh table s
-  pub move : Read Move
+  pub move : Read StepTaken
   pub taken : takeStep (meshOf mesh) (sizesOf table) k file at (shardingOf (table .rank) s) ≡ accept move
   pub stepping : Stepping (meshOf mesh) (shapeOf mesh table s) (move .value .step)
       (product (shardSizes (meshOf mesh) (sizesOf table) (move .value .sharding .dims))) old new
@@ -58,7 +58,7 @@ standsAfter kind in-work = pick (inPlace kind) in-work (not in-work)
 pub record Runs (file : List ℕ) (at : ℕ) (w : Whole) (work spare : ℕ) : Type 0 where
   pub plan : Plan
   pub judged : judge file ≡ accept plan
-  pub holds : Holds file at w plan
+  pub holds : HoldsPlan file at w plan
   pub work-room : room plan ≤ work
   pub spare-room : room plan ≤ spare
 

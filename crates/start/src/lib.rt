@@ -1,18 +1,18 @@
 // The judgement of axes in turn and of a starting sharding. Order and numbers are those of Rattle.rules.specs.PlanFile.
 ghost use mathlib.Core.Path.{_≡_};
 ghost use mathlib.Core.Bool.{false};
-ghost use mathlib.Core.List.{List, [], _++_};
-ghost use Prim.Native.Nat.{ℕ, _+_, _≤_};
-ghost use lib.ListN.{take};
+ghost use mathlib.Core.List.{[]};
+ghost use Prim.Native.Nat.{_+_, _≤_};
+ghost use lib.ListN.{length, take};
 ghost use Rattle.rules.specs.Lists.{flat, pick};
 ghost use Rattle.rules.specs.Limits.{mostAxes, mostDims};
 ghost use Rattle.rules.specs.Refusals.{refuse, numberOf};
-ghost use Rattle.rules.specs.PlanFile.{judgeAxes, judgeStart};
+ghost use Rattle.rules.specs.PlanFile.{judgeAxis, judgeAxes, judgeStart};
 ghost use Rattle.rules.specs.Types.{axesOf, dimsOf, shardingOf};
 ghost use Rattle.axes.specs.Mesh.{meshOf};
-ghost use Rattle.axes.specs.Marks.{StandFor};
+ghost use Rattle.axes.specs.Marks.{marked};
 ghost use Rattle.dims.specs.Dims.{sizesOf};
-ghost use Rattle.start.specs.Start.{meaning, refusalOf, judgeAxis, Fits};
+ghost use Rattle.start.specs.Start.{meaning, refusalOf, marksAfter, WithinPlaces};
 use axes::Mesh;
 use axes::is_marked;
 use axes::mark;
@@ -52,8 +52,7 @@ pub fn refusal_of(verdict: Verdict) -> Refusal
 
 // One axis of a starting sharding: 14, 15, 16.
 fn judge_axis(a: Axis, n: usize, low: usize, marks: &[bool]) -> Verdict
-    requires { ⌜ n ≤ mostAxes ⌝ }
-    ensures { λ r. ⌜ ((before : List ℕ) → StandFor (now (marks .entry)) before → meaning r ≡ judgeAxis n low before (a .0)) ⌝ }
+    ensures { λ r. ⌜ meaning r ≡ judgeAxis n low (marked (now (marks .entry))) (a .0) ⌝ }
 {
     let i = a.0 as usize;
     let past = n <= i;
@@ -76,12 +75,11 @@ fn next_low(increasing: bool, a: Axis) -> usize
     if increasing { a.0 as usize + 1 } else { 0 }
 }
 
-// The axes of a list in turn, after the marked ones; where all are fine they are marked too.
-pub fn judge_list(list: AxisList, n: usize, increasing: bool, marks: &mut [bool]) -> Verdict
-    requires { ⌜ n ≤ mostAxes ⌝ }
-    ensures { λ r. ⌜ ((before : List ℕ) → StandFor (now (marks .entry)) before → meaning r ≡ judgeAxes n increasing 0 before (axesOf list)) ⌝ }
-    ensures { λ r. ⌜ ((before : List ℕ) → StandFor (now (marks .entry)) before → r ≡ Verdict.Fine
-        → StandFor (now (marks .exit)) (before ++ axesOf list)) ⌝ }
+// The axes of a list in turn, after the marked ones; those that pass are marked, up to the first that is refused.
+fn judge_list(list: AxisList, n: usize, increasing: bool, marks: &mut [bool]) -> Verdict
+    requires { ⌜ n ≤ length (now marks) ⌝ }
+    ensures { λ r. ⌜ meaning r ≡ judgeAxes n increasing 0 (marked (now (marks .entry))) (axesOf list) ⌝ }
+    ensures { λ r. ⌜ now (marks .exit) ≡ marksAfter n increasing 0 (now (marks .entry)) (axesOf list) ⌝ }
 {
     let count = list.len();
     let mut low: usize = 0;
@@ -118,13 +116,11 @@ pub fn judge_axes(axes: &[u8], n: usize) -> Verdict
     Verdict::Fine
 }
 
-// The axes of the dimensions' lists in turn, after the marked ones; where all are fine they are marked too.
+// The axes of the dimensions' lists in turn, after the marked ones; those that pass are marked, up to the first that is refused.
 pub fn judge_dims(lists: Sharding, rank: usize, n: usize, marks: &mut [bool]) -> Verdict
-    requires { ⌜ (rank ≤ mostDims) × (n ≤ mostAxes) ⌝ }
-    ensures { λ r. ⌜ ((before : List ℕ) → StandFor (now (marks .entry)) before
-        → meaning r ≡ judgeAxes n false 0 before (flat (take rank (dimsOf lists)))) ⌝ }
-    ensures { λ r. ⌜ ((before : List ℕ) → StandFor (now (marks .entry)) before → r ≡ Verdict.Fine
-        → StandFor (now (marks .exit)) (before ++ flat (take rank (dimsOf lists)))) ⌝ }
+    requires { ⌜ (rank ≤ mostDims) × (n ≤ length (now marks)) ⌝ }
+    ensures { λ r. ⌜ meaning r ≡ judgeAxes n false 0 (marked (now (marks .entry))) (flat (take rank (dimsOf lists))) ⌝ }
+    ensures { λ r. ⌜ now (marks .exit) ≡ marksAfter n false 0 (now (marks .entry)) (flat (take rank (dimsOf lists))) ⌝ }
 {
     let mut d: usize = 0;
     while d < rank {
@@ -140,7 +136,7 @@ pub fn judge_dims(lists: Sharding, rank: usize, n: usize, marks: &mut [bool]) ->
 
 // A starting sharding: its axes in file order, then 17.
 pub fn judge_start(sharding: Sharding, mesh: Mesh, table: Table) -> Verdict
-    requires { ⌜ Fits mesh table ⌝ }
+    requires { ⌜ WithinPlaces mesh table ⌝ }
     ensures { λ r. ⌜ meaning r ≡ judgeStart (meshOf mesh) (sizesOf table) (shardingOf (table .rank) sharding) ⌝ }
 {
     let mut marks = [false; Axis::MOST];

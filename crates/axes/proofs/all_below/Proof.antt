@@ -7,10 +7,6 @@ use Rattle.rules.specs.Types.{axesOf}
 use Rattle.axes.proofs.Going.{Going, begin, ahead, onward, finish}
 use Rattle.axes.proofs.all_below.Statement.{statement}
 use Rattle.axes.proofs.all_below.Tie as tie
-use Rattle.axes.proofs.all_below.Reads as reads
-use Rattle.axes.proofs.all_below.Lts as lts
-use Rattle.rules.proofs.AxisList.at.Reads as at-reads
-use Rattle.rules.proofs.AxisList.len.Reads as len-reads
 
 abbrev Inv-loop : tie.InvT-loop
 Inv-loop list n count i₀ i = Going (allBelow n (axesOf list)) (allBelow n) (axesOf list) count i

@@ -8,11 +8,6 @@ use Rattle.rules.specs.Types.{axesOf}
 use Rattle.axes.proofs.Going.{Going, begin, ahead, onward, finish}
 use Rattle.axes.proofs.all_in.Statement.{statement}
 use Rattle.axes.proofs.all_in.Tie as tie
-use Rattle.axes.proofs.all_in.Reads as reads
-use Rattle.axes.proofs.all_in.Lts as lts
-use Rattle.axes.proofs.is_in.Reads as is-in-reads
-use Rattle.rules.proofs.AxisList.at.Reads as at-reads
-use Rattle.rules.proofs.AxisList.len.Reads as len-reads
 
 abbrev Inv-loop : tie.InvT-loop
 Inv-loop list other count i₀ i = Going (allIn (axesOf list) (axesOf other)) (λ (l : List ℕ). allIn l (axesOf other)) (axesOf list) count i

@@ -7,9 +7,6 @@ use Rattle.rules.proofs.Types.{axes-length}
 use Rattle.axes.proofs.Lists.{cut-counted}
 use Rattle.axes.proofs.cut_tail.Statement.{statement}
 use Rattle.axes.proofs.cut_tail.Tie as tie
-use Rattle.axes.proofs.cut_tail.Reads as reads
-use Rattle.axes.proofs.cut_tail.Lts as lts
-use Rattle.rules.proofs.AxisList.len.Reads as len-reads
 
 len-requires : tie.Need-len-requires
 len-requires c κs = search needs

@@ -7,10 +7,6 @@ use Rattle.rules.specs.Types.{axesOf}
 use Rattle.axes.proofs.Going.{Going, begin, ahead, onward, finish}
 use Rattle.axes.proofs.increasing.Statement.{statement}
 use Rattle.axes.proofs.increasing.Tie as tie
-use Rattle.axes.proofs.increasing.Reads as reads
-use Rattle.axes.proofs.increasing.Lts as lts
-use Rattle.rules.proofs.AxisList.at.Reads as at-reads
-use Rattle.rules.proofs.AxisList.len.Reads as len-reads
 
 abbrev Inv-loop : tie.InvT-loop
 Inv-loop list count low₀ i₀ low i = Going (increasingFrom 0 (axesOf list)) (increasingFrom low) (axesOf list) count i

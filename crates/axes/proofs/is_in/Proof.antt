@@ -7,10 +7,6 @@ use Rattle.rules.specs.Types.{axesOf}
 use Rattle.axes.proofs.Going.{Going, begin, ahead, onward, finish}
 use Rattle.axes.proofs.is_in.Statement.{statement}
 use Rattle.axes.proofs.is_in.Tie as tie
-use Rattle.axes.proofs.is_in.Reads as reads
-use Rattle.axes.proofs.is_in.Lts as lts
-use Rattle.rules.proofs.AxisList.at.Reads as at-reads
-use Rattle.rules.proofs.AxisList.len.Reads as len-reads
 
 abbrev Inv-loop : tie.InvT-loop
 Inv-loop a list count i₀ i = Going (mem (a .0) (axesOf list)) (mem (a .0)) (axesOf list) count i

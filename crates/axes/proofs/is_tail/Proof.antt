@@ -6,10 +6,6 @@ use Rattle.rules.specs.Types.{axesOf}
 use Rattle.axes.proofs.Lists.{too-long, Tailing, tailing, differ, agree, all-agree}
 use Rattle.axes.proofs.is_tail.Statement.{statement}
 use Rattle.axes.proofs.is_tail.Tie as tie
-use Rattle.axes.proofs.is_tail.Reads as reads
-use Rattle.axes.proofs.is_tail.Lts as lts
-use Rattle.rules.proofs.AxisList.at.Reads as at-reads
-use Rattle.rules.proofs.AxisList.len.Reads as len-reads
 
 abbrev Inv-loop : tie.InvT-loop
 Inv-loop list tail have want from i₀ i = Tailing (axesOf list) (axesOf tail) want from i

@@ -9,11 +9,6 @@ use Rattle.rules.specs.Types.{axesOf}
 use Rattle.axes.proofs.Going.{Going, begin, onward, finish}
 use Rattle.axes.proofs.join.Statement.{statement}
 use Rattle.axes.proofs.join.Tie as tie
-use Rattle.axes.proofs.join.Reads as reads
-use Rattle.axes.proofs.join.Lts as lts
-use Rattle.rules.proofs.AxisList.at.Reads as at-reads
-use Rattle.rules.proofs.AxisList.len.Reads as len-reads
-use Rattle.rules.proofs.AxisList.with.Reads as with-reads
 
 abbrev Inv-loop : tie.InvT-loop
 Inv-loop tail count whole₀ i₀ whole i =

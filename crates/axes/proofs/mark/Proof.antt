@@ -1,7 +1,9 @@
 use borrow.Author.Needs.{needs}
-use denote.Ref.{now}
-use Rattle.axes.proofs.Naming.{marked, unmarked}
 use native.Mathlib.Omega.{arith}
+use mathlib.Core.Bool.{true}
+use mathlib.Core.Path.{refl, sym}
+use denote.Ref.{now}
+use lib.Seq.{set-out}
 use Rattle.axes.proofs.mark.Statement.{statement}
 use Rattle.axes.proofs.mark.Tie as tie
 
@@ -15,14 +17,12 @@ same-length : tie.Need-same-length
 same-length c = search needs
 
 returns : tie.Need-returns
-returns c =
-    let a = c .before .before .args in
-    λ named s. marked (now (a .marks)) (a .a .0) named (omega arith) s
+returns c = refl
 
 returns-2 : tie.Need-returns-2
 returns-2 c =
     let a = c .before .before .args in
-    λ named s. unmarked (now (a .marks)) (a .a .0) named (omega arith) s
+    sym (set-out (now (a .marks)) (a .a .0) true (omega arith))
 
 pub mark-spec : {M : Type 1} → statement M
 mark-spec = tie.close (tie.spec cast-i slice-write-marks same-length returns returns-2)

@@ -14,11 +14,6 @@ use Rattle.axes.proofs.Going.{Going, onward, finish}
 use Rattle.axes.proofs.Lists.{grown, small}
 use Rattle.axes.proofs.span.Statement.{statement}
 use Rattle.axes.proofs.span.Tie as tie
-use Rattle.axes.proofs.span.Reads as reads
-use Rattle.axes.proofs.span.Lts as lts
-use Rattle.axes.proofs.Mesh.size.Reads as size-reads
-use Rattle.rules.proofs.AxisList.at.Reads as at-reads
-use Rattle.rules.proofs.AxisList.len.Reads as len-reads
 
 abbrev Inv-loop : tie.InvT-loop
 Inv-loop list mesh count product₀ i₀ product i =

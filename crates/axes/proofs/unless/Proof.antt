@@ -3,9 +3,6 @@ use mathlib.Core.Path.{sym}
 use mathlib.Core.List.{append-nil}
 use Rattle.axes.proofs.unless.Statement.{statement}
 use Rattle.axes.proofs.unless.Tie as tie
-use Rattle.axes.proofs.unless.Reads as reads
-use Rattle.axes.proofs.unless.Lts as lts
-use Rattle.rules.proofs.AxisList.with.Reads as with-reads
 
 with-requires : tie.Need-with-requires
 with-requires c κs = search needs

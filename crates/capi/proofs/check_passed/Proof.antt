@@ -1,6 +1,4 @@
 use borrow.Author.Needs.{needs}
-use mathlib.Core.Path.{_∙_}
-use Rattle.capi.proofs.Replies.{counts-past, axes-past}
 use Rattle.capi.proofs.check_passed.Statement.{statement}
 use Rattle.capi.proofs.check_passed.Tie as tie
 
@@ -15,18 +13,17 @@ cast-t7 c = search needs
 
 returns : tie.Need-returns
 returns c =
-    let s = c .before .before .before .before .before in
-    let t = s .args .totals in
-    let past = s .pre .1 in
+    let s = c .before .before .before .before .before .args in
+    let t = s .totals in
     (λ i. record {
       refusal = 0;
       room = t .room;
       devices = t .devices;
       steps = t .steps;
       rank = t .rank;
-      shard = past .sizes i;
-      counts = (c .before .before .five-counts .ensures ∙ counts-past (t .rank) (s .args .checked .sharding) (past .lists)) i;
-      axes = (c .before .thirty-axes .ensures ∙ axes-past (t .rank) (s .args .checked .sharding) (past .lists)) i;
+      shard = s .checked .shard;
+      counts = c .before .before .five-counts .ensures i;
+      axes = c .before .thirty-axes .ensures i;
     })
 
 pub check-passed-spec : {M : Type 1} → statement M

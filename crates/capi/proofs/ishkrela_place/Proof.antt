@@ -1,9 +1,6 @@
 use borrow.Author.Needs.{needs}
-use mathlib.Core.Path.{sym, ap, _∙_}
-use Rattle.rules.specs.Calls.{placedBy}
-use Rattle.rules.specs.declared.PlaceOutcome.{PlaceOutcome}
-use Rattle.capi.specs.Boundary.{placeReply}
-use Rattle.capi.proofs.Replies.{place-rank}
+use mathlib.Core.Path.{_∙_}
+use Rattle.capi.proofs.Replies.{place-told, place-rank}
 use Rattle.capi.proofs.ishkrela_place.Statement.{statement}
 use Rattle.capi.proofs.ishkrela_place.Tie as tie
 
@@ -14,10 +11,7 @@ enum-known-outcome : tie.Need-enum-known-outcome
 enum-known-outcome c = search needs
 
 place-found-requires : tie.Need-place-found-requires
-place-found-requires c κs =
-    let k = c .before .before .before .place in
-    let e = sym (k .ensures .answers) ∙ ap (λ (o : PlaceOutcome). placedBy o (k .result)) (c .before .outcome .given .1) in
-    (place-rank _ _ _ _ e, k .ensures .past _ e)
+place-found-requires c κs = place-rank _ _ _ (c .before .before .before .place .ensures) (c .before .outcome .given .1)
 
 enum-known-outcome-2 : tie.Need-enum-known-outcome-2
 enum-known-outcome-2 c = search needs
@@ -26,16 +20,10 @@ place-refused-requires : tie.Need-place-refused-requires
 place-refused-requires c κs = search needs
 
 returns : tie.Need-returns
-returns c =
-    let k = c .before .before .before .before .place in
-    let told = ap (λ (o : PlaceOutcome). placedBy o (k .result)) (c .before .before .outcome .given .1) in
-    c .place-found .ensures ∙ ap placeReply (sym told ∙ k .ensures .answers)
+returns c = c .place-found .ensures ∙ place-told _ _ _ (c .before .before .before .before .place .ensures) (c .before .before .outcome .given .1)
 
 returns-2 : tie.Need-returns-2
-returns-2 c =
-    let k = c .before .before .before .before .place in
-    let told = ap (λ (o : PlaceOutcome). placedBy o (k .result)) (c .before .before .outcome2 .given .1) in
-    c .place-refused .ensures ∙ ap placeReply (sym told ∙ k .ensures .answers)
+returns-2 c = c .place-refused .ensures ∙ place-told _ _ _ (c .before .before .before .before .place .ensures) (c .before .before .outcome2 .given .1)
 
 pub ishkrela-place-spec : {M : Type 1} → statement M
 ishkrela-place-spec =

@@ -1,6 +1,4 @@
 use borrow.Author.Needs.{needs}
-use mathlib.Core.Path.{_∙_}
-use Rattle.capi.proofs.Replies.{counts-past, axes-past}
 use Rattle.capi.proofs.place_found.Statement.{statement}
 use Rattle.capi.proofs.place_found.Tie as tie
 
@@ -15,15 +13,14 @@ cast-t8 c = search needs
 
 returns : tie.Need-returns
 returns c =
-    let s = c .before .before .before .before .before in
-    let past = s .pre .1 in
+    let s = c .before .before .before .before .before .args in
     (λ i. record {
       refusal = 0;
-      rank = s .args .rank;
-      shard = past .sizes i;
-      first = past .indexes i;
-      counts = (c .before .five-counts .ensures ∙ counts-past (s .args .rank) (s .args .placed .sharding) (past .lists)) i;
-      axes = (c .thirty-axes .ensures ∙ axes-past (s .args .rank) (s .args .placed .sharding) (past .lists)) i;
+      rank = s .rank;
+      shard = s .placed .shard;
+      first = s .placed .first;
+      counts = c .before .five-counts .ensures i;
+      axes = c .thirty-axes .ensures i;
     })
 
 pub place-found-spec : {M : Type 1} → statement M

@@ -15,11 +15,6 @@ use Rattle.dims.proofs.Pairs.{Testing, testing, fails, passes, tested}
 use Rattle.dims.proofs.Dims.{dims-length, list-at, span-least}
 use Rattle.dims.proofs.divisible.Statement.{statement}
 use Rattle.dims.proofs.divisible.Tie as tie
-use Rattle.dims.proofs.divisible.Reads as reads
-use Rattle.dims.proofs.divisible.Lts as lts
-use Rattle.axes.proofs.span.Reads as span-reads
-use Rattle.dims.proofs.divides.Reads as divides-reads
-use Rattle.rules.proofs.Sharding.list.Reads as list-reads
 
 abbrev Inv-loop : tie.InvT-loop
 Inv-loop lists mesh table rank d₀ d = Testing (λ (n : ℕ) (l : List ℕ). eqb (n % spanOf (meshOf mesh) l) 0) (sizesOf table)

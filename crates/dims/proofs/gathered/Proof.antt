@@ -3,22 +3,17 @@ use native.Mathlib.Omega.{arith}
 use Prim.Native.Nat.{_-_}
 use mathlib.Core.List.{[]}
 use mathlib.Core.Path.{_≡_, refl, ap, _∙_}
-use lib.ListN.{length-map, take}
+use lib.ListN.{length-map, take, drop}
 use Rattle.rules.specs.Collectives.{cutTail, gathered as gatheredOf}
 use Rattle.rules.specs.Types.{axesOf, dimsOf}
-use Rattle.dims.proofs.Pairs.{Making, making, makes, all-made}
+use Rattle.dims.proofs.Pairs.{Making, making, makes, all-made, stays}
 use Rattle.dims.proofs.Dims.{dims-length, list-at, sharding-is}
 use Rattle.dims.proofs.gathered.Statement.{statement}
 use Rattle.dims.proofs.gathered.Tie as tie
-use Rattle.dims.proofs.gathered.Reads as reads
-use Rattle.dims.proofs.gathered.Lts as lts
-use Rattle.axes.proofs.cut_tail.Reads as cut-tail-reads
-use Rattle.rules.proofs.Sharding.list.Reads as list-reads
-use Rattle.rules.proofs.Sharding.with_list.Reads as with-list-reads
 
 abbrev Inv-loop : tie.InvT-loop
 Inv-loop sharding lists rank next₀ d₀ next d = Making cutTail (take rank (dimsOf sharding)) (take rank (dimsOf lists)) (dimsOf next) rank d
-    × (next .unreduced ≡ sharding .unreduced)
+    × (next .unreduced ≡ sharding .unreduced) × (drop rank (dimsOf next) ≡ drop rank (dimsOf sharding))
 
 abbrev μ-loop : tie.MeasureT-loop
 μ-loop sharding lists rank next₀ d₀ next d = rank - d
@@ -31,6 +26,7 @@ loop-holds c =
     let t = simp length-map at (c .good .1 .0 .1 .1 .0 .1 .0 .1) in (
       making cutTail _ _ _ (a .rank) (dims-length (a .sharding) (a .rank) s (omega arith)) (dims-length (a .lists) (a .rank) t (omega arith))
           (omega (arith, length-map (a .sharding .dims) axesOf, s)),
+      refl,
       refl,
     )
 
@@ -67,13 +63,13 @@ loop-again c =
     let p = list-at (a .sharding) (a .rank) (c5 .loop .d) _ h (c3 .list .ensures) in
     let q = list-at (a .lists) (a .rank) (c5 .loop .d) _ h (c .before .before .list2 .ensures) in
     let w = c .with-list .ensures in
-    (makes (i .0) h _ [] p _ [] q _ _ (w .0) (c .before .cut-tail .ensures), w .1 ∙ i .1)
+    (makes (i .0) h _ [] p _ [] q _ _ (w .0) (c .before .cut-tail .ensures), w .1 ∙ i .1, stays (i .0) _ (w .0) h (i .2))
 
 returns : tie.Need-returns Inv-loop μ-loop
 unfolding gatheredOf
 returns c =
     let i = c .before .loop .inv in
-    sharding-is _ _ _ _ (all-made (i .0) (c .loop-test .left)) (ap axesOf (i .1))
+    (sharding-is _ _ _ _ (all-made (i .0) (c .loop-test .left)) (ap axesOf (i .1)), i .2)
 
 pub gathered-spec : {M : Type 1} → statement M
 gathered-spec =

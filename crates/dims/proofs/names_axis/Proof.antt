@@ -11,10 +11,6 @@ use Rattle.axes.proofs.Going.{Going, begin, ahead, onward, finish}
 use Rattle.dims.proofs.Dims.{dims-length, list-at, some-here, some-later}
 use Rattle.dims.proofs.names_axis.Statement.{statement}
 use Rattle.dims.proofs.names_axis.Tie as tie
-use Rattle.dims.proofs.names_axis.Reads as reads
-use Rattle.dims.proofs.names_axis.Lts as lts
-use Rattle.rules.proofs.AxisList.len.Reads as len-reads
-use Rattle.rules.proofs.Sharding.list.Reads as list-reads
 
 abbrev Inv-loop : tie.InvT-loop
 Inv-loop lists rank d₀ d = Going (some (flat (take rank (dimsOf lists)))) (λ (ls : List (List ℕ)). some (flat ls)) (take rank (dimsOf lists)) rank d

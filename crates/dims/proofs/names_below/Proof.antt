@@ -12,10 +12,6 @@ use Rattle.axes.proofs.Going.{Going, begin, ahead, onward, finish}
 use Rattle.dims.proofs.Dims.{dims-length, list-at, below-append}
 use Rattle.dims.proofs.names_below.Statement.{statement}
 use Rattle.dims.proofs.names_below.Tie as tie
-use Rattle.dims.proofs.names_below.Reads as reads
-use Rattle.dims.proofs.names_below.Lts as lts
-use Rattle.axes.proofs.all_below.Reads as all-below-reads
-use Rattle.rules.proofs.Sharding.list.Reads as list-reads
 
 abbrev Inv-loop : tie.InvT-loop
 Inv-loop lists rank n d₀ d = Going (allBelow n (flat (take rank (dimsOf lists)))) (λ (ls : List (List ℕ)). allBelow n (flat ls))

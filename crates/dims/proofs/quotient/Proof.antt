@@ -3,8 +3,6 @@ use native.Mathlib.Omega.{arith}
 use native.Mathlib.Nat.{div-le-self}
 use Rattle.dims.proofs.quotient.Statement.{statement}
 use Rattle.dims.proofs.quotient.Tie as tie
-use Rattle.dims.proofs.quotient.Reads as reads
-use Rattle.dims.proofs.quotient.Lts as lts
 
 div-result : tie.Need-div-result
 div-result c = search needs

@@ -3,26 +3,21 @@ use native.Mathlib.Omega.{arith}
 use Prim.Native.Nat.{ℕ, _-_, _/_}
 use mathlib.Core.List.{List, []}
 use mathlib.Core.Path.{_≡_, refl, sym}
-use lib.ListN.{length-map, take}
+use lib.ListN.{length-map, take, drop}
 use lib.Seq.{getD-take, length-take-le}
 use Rattle.rules.specs.Mesh.{span as spanOf}
 use Rattle.rules.specs.Types.{axesOf, dimsOf}
 use Rattle.axes.specs.Mesh.{meshOf}
 use Rattle.dims.specs.Dims.{sizesOf}
-use Rattle.dims.proofs.Pairs.{Making, making, makes, all-made}
+use Rattle.dims.proofs.Pairs.{Making, making, makes, all-made, stays}
 use Rattle.dims.proofs.Dims.{dims-length, list-at, span-least}
 use Rattle.dims.proofs.shard_of.Statement.{statement}
 use Rattle.dims.proofs.shard_of.Tie as tie
-use Rattle.dims.proofs.shard_of.Reads as reads
-use Rattle.dims.proofs.shard_of.Lts as lts
-use Rattle.axes.proofs.span.Reads as span-reads
-use Rattle.dims.proofs.quotient.Reads as quotient-reads
-use Rattle.rules.proofs.Sharding.list.Reads as list-reads
 
 abbrev Inv-loop : tie.InvT-loop
 Inv-loop sharding mesh table rank shard₀ d₀ shard d =
     Making (λ (n : ℕ) (l : List ℕ). n / spanOf (meshOf mesh) l) (sizesOf table) (take rank (dimsOf sharding)) (shard .sizes) rank d
-    × (shard .rank ≡ table .rank)
+    × (shard .rank ≡ table .rank) × (drop rank (shard .sizes) ≡ drop rank (table .sizes))
 
 abbrev μ-loop : tie.MeasureT-loop
 μ-loop sharding mesh table rank shard₀ d₀ shard d = rank - d
@@ -33,6 +28,7 @@ loop-holds c =
     let s = simp length-map at (c .good .0 .1 .1 .1 .0 .1 .0 .1) in (
       making _ _ _ _ (a .t1 .rank) (length-take-le (a .t1 .rank) (a .t1 .sizes) (omega (arith, s)))
           (dims-length (a .sharding) (a .t1 .rank) (simp length-map at (c .good .1 .0 .1 .1 .0 .1 .0 .1)) (omega arith)) (omega (arith, s)),
+      refl,
       refl,
     )
 
@@ -79,12 +75,12 @@ loop-again c =
     let h = c4 .loop-test .taken in
     let p = sym (getD-take (a .t1 .rank) (a .t1 .sizes) (c5 .loop .d) 0 h) in
     let q = list-at (a .sharding) (a .t1 .rank) (c5 .loop .d) _ h (c3 .list .ensures) in
-    (makes (i .0) h _ 0 p _ [] q _ _ refl (rw (← (c .before .span .ensures)) (c .quotient .ensures)), i .1)
+    (makes (i .0) h _ 0 p _ [] q _ _ refl (rw (← (c .before .span .ensures)) (c .quotient .ensures)), i .1, stays (i .0) _ refl h (i .2))
 
 returns : tie.Need-returns Inv-loop μ-loop
 returns c =
     let i = c .before .loop .inv in
-    (i .1, rw (i .1) (all-made (i .0) (c .loop-test .left)))
+    (i .1, rw (i .1) (all-made (i .0) (c .loop-test .left)), i .2)
 
 pub shard-of-spec : {M : Type 1} → statement M
 shard-of-spec =

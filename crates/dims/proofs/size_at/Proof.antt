@@ -2,7 +2,7 @@ use borrow.Author.Needs.{needs}
 use native.Mathlib.Omega.{arith}
 use mathlib.Core.Path.{sym}
 use lib.Seq.{getD-take}
-use Rattle.dims.proofs.Places.{none-past}
+use Rattle.dims.proofs.Dims.{none-past}
 use Rattle.dims.proofs.size_at.Statement.{statement}
 use Rattle.dims.proofs.size_at.Tie as tie
 

@@ -11,10 +11,6 @@ use Rattle.dims.proofs.Pairs.{Testing, testing, fails, passes, tested}
 use Rattle.dims.proofs.Dims.{dims-length, list-at}
 use Rattle.dims.proofs.tails.Statement.{statement}
 use Rattle.dims.proofs.tails.Tie as tie
-use Rattle.dims.proofs.tails.Reads as reads
-use Rattle.dims.proofs.tails.Lts as lts
-use Rattle.axes.proofs.is_tail.Reads as is-tail-reads
-use Rattle.rules.proofs.Sharding.list.Reads as list-reads
 
 abbrev Inv-loop : tie.InvT-loop
 Inv-loop sharding lists rank d₀ d = Testing isTail (take rank (dimsOf sharding)) (take rank (dimsOf lists)) rank d

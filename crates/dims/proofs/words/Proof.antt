@@ -12,9 +12,6 @@ use Rattle.dims.specs.Dims.{sizesOf}
 use Rattle.dims.proofs.Dims.{grown, small}
 use Rattle.dims.proofs.words.Statement.{statement}
 use Rattle.dims.proofs.words.Tie as tie
-use Rattle.dims.proofs.words.Reads as reads
-use Rattle.dims.proofs.words.Lts as lts
-use Rattle.dims.proofs.wide.Reads as wide-reads
 
 abbrev Inv-loop : tie.InvT-loop
 Inv-loop table rank product₀ d₀ product d = Going (productOf (sizesOf table)) (λ (l : List ℕ). product * productOf l) (sizesOf table) rank d

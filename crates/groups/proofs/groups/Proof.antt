@@ -36,9 +36,8 @@ returns : tie.Need-returns
 returns c =
     let j = c .before .before .before in
     let a = j .before .before .before .before .args in
-    let h = count-refused (now (a .mesh)) (now (a .axes)) (now (a .out)) (c .refusal-of .result)
-    (failed (j .judge-count .ensures) (c .before .enum-told2 .given .1) (c .refusal-of .ensures)) in
-    (h .answer, h .leaves)
+    count-refused (now (a .mesh)) (now (a .axes)) (now (a .out)) (c .refusal-of .result)
+    (failed (j .judge-count .ensures) (c .before .enum-told2 .given .1) (c .refusal-of .ensures))
 
 judge-sizes-requires : tie.Need-judge-sizes-requires
 judge-sizes-requires c κs = search needs
@@ -57,10 +56,9 @@ returns-2 c =
     let j = c .before .before .before in
     let n = j .before in
     let a = n .before .before .before .before .before .before .args in
-    let h = sizes-refused (now (a .mesh)) (now (a .axes)) (now (a .out)) (c .refusal-of2 .result)
+    sizes-refused (now (a .mesh)) (now (a .axes)) (now (a .out)) (c .refusal-of2 .result)
     (passed (n .before .before .judge-count .ensures) (n .enum-told .given .1))
-    (failed (j .judge-sizes .ensures) (c .before .enum-told4 .given .1) (c .refusal-of2 .ensures)) in
-    (h .answer, h .leaves)
+    (failed (j .judge-sizes .ensures) (c .before .enum-told4 .given .1) (c .refusal-of2 .ensures))
 
 product-from-requires : tie.Need-product-from-requires
 product-from-requires c κs =
@@ -93,11 +91,10 @@ returns-3 c =
     let s = r .before .before in
     let n = s .before .before .before in
     let a = n .before .before .before .before .before .before .args in
-    let h = axes-refused (now (a .mesh)) (now (a .axes)) (now (a .out)) (c .refusal-of3 .result)
+    axes-refused (now (a .mesh)) (now (a .axes)) (now (a .out)) (c .refusal-of3 .result)
     (passed (n .before .before .judge-count .ensures) (n .enum-told .given .1))
     (passed (s .before .before .judge-sizes .ensures) (s .enum-told3 .given .1))
-    (failed (r .judge-axes .ensures) (c .before .enum-told6 .given .1) (c .refusal-of3 .ensures)) in
-    (h .answer, h .leaves)
+    (failed (r .judge-axes .ensures) (c .before .enum-told6 .given .1) (c .refusal-of3 .ensures))
 
 enum-told-7 : tie.Need-enum-told-7
 enum-told-7 c = search needs
@@ -126,9 +123,8 @@ returns-4 : tie.Need-returns-4
 returns-4 c =
     let p = c .before .before .before in
     let d = p .before .before .before .before .product-from in
-    let h = room-refused _ _ _ (tried p) (c .refusal-of4 .result) (d .result) (d .ensures)
-    (failed (p .before .before .judge-room .ensures) (c .before .enum-told8 .given .1) (c .refusal-of4 .ensures)) in
-    (h .answer, h .leaves)
+    room-refused _ _ _ (tried p) (c .refusal-of4 .result) (d .result) (d .ensures)
+    (failed (p .before .before .judge-room .ensures) (c .before .enum-told8 .given .1) (c .refusal-of4 .ensures))
 
 list-of-requires : tie.Need-list-of-requires
 list-of-requires c κs = list-few _ _ _ (tried (c .before .before))
@@ -153,9 +149,9 @@ returns-5 c =
     let o = w .before .before in
     let p = o .before .before .before .before in
     let d = p .before .before .before .before .product-from in
-    let h = listed _ _ _ (tried p) _ (d .result) (o .order-of .ensures ∙ ap (orderOf _) (o .before .list-of .ensures)) (d .ensures)
-    (passed (p .before .before .judge-room .ensures) (o .before .before .enum-told7 .given .1)) in
-    (h .0, w .write-devices .ensures ∙ h .1)
+    listed _ _ _ (tried p) _ (d .result) (o .order-of .ensures ∙ ap (orderOf _) (o .before .list-of .ensures)) (d .ensures)
+    (passed (p .before .before .judge-room .ensures) (o .before .before .enum-told7 .given .1))
+    (w .write-devices .ensures)
 
 pub groups-spec : {M : Type 1} → statement M
 groups-spec =

@@ -5,11 +5,6 @@ use Rattle.rules.specs.Refusals.{accept}
 use Rattle.judge.proofs.Steps.{not-tails, gathers}
 use Rattle.judge.proofs.gather_off.Statement.{statement}
 use Rattle.judge.proofs.gather_off.Tie as tie
-use Rattle.judge.proofs.gather_off.Reads as reads
-use Rattle.judge.proofs.gather_off.Lts as lts
-use Rattle.dims.proofs.gathered.Reads as gathered-reads
-use Rattle.dims.proofs.tails.Reads as tails-reads
-use Rattle.judge.proofs.refused_step.Reads as refused-step-reads
 
 tails-requires : tie.Need-tails-requires
 tails-requires c κs = search needs
@@ -26,7 +21,7 @@ gathered-requires : tie.Need-gathered-requires
 gathered-requires c κs = search needs
 
 returns-2 : tie.Need-returns-2
-returns-2 c = ap accept (c .gathered .ensures) ∙ sym (gathers _ _ _ (sym (c .before .before .tails .ensures) ∙ not-false _ (c .before .if1 .left)))
+returns-2 c = ap accept (c .gathered .ensures .0) ∙ sym (gathers _ _ _ (sym (c .before .before .tails .ensures) ∙ not-false _ (c .before .if1 .left)))
 
 pub gather-off-spec : {M : Type 1} → statement M
 gather-off-spec =

@@ -1,9 +1,10 @@
 use borrow.Author.Needs.{needs}
 use native.Mathlib.Omega.{arith}
 use mathlib.Core.List.{List}
-use mathlib.Core.Path.{sym, ap, _∙_}
+use mathlib.Core.Path.{sym, ap, _∙_, subst}
 use Prim.Native.Nat.{ℕ}
 use borrow.Author.Tests.{not-true, not-false}
+use lib.Dec.{T}
 use lib.ListN.{length-map}
 use lib.Seq.{length-take-le}
 use Rattle.rules.specs.PlanFile.{allBelow, gatherOff, sliceOn}
@@ -11,18 +12,10 @@ use Rattle.rules.specs.Types.{axesOf, shardingOf}
 use Rattle.axes.specs.Mesh.{meshOf}
 use Rattle.dims.specs.Dims.{sizesOf}
 use Rattle.dims.proofs.Dims.{dims-length}
-use Rattle.judge.proofs.Sound.{two-dims}
-use Rattle.judge.proofs.Steps.{only-at, no-dims, gather-stops, gather-passes, moved-room}
+use Rattle.rules.proofs.Judging.{twoDims-facts}
+use Rattle.judge.proofs.Steps.{only-at, no-dims, gather-stops, gather-passes, target-room}
 use Rattle.judge.proofs.judge_all_to_all.Statement.{statement}
 use Rattle.judge.proofs.judge_all_to_all.Tie as tie
-use Rattle.judge.proofs.judge_all_to_all.Reads as reads
-use Rattle.judge.proofs.judge_all_to_all.Lts as lts
-use Rattle.judge.proofs.gather_off.Reads as gather-off-reads
-use Rattle.judge.proofs.refused_step.Reads as refused-step-reads
-use Rattle.judge.proofs.slice_on.Reads as slice-on-reads
-use Rattle.judge.proofs.two_dims.Reads as two-dims-reads
-use Rattle.rules.proofs.Sharding.replicated.Reads as replicated-reads
-use Rattle.rules.proofs.Sharding.with_list.Reads as with-list-reads
 
 two-dims-requires : tie.Need-two-dims-requires
 two-dims-requires c κs = search needs
@@ -69,7 +62,7 @@ returns-2 c =
     let h = c7 .pre .0 .fits .rank in
     let w = dims-length (a .sharding) r (simp length-map at (c7 .good .1 .1 .1 .1 .0 .1 .1 .0 .1 .0 .1)) (omega (arith, h)) in
     let d = sym (c6 .two-dims .ensures) ∙ not-false _ (c5 .if1 .left) in
-    let off = only-at r (a .source .0) L _ _ h (two-dims r (a .source .0) (a .target .0) d .0) (c4 .replicated .ensures .0)
+    let off = only-at r (a .source .0) L _ _ h (twoDims-facts r (a .source .0) (a .target .0) (rw d tt) .0) (c4 .replicated .ensures .0)
     (c3 .with-list .ensures .0) in
     gather-stops (meshOf (a .mesh)) (sizesOf (a .table)) (a .k) (a .source .0) (a .target .0) L s r w d _ _
     (c .before .before .gather-off .ensures ∙ ap (λ (x : List (List ℕ)). gatherOff (a .k) x s) off) _ (c .enum-told2 .given .1)
@@ -94,16 +87,16 @@ slice-on-requires c κs =
     let w = dims-length (a .sharding) r (simp length-map at (c9 .good .1 .1 .1 .1 .0 .1 .1 .0 .1 .0 .1)) (omega (arith, h)) in
     let e = length-take-le (a .mesh .n) (a .mesh .sizes)
     (omega (arith, g .fits .axes, simp length-map at (c9 .good .1 .1 .1 .1 .1 .0 .1 .1 .1 .0 .1 .0 .1))) in
-    let b = ap (λ (x : ℕ). allBelow x L) e ∙ c9 .pre .1 in
+    let b = subst (λ (x : ℕ). T (allBelow x L)) (sym e) (c9 .pre .1) in
     let d = sym (c8 .two-dims .ensures) ∙ not-false _ (c7 .if1 .left) in
-    let t = two-dims r (a .source .0) (a .target .0) d in
+    let t = twoDims-facts r (a .source .0) (a .target .0) (rw d tt) in
     let off = only-at r (a .source .0) L _ _ h (t .0) (c6 .replicated .ensures .0) (c5 .with-list .ensures .0) in
     let on = only-at r (a .target .0) L _ _ h (t .1) (c6 .replicated .ensures .0) (c .with-list2 .ensures .0) in (
       g .fits,
-      rw on (moved-room (meshOf (a .mesh)) (sizesOf (a .table)) (a .k) (a .source .0) (a .target .0) L s r w d _
+      rw on (target-room (meshOf (a .mesh)) (sizesOf (a .table)) (a .k) (a .source .0) (a .target .0) L s r w d _
           (shardingOf r (c4 .gather-off .result .sharding))
           (c4 .gather-off .ensures ∙ ap (λ (x : List (List ℕ)). gatherOff (a .k) x s) off) (c .before .before .enum-told .given .1) (g .sound)
-          (omega (arith, e, g .fits .axes)) b (t .0) (t .1)),
+          (omega (arith, e, g .fits .axes)) (g .fits .sized .least) b (t .0) (t .1)),
     )
 
 returns-3 : tie.Need-returns-3
@@ -122,7 +115,7 @@ returns-3 c =
     let h = c10 .pre .0 .fits .rank in
     let w = dims-length (a .sharding) r (simp length-map at (c10 .good .1 .1 .1 .1 .0 .1 .1 .0 .1 .0 .1)) (omega (arith, h)) in
     let d = sym (c9 .two-dims .ensures) ∙ not-false _ (c8 .if1 .left) in
-    let t = two-dims r (a .source .0) (a .target .0) d in
+    let t = twoDims-facts r (a .source .0) (a .target .0) (rw d tt) in
     let off = only-at r (a .source .0) L _ _ h (t .0) (c7 .replicated .ensures .0) (c6 .with-list .ensures .0) in
     let on = only-at r (a .target .0) L _ _ h (t .1) (c7 .replicated .ensures .0) (c .before .with-list2 .ensures .0) in
     let b = shardingOf r (c5 .gather-off .result .sharding) in

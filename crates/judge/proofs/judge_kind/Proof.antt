@@ -2,19 +2,11 @@ use borrow.Author.Needs.{needs}
 use Rattle.rules.specs.PlanFile.{judgeKind}
 use Rattle.axes.specs.Mesh.{meshOf}
 use Rattle.dims.specs.Dims.{sizesOf}
-use Rattle.judge.proofs.Counting.{never-true}
-use Rattle.judge.proofs.Steps.{named-inv}
+use Rattle.rules.proofs.Judging.{named-inv}
 use Rattle.rules.specs.Collectives.{stepAxes}
 use Rattle.rules.specs.Types.{stepOf}
 use Rattle.judge.proofs.judge_kind.Statement.{statement}
 use Rattle.judge.proofs.judge_kind.Tie as tie
-use Rattle.judge.proofs.judge_kind.Reads as reads
-use Rattle.judge.proofs.judge_kind.Lts as lts
-use Rattle.judge.proofs.gather_off.Reads as gather-off-reads
-use Rattle.judge.proofs.judge_all_to_all.Reads as judge-all-to-all-reads
-use Rattle.judge.proofs.judge_reduce.Reads as judge-reduce-reads
-use Rattle.judge.proofs.judge_slice.Reads as judge-slice-reads
-use Rattle.judge.proofs.refused_step.Reads as refused-step-reads
 
 enum-told : tie.Need-enum-told
 enum-told c = search needs
@@ -74,7 +66,7 @@ returns-5 c =
     let c5 = c .before .before .before .before .before in
     let a = c5 .args in
     let b = named-inv (a .mesh .n) (a .k) (stepAxes (stepOf (a .table .rank) (a .step))) (c5 .pre .1) .0 in
-    never-true (simp (c .before .enum-told5 .given .1) at b)
+    absurd (simp (c .before .enum-told5 .given .1) at b)
 
 pub judge-kind-spec : {M : Type 1} → statement M
 judge-kind-spec =

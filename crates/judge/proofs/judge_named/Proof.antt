@@ -1,11 +1,6 @@
 use borrow.Author.Needs.{needs}
 use Rattle.judge.proofs.judge_named.Statement.{statement}
 use Rattle.judge.proofs.judge_named.Tie as tie
-use Rattle.judge.proofs.judge_named.Reads as reads
-use Rattle.judge.proofs.judge_named.Lts as lts
-use Rattle.judge.proofs.named_dims.Reads as named-dims-reads
-use Rattle.judge.proofs.named_list.Reads as named-list-reads
-use Rattle.start.proofs.refused.Reads as refused-reads
 
 enum-told : tie.Need-enum-told
 enum-told c = search needs

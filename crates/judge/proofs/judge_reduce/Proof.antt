@@ -5,12 +5,6 @@ use Rattle.rules.specs.Refusals.{accept}
 use Rattle.judge.proofs.Steps.{not-increasing, not-unreduced, reduces}
 use Rattle.judge.proofs.judge_reduce.Statement.{statement}
 use Rattle.judge.proofs.judge_reduce.Tie as tie
-use Rattle.judge.proofs.judge_reduce.Reads as reads
-use Rattle.judge.proofs.judge_reduce.Lts as lts
-use Rattle.axes.proofs.all_in.Reads as all-in-reads
-use Rattle.axes.proofs.increasing.Reads as increasing-reads
-use Rattle.judge.proofs.reduced.Reads as reduced-reads
-use Rattle.judge.proofs.refused_step.Reads as refused-step-reads
 
 increasing-requires : tie.Need-increasing-requires
 increasing-requires c κs = search needs

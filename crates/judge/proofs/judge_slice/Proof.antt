@@ -1,25 +1,20 @@
 use borrow.Author.Needs.{needs}
 use native.Mathlib.Omega.{arith}
-use mathlib.Core.List.{[]}
-use mathlib.Core.Path.{sym, ap, _∙_}
+use mathlib.Core.Path.{sym, ap, _∙_, subst}
 use Prim.Native.Nat.{ℕ}
+use lib.Dec.{T}
 use lib.ListN.{length, length-map, take}
 use lib.Seq.{length-take-le}
 use Rattle.rules.specs.Lists.{flat}
 use Rattle.rules.specs.PlanFile.{allBelow}
 use Rattle.rules.specs.Types.{dimsOf, shardingOf}
 use Rattle.axes.specs.Mesh.{meshOf}
-use Rattle.judge.proofs.Sound.{counts-of, joins-fresh, room}
-use Rattle.judge.proofs.Steps.{fresh-stops, fresh-passes, not-replicated, replicated}
+use Rattle.axes.proofs.Naming.{length-with}
+use Rattle.dims.specs.Dims.{sizesOf}
+use Rattle.judge.proofs.Rooms.{fresh-room}
+use Rattle.judge.proofs.Steps.{both-before, fresh-stops, fresh-passes, not-replicated, replicated}
 use Rattle.judge.proofs.judge_slice.Statement.{statement}
 use Rattle.judge.proofs.judge_slice.Tie as tie
-use Rattle.judge.proofs.judge_slice.Reads as reads
-use Rattle.judge.proofs.judge_slice.Lts as lts
-use Rattle.axes.proofs.Naming.{none-marked}
-use Rattle.dims.proofs.mark_dims.Reads as mark-dims-reads
-use Rattle.start.proofs.judge_dims.Reads as judge-dims-reads
-use Rattle.judge.proofs.refused_step.Reads as refused-step-reads
-use Rattle.judge.proofs.slice_on.Reads as slice-on-reads
 
 slice-aggregate-mark-dims : tie.Need-slice-aggregate-mark-dims
 slice-aggregate-mark-dims c = search needs
@@ -28,16 +23,25 @@ mark-dims-requires : tie.Need-mark-dims-requires
 mark-dims-requires c κs = search needs
 
 slice-aggregate-mark-list : tie.Need-slice-aggregate-mark-list
-slice-aggregate-mark-list c = search (needs, c .before .before .before .mark-dims .ensures [] none-marked .0)
+slice-aggregate-mark-list c = search (needs, ap length (c .before .before .before .mark-dims .ensures) ∙ length-with _ _)
 
 mark-list-requires : tie.Need-mark-list-requires
 mark-list-requires c κs = search needs
 
 slice-aggregate-judge-dims : tie.Need-slice-aggregate-judge-dims
-slice-aggregate-judge-dims c = search (needs, c .before .before .mark-list .ensures _ (c .before .before .before .before .before .before .mark-dims .ensures [] none-marked) .0)
+slice-aggregate-judge-dims c =
+    search (
+      needs,
+      ap length (c .before .before .mark-list .ensures) ∙ length-with _ _ ∙ ap length (c .before .before .before .before .before .before .mark-dims .ensures)
+          ∙ length-with _ _,
+    )
 
 judge-dims-requires : tie.Need-judge-dims-requires
-judge-dims-requires c κs = search needs
+judge-dims-requires c κs =
+    let s = c .before .before .before .before .before .before .before .before in
+    let m = ap length (c .before .before .before .before .before .before .mark-dims .ensures) ∙ length-with _ _ in
+    let k = ap length (c .before .before .mark-list .ensures) ∙ length-with _ _ in
+    (s .pre .0 .fits .rank, omega (arith, s .pre .0 .fits .axes, m, k))
 
 enum-told : tie.Need-enum-told
 enum-told c = search needs
@@ -50,32 +54,36 @@ refused-step-requires c κs = search needs
 
 returns : tie.Need-returns
 returns c =
-    let m = c .before .before .before .before .before .before .before .mark-list .ensures _ (c .before .before .before .before .before .before .before .before .before .before .before .mark-dims .ensures [] none-marked) in
     let s = c .before .before .before .before .before .before .before .before .before .before .before .before .before in
-    let f = fresh-stops _ _ _ (s .pre .1) _ (c .before .before .before .before .judge-dims .ensures .0 _ m) _ (c .before .enum-told2 .given .1) in
-    c .refused-step .ensures (s .args .table .rank) ∙ sym (not-replicated _ _ _ _ _ f)
+    let m = c .before .before .before .before .before .before .before .before .before .before .before .mark-dims .ensures in
+    let k = c .before .before .before .before .before .before .before .mark-list .ensures in
+    let j = c .before .before .before .before .judge-dims .ensures .0 ∙ both-before (s .args .mesh .n) _ _ _ (s .pre .0 .fits .axes) m k in
+    c .refused-step .ensures (s .args .table .rank)
+    ∙ sym (not-replicated _ _ _ _ _ (fresh-stops (s .args .mesh .n) _ _ (s .pre .1) _ j _ (c .before .enum-told2 .given .1)))
 
 slice-on-requires : tie.Need-slice-on-requires
 slice-on-requires c κs =
     let s = c .before .before .before .before .before .before .before .before .before .before .before .before in
+    let m = c .before .before .before .before .before .before .before .before .before .before .mark-dims .ensures in
+    let k = c .before .before .before .before .before .before .mark-list .ensures in
     let a = s .args in
     let g = s .pre .0 in
-    let m = c .before .before .before .before .before .before .mark-list .ensures _ (c .before .before .before .before .before .before .before .before .before .before .mark-dims .ensures [] none-marked) in
-    let f = fresh-passes _ _ _ (s .pre .1) _ (c .before .before .before .judge-dims .ensures .0 _ m) (c .enum-told .given .1) in
-    let e = length-take-le (a .mesh .n) (a .mesh .sizes)
-    (omega (arith, g .fits .axes, simp length-map at (s .good .1 .1 .1 .0 .1 .1 .1 .0 .1 .0 .1))) in
-    let n = length (meshOf (a .mesh)) in
-    let Ss = take (a .table .rank) (dimsOf (a .lists)) in
-    let t = shardingOf (a .table .rank) (a .sharding) in
-    let b = ap (λ (x : ℕ). allBelow x (flat Ss)) e ∙ s .pre .1 in
-    let k = counts-of (g .sound) in
-    (g .fits, room n Ss t (omega (arith, e, g .fits .axes)) k (joins-fresh n Ss t k b f))
+    let j = c .before .before .before .judge-dims .ensures .0 ∙ both-before (a .mesh .n) _ _ _ (g .fits .axes) m k in
+    let f = fresh-passes (a .mesh .n) _ _ (s .pre .1) _ j (c .enum-told .given .1) in
+    let e = length-take-le (a .mesh .n) (a .mesh .sizes) (omega (arith, g .fits .axes, simp length-map at (s .good .1 .1 .1 .0 .1 .1 .1 .0 .1 .0 .1))) in
+    let Ss = take (a .table .rank) (dimsOf (a .lists)) in (
+      g .fits,
+      fresh-room (meshOf (a .mesh)) (sizesOf (a .table)) (shardingOf (a .table .rank) (a .sharding)) (g .sound) (omega (arith, e, g .fits .axes)) Ss
+          (subst (λ (x : ℕ). T (allBelow x (flat Ss))) (sym e) (s .pre .1)) (rw f tt),
+    )
 
 returns-2 : tie.Need-returns-2
 returns-2 c =
-    let m = c .before .before .before .before .before .before .before .mark-list .ensures _ (c .before .before .before .before .before .before .before .before .before .before .before .mark-dims .ensures [] none-marked) in
-    let f = fresh-passes _ _ _ (c .before .before .before .before .before .before .before .before .before .before .before .before .before .pre .1) _ (c .before .before .before .before .judge-dims .ensures .0 _ m) (c .before .enum-told .given .1) in
-    c .slice-on .ensures ∙ sym (replicated _ _ _ _ _ f)
+    let s = c .before .before .before .before .before .before .before .before .before .before .before .before .before in
+    let m = c .before .before .before .before .before .before .before .before .before .before .before .mark-dims .ensures in
+    let k = c .before .before .before .before .before .before .before .mark-list .ensures in
+    let j = c .before .before .before .before .judge-dims .ensures .0 ∙ both-before (s .args .mesh .n) _ _ _ (s .pre .0 .fits .axes) m k in
+    c .slice-on .ensures ∙ sym (replicated _ _ _ _ _ (fresh-passes (s .args .mesh .n) _ _ (s .pre .1) _ j (c .before .enum-told .given .1)))
 
 pub judge-slice-spec : {M : Type 1} → statement M
 judge-slice-spec =

@@ -3,11 +3,6 @@ use mathlib.Core.Path.{sym, _∙_}
 use borrow.Author.Tests.{not-true, not-false}
 use Rattle.judge.proofs.named_dims.Statement.{statement}
 use Rattle.judge.proofs.named_dims.Tie as tie
-use Rattle.judge.proofs.named_dims.Reads as reads
-use Rattle.judge.proofs.named_dims.Lts as lts
-use Rattle.dims.proofs.names_axis.Reads as names-axis-reads
-use Rattle.dims.proofs.names_below.Reads as names-below-reads
-use Rattle.start.proofs.refused.Reads as refused-reads
 
 names-axis-requires : tie.Need-names-axis-requires
 names-axis-requires c κs = search needs

@@ -5,11 +5,6 @@ use Rattle.rules.specs.Types.{axesOf}
 use Rattle.judge.proofs.Steps.{some-none, some-one}
 use Rattle.judge.proofs.named_list.Statement.{statement}
 use Rattle.judge.proofs.named_list.Tie as tie
-use Rattle.judge.proofs.named_list.Reads as reads
-use Rattle.judge.proofs.named_list.Lts as lts
-use Rattle.axes.proofs.all_below.Reads as all-below-reads
-use Rattle.start.proofs.refused.Reads as refused-reads
-use Rattle.rules.proofs.AxisList.len.Reads as len-reads
 
 len-requires : tie.Need-len-requires
 len-requires c κs = search needs

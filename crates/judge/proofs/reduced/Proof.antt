@@ -5,9 +5,6 @@ use Rattle.rules.specs.Types.{dimsOf}
 use Rattle.dims.proofs.Dims.{sharding-is}
 use Rattle.judge.proofs.reduced.Statement.{statement}
 use Rattle.judge.proofs.reduced.Tie as tie
-use Rattle.judge.proofs.reduced.Reads as reads
-use Rattle.judge.proofs.reduced.Lts as lts
-use Rattle.axes.proofs.without.Reads as without-reads
 
 without-requires : tie.Need-without-requires
 without-requires c κs = search needs

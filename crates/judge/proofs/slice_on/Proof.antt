@@ -8,12 +8,6 @@ use Rattle.axes.specs.Mesh.{meshOf}
 use Rattle.judge.proofs.Steps.{shard-divides, not-divisible, slices}
 use Rattle.judge.proofs.slice_on.Statement.{statement}
 use Rattle.judge.proofs.slice_on.Tie as tie
-use Rattle.judge.proofs.slice_on.Reads as reads
-use Rattle.judge.proofs.slice_on.Lts as lts
-use Rattle.dims.proofs.divisible.Reads as divisible-reads
-use Rattle.dims.proofs.shard_of.Reads as shard-of-reads
-use Rattle.dims.proofs.sliced.Reads as sliced-reads
-use Rattle.judge.proofs.refused_step.Reads as refused-step-reads
 
 shard-of-requires : tie.Need-shard-of-requires
 shard-of-requires c κs = search needs
@@ -44,7 +38,7 @@ returns-2 c =
     let a = c4 .args in
     let w = c3 .shard-of .ensures in
     let d = shard-divides (meshOf (a .mesh)) _ _ (dimsOf (a .lists)) _ _ (w .0) (w .1) in
-    ap accept (c .sliced .ensures) ∙ sym (slices _ _ _ _ _ (sym (c .before .before .divisible .ensures ∙ d) ∙ not-false _ (c .before .if1 .left)))
+    ap accept (c .sliced .ensures .0) ∙ sym (slices _ _ _ _ _ (sym (c .before .before .divisible .ensures ∙ d) ∙ not-false _ (c .before .if1 .left)))
 
 pub slice-on-spec : {M : Type 1} → statement M
 slice-on-spec =

@@ -2,8 +2,6 @@ use borrow.Author.Needs.{needs}
 use borrow.Author.Tests.{lt-ltb, le-ltb}
 use Rattle.judge.proofs.two_dims.Statement.{statement}
 use Rattle.judge.proofs.two_dims.Tie as tie
-use Rattle.judge.proofs.two_dims.Reads as reads
-use Rattle.judge.proofs.two_dims.Lts as lts
 
 cast-s : tie.Need-cast-s
 cast-s c = search needs

@@ -1,12 +1,13 @@
 use borrow.Author.Needs.{needs}
 use native.Mathlib.Omega.{arith}
 use Prim.Native.Nat.{ℕ, _-_}
-use mathlib.Core.Path.{_≡_, sym, ap, subst, _∙_}
+use mathlib.Core.Path.{_≡_, sym, ap, _∙_}
+use mathlib.Core.List.{List}
 use lib.ListN.{length, take, length-map}
 use lib.Seq.{length-take-le}
-use Rattle.rules.specs.Refusals.{accept}
-use Rattle.rules.specs.Calls.{PlaceAnswer, Past, placeOf}
-use Rattle.rules.proofs.Judging.{never, accept-inj}
+use Rattle.rules.specs.Types.{fourPlaces}
+use Rattle.rules.specs.Calls.{placedOf}
+use Rattle.rules.specs.declared.PlaceOutcome.the-variants as place
 use Rattle.place.proofs.Places.{placing, place-stops, no-device, place-found}
 use Rattle.place.proofs.place.Statement.{statement}
 use Rattle.place.proofs.place.Tie as tie
@@ -28,9 +29,9 @@ refused-requires c κs = search needs
 
 returns : tie.Need-returns
 returns c =
-    let e = c .before .before .before .before .state-after .ensures .0 in
-    let stop = place-stops _ _ _ _ e (c .before .before .enum-told2 .given .1) (c .before .refusal .ensures) in
-    (c .refused .ensures .0 ∙ sym stop, ((λ a q. absurd (never (sym stop ∙ q))), λ n k q. c .refused .ensures .1))
+    let s = c .before .before .before .before .state-after in
+    let stop = place-stops _ _ _ (s .result) (s .ensures .0) (c .before .before .enum-told2 .given .1) (c .before .refusal .ensures) in
+    c .refused .ensures ∙ ap placedOf (sym stop)
 
 cast-if1 : tie.Need-cast-if1
 cast-if1 c = search needs
@@ -40,9 +41,9 @@ refused-requires-2 c κs = search needs
 
 returns-2 : tie.Need-returns-2
 returns-2 c =
-    let e = c .before .before .before .before .before .before .state-after .ensures .0 in
-    let stop = no-device _ _ _ _ e (c .before .before .before .before .enum-told .given .1) (c .before .if1 .taken) in
-    (c .refused2 .ensures .0 ∙ sym stop, ((λ a q. absurd (never (sym stop ∙ q))), λ n k q. c .refused2 .ensures .1))
+    let e = c .before .before .before .before .before .before .state-after .ensures in
+    let stop = no-device _ _ _ _ (e .0) (e .1) (c .before .before .before .before .enum-told .given .1) (c .before .if1 .taken) in
+    c .refused2 .ensures ∙ ap placedOf (sym stop)
 
 array-share-prefix-mesh : tie.Need-array-share-prefix-mesh
 array-share-prefix-mesh c =
@@ -75,18 +76,15 @@ returns-3 : tie.Need-returns-3
 returns-3 c =
     let s = c .before .before .before .before .before .before .before .before .before .before .before .before .before .state-after in
     let t = c .before .before .before .before .before .before .before .before .before .before .before .enum-told .given .1 in
-    let f = c .before .before .before .first-indexes .ensures in
-    let lists = c .before .before .lists-within .ensures in
-    let sizes = c .before .sizes-within .ensures in
-    let indexes = c .sizes-within2 in
-    let first = ap (λ (n : ℕ). take n (indexes .result)) (sym (f .0)) ∙ indexes .ensures .0 ∙ f .1 in
+    let first = c .sizes-within2 .ensures ∙ ap (λ (l : List ℕ). fourPlaces 0 l) (c .before .before .before .first-indexes .ensures .1) in
     let found =
-    place-found _ _ _ (s .result) (s .ensures .0) t (c .before .before .before .before .before .before .before .before .if1 .left) (s .ensures .1 .rank-is) _
-    (lists .0) _ (sizes .0) _ first in
-    let rank : (a : PlaceAnswer) → placeOf _ _ _ ≡ accept a → s .result .shard .rank ≡ a .rank =
-    λ a q. ap (λ (x : PlaceAnswer). x .rank) (accept-inj (found ∙ q)) in
-    let index = subst (λ (n : ℕ). Past 0 n (indexes .result)) (f .0) (indexes .ensures .1) in
-    (found, ((λ a q. rw (← (rank a q)) (record { lists = lists .1; sizes = sizes .1; indexes = index })), λ n k q. absurd (never (sym q ∙ sym found))))
+    place-found _ _ _ (s .result) (s .ensures .0) (s .ensures .1) t (c .before .before .before .before .before .before .before .before .if1 .left) in
+    (λ i. record {
+      outcome = place.Found (s .result .shard .rank);
+      sharding = c .before .before .lists-within .ensures i;
+      shard = c .before .sizes-within .ensures i;
+      first = first i;
+    }) ∙ ap placedOf (sym found)
 
 pub place-spec : {M : Type 1} → statement M
 place-spec =

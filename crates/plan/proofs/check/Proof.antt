@@ -1,9 +1,7 @@
 use borrow.Author.Needs.{needs}
 use Prim.Native.Nat.{_-_}
-use mathlib.Core.Path.{_≡_, sym, subst, _∙_}
-use Rattle.rules.specs.Refusals.{accept}
-use Rattle.rules.specs.Calls.{CheckAnswer, CheckedPast, checkOf}
-use Rattle.rules.proofs.Judging.{never, accept-inj}
+use mathlib.Core.Path.{sym, ap, _∙_}
+use Rattle.rules.specs.Calls.{checkedOf}
 use Rattle.plan.proofs.Wholes.{plan-held, whole-stopped, check-stops, bounded, check-passes}
 use Rattle.plan.proofs.check.Statement.{statement}
 use Rattle.plan.proofs.check.Tie as tie
@@ -28,7 +26,7 @@ returns c =
     let t = c .before .before in
     let j = t .before .before .judge-file .ensures in
     let stop = check-stops _ (whole-stopped _ _ j (t .enum-told2 .given .1) (c .before .refusal .ensures)) in
-    (c .refused .ensures .0 ∙ sym stop, ((λ a q. absurd (never (sym stop ∙ q))), λ n k q. c .refused .ensures .1))
+    c .refused .ensures ∙ ap checkedOf (sym stop)
 
 passed-requires : tie.Need-passed-requires
 passed-requires c κs =
@@ -39,10 +37,7 @@ returns-2 : tie.Need-returns-2
 returns-2 c =
     let t = c .before in
     let j = t .before .before .judge-file .ensures in
-    let pass = check-passes _ (plan-held _ _ j (t .enum-told .given .1)) in
-    let past : (a : CheckAnswer) → checkOf _ ≡ accept a → CheckedPast (a .rank) (c .passed .result) =
-    λ a q. subst (λ (x : CheckAnswer). CheckedPast (x .rank) (c .passed .result)) (accept-inj (sym pass ∙ q)) (c .passed .ensures .1) in
-    (c .passed .ensures .0 ∙ sym pass, (past, λ n k q. absurd (never (sym q ∙ pass))))
+    c .passed .ensures ∙ ap checkedOf (sym (check-passes _ (plan-held _ _ j (t .enum-told .given .1))))
 
 pub check-spec : {M : Type 1} → statement M
 check-spec =

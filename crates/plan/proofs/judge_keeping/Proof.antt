@@ -1,6 +1,8 @@
 use borrow.Author.Needs.{needs}
+use mathlib.Core.Path.{sym, _∙_}
+use Rattle.rules.proofs.Judging.{never}
 use Rattle.reader.proofs.Answers.{read-on, read-stopped}
-use Rattle.plan.proofs.Wholes.{open-on, open-stopped, judges-refused, ready, front-stops, walk-stops, bytes-left, judges-plan}
+use Rattle.plan.proofs.Wholes.{open-on, open-stopped, ready, front-stops, walk-stops, bytes-left, whole-refused, whole-told}
 use Rattle.plan.proofs.judge_keeping.Statement.{statement}
 use Rattle.plan.proofs.judge_keeping.Tie as tie
 
@@ -22,13 +24,13 @@ refused-requires c κs = search needs
 returns : tie.Need-returns
 returns c =
     let o = c .before .before .before .before .«open» .ensures in
-    judges-refused _ _ _ (c .refused .ensures) (front-stops _ (open-stopped _ (o .0) (c .before .before .enum-told .given .1) (c .before .refusal .ensures)))
+    let stop = front-stops _ (open-stopped _ (o .reads) (c .before .before .enum-told .given .1) (c .before .refusal .ensures)) in
+    (whole-refused _ (c .refused .ensures) stop, λ p j. absurd (never (sym stop ∙ j)))
 
 walk-steps-requires : tie.Need-walk-steps-requires
 walk-steps-requires c κs =
     let n = c .before .before .before .before in
-    let o = n .before .before .«open» .ensures in
-    ready _ _ (o .0) (o .1) (n .next .given .1)
+    ready _ _ (n .before .before .«open» .ensures) (n .next .given .1)
 
 enum-known-end : tie.Need-enum-known-end
 enum-known-end c = search needs
@@ -47,9 +49,10 @@ returns-2 c =
     let w = c .before .before .before .before in
     let n = w .before .before .before .before .before in
     let o = n .before .before .«open» .ensures in
-    let f = open-on _ (o .0) (n .next .given .1) in
-    let stop = read-stopped _ (w .walk-steps .ensures) (c .before .before .enum-told2 .given .1) (c .before .refusal2 .ensures) in
-    judges-refused _ _ _ (c .refused2 .ensures) (walk-stops _ f (o .1 .steps-are _ f) _ stop)
+    let f = open-on _ (o .reads) (n .next .given .1) in
+    let walk = read-stopped _ (w .walk-steps .ensures) (c .before .before .enum-told2 .given .1) (c .before .refusal2 .ensures) in
+    let stop = walk-stops _ f (o .steps-are _ f) _ walk in
+    (whole-refused _ (c .refused2 .ensures) stop, λ p j. absurd (never (sym stop ∙ j)))
 
 refused-requires-3 : tie.Need-refused-requires-3
 refused-requires-3 c κs = search needs
@@ -60,17 +63,16 @@ returns-3 c =
     let w = e .before .before in
     let n = w .before .before .before .before .before in
     let o = n .before .before .«open» .ensures in
-    let f = open-on _ (o .0) (n .next .given .1) in
-    let q = read-on _ (w .walk-steps .ensures) (e .end .given .1) in
-    judges-refused _ _ _ (c .refused3 .ensures) (bytes-left _ f (o .1 .steps-are _ f) _ q (c .before .if1 .taken))
+    let f = open-on _ (o .reads) (n .next .given .1) in
+    let stop = bytes-left _ f (o .steps-are _ f) _ (read-on _ (w .walk-steps .ensures) (e .end .given .1)) (c .before .if1 .taken) in
+    (whole-refused _ (c .refused3 .ensures) stop, λ p j. absurd (never (sym stop ∙ j)))
 
 returns-4 : tie.Need-returns-4
 returns-4 c =
     let e = c .before .before .before .before in
     let w = e .before .before in
     let n = w .before .before .before .before .before in
-    let o = n .before .before .«open» .ensures in
-    judges-plan _ _ _ _ (o .0) (o .1) (n .next .given .1) (w .walk-steps .ensures) (e .end .given .1) (c .before .before .if1 .left)
+    whole-told _ _ _ _ (n .before .before .«open» .ensures) (n .next .given .1) (w .walk-steps .ensures) (e .end .given .1) (c .before .before .if1 .left)
 
 pub judge-keeping-spec : {M : Type 1} → statement M
 judge-keeping-spec =

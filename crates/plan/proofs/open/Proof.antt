@@ -1,7 +1,6 @@
 use borrow.Author.Needs.{needs}
-use mathlib.Core.Path.{sym, _∙_}
 use Rattle.reader.proofs.Answers.{header-on, header-stopped, read-on, read-stopped}
-use Rattle.plan.proofs.Opens.{uncounted, header-stops, shape-stops}
+use Rattle.plan.proofs.Opens.{open-refused, header-stops, shape-stops}
 use Rattle.plan.proofs.open.Statement.{statement}
 use Rattle.plan.proofs.open.Tie as tie
 
@@ -24,7 +23,7 @@ returns : tie.Need-returns
 returns c =
     let stop = header-stopped (c .before .before .before .before .read-header .ensures) (c .before .before .enum-told .given .1) (c .before .refusal .ensures) in
     let front = header-stops _ stop in
-    (c .refused .ensures ∙ sym front, uncounted _ _ front)
+    open-refused (c .refused .ensures .0) (c .refused .ensures .1) front
 
 read-shape-requires : tie.Need-read-shape-requires
 read-shape-requires c κs = header-on (c .before .before .before .read-header .ensures) (c .before .read .given .1)
@@ -48,7 +47,7 @@ returns-2 c =
     let h = header-on (q .before .before .read-header .ensures) (q .read .given .1) in
     let stop = read-stopped _ (p .read-shape .ensures .0) (c .before .before .enum-told2 .given .1) (c .before .refusal2 .ensures) in
     let front = shape-stops _ h stop in
-    (c .refused2 .ensures ∙ sym front, uncounted _ _ front)
+    open-refused (c .refused2 .ensures .0) (c .refused2 .ensures .1) front
 
 open-with-requires : tie.Need-open-with-requires
 open-with-requires c κs =
@@ -57,11 +56,11 @@ open-with-requires c κs =
     record {
       header-is = header-on (q .before .before .read-header .ensures) (q .read .given .1);
       shape-is = read-on _ (p .read-shape .ensures .0) (c .before .next .given .1);
-      counts = p .read-shape .ensures .1;
+      counted = p .read-shape .ensures .1;
     }
 
 returns-3 : tie.Need-returns-3
-returns-3 c = (c .open-with .ensures .0, c .open-with .ensures .1)
+returns-3 c = c .open-with .ensures
 
 pub open-spec : {M : Type 1} → statement M
 open-spec =

@@ -1,8 +1,8 @@
 use borrow.Author.Needs.{needs}
-use mathlib.Core.Path.{sym, _∙_}
+use mathlib.Core.Path.{sym}
 use Rattle.reader.proofs.Answers.{read-on, read-stopped}
 use Rattle.start.proofs.Verdicts.{passed, failed}
-use Rattle.plan.proofs.Opens.{headed, fits, ranked, counted, uncounted, sharding-stops, offset-stops, start-stops, front-is}
+use Rattle.plan.proofs.Opens.{headed, axes-are, rank-are, within-places, open-refused, sharding-stops, offset-stops, start-stops, front-is}
 use Rattle.plan.proofs.open_with.Statement.{statement}
 use Rattle.plan.proofs.open_with.Tie as tie
 
@@ -11,7 +11,7 @@ u16-at-requires c κs = search needs
 
 read-sharding-requires : tie.Need-read-sharding-requires
 read-sharding-requires c κs =
-    let f = fits (c .before .before .before .before .pre) in
+    let f = within-places (c .before .before .before .before .pre) in
     (f .axes, f .rank)
 
 enum-known-next : tie.Need-enum-known-next
@@ -30,9 +30,9 @@ returns : tie.Need-returns
 returns c =
     let p = c .before .before .before .before in
     let o = p .before .before .before .before .before .pre in
-    let stop = read-stopped _ (p .read-sharding .ensures) (c .before .before .enum-told .given .1) (c .before .refusal .ensures) in
-    let front = sharding-stops _ (o .header-is) (o .shape-is) (o .counts .n-is) (o .counts .rank-is) (p .before .u16-at .ensures .0) stop in
-    (c .refused .ensures ∙ sym front, uncounted _ _ front)
+    let stop = read-stopped _ (p .read-sharding .ensures .reads) (c .before .before .enum-told .given .1) (c .before .refusal .ensures) in
+    let front = sharding-stops _ (o .header-is) (o .shape-is) (axes-are o) (rank-are o) (p .before .u16-at .ensures .0) stop in
+    open-refused (c .refused .ensures .0) (c .refused .ensures .1) front
 
 u16-at-requires-2 : tie.Need-u16-at-requires-2
 u16-at-requires-2 c κs = search needs
@@ -45,14 +45,14 @@ returns-2 c =
     let u = c .before .before in
     let p = u .before .before .before .before in
     let o = p .before .before .before .before .before .pre in
-    let s = read-on _ (p .read-sharding .ensures) (u .before .before .next .given .1) in
-    let sharded = offset-stops _ (o .header-is) (o .shape-is) (o .counts .n-is) (o .counts .rank-is) (p .before .u16-at .ensures .0) s in
+    let s = read-on _ (p .read-sharding .ensures .reads) (u .before .before .next .given .1) in
+    let sharded = offset-stops _ (o .header-is) (o .shape-is) (axes-are o) (rank-are o) (p .before .u16-at .ensures .0) s in
     let front = sharded (u .u16-at2 .ensures .0) (c .before .if1 .taken) in
-    (c .refused2 .ensures ∙ sym front, uncounted _ _ front)
+    open-refused (c .refused2 .ensures .0) (c .refused2 .ensures .1) front
 
 judge-start-requires : tie.Need-judge-start-requires
 judge-start-requires c κs =
-    fits (c .before .before .before .before .before .before .before .before .before .before .before .pre)
+    within-places (c .before .before .before .before .before .before .before .before .before .before .before .pre)
 
 enum-told-2 : tie.Need-enum-told-2
 enum-told-2 c = search needs
@@ -72,12 +72,12 @@ returns-3 c =
     let u = v .before .before .before in
     let p = u .before .before .before .before in
     let o = p .before .before .before .before .before .pre in
-    let s = read-on _ (p .read-sharding .ensures) (u .before .before .next .given .1) in
+    let s = read-on _ (p .read-sharding .ensures .reads) (u .before .before .next .given .1) in
     let stop = failed (v .judge-start .ensures) (c .before .before .enum-told3 .given .1) (c .before .refusal-of .ensures) in
     let front =
-    start-stops _ (o .header-is) (o .shape-is) (o .counts .n-is) (o .counts .rank-is) (p .before .u16-at .ensures .0) s (u .u16-at2 .ensures .0)
+    start-stops _ (o .header-is) (o .shape-is) (axes-are o) (rank-are o) (p .before .u16-at .ensures .0) s (u .u16-at2 .ensures .0)
     (v .before .before .if1 .left) stop in
-    (c .refused3 .ensures ∙ sym front, uncounted _ _ front)
+    open-refused (c .refused3 .ensures .0) (c .refused3 .ensures .1) front
 
 returns-4 : tie.Need-returns-4
 returns-4 c =
@@ -86,11 +86,11 @@ returns-4 c =
     let p = u .before .before .before .before in
     let o = p .before .before .before .before .before .pre in
     let h = headed _ _ (o .header-is) in
-    let s = read-on _ (p .read-sharding .ensures) (u .before .before .next .given .1) in
+    let s = read-on _ (p .read-sharding .ensures .reads) (u .before .before .next .given .1) in
     let fine = passed (v .judge-start .ensures) (c .enum-told2 .given .1) in
-    let sharded = front-is _ (o .header-is) (o .shape-is) (o .counts .n-is) (o .counts .rank-is) (p .before .u16-at .ensures .0) s in
+    let sharded = front-is _ (o .header-is) (o .shape-is) (axes-are o) (rank-are o) (p .before .u16-at .ensures .0) s in
     let front = sharded (u .u16-at2 .ensures .0) (v .before .before .if1 .left) fine in
-    (sym front, counted front (o .counts .devices-are) (h .steps-are) (fits o) (ranked o))
+    record { reads = sym front; counted = o .counted; steps-are = λ f q. h .steps-are }
 
 pub open-with-spec : {M : Type 1} → statement M
 open-with-spec =

@@ -1,10 +1,9 @@
 use borrow.Author.Needs.{needs}
 use Prim.Native.Nat.{ℕ, _*_, _-_}
-use lib.ListN.{take}
-use mathlib.Core.Path.{sym, ap, subst, _∙_}
-use Rattle.rules.specs.Refusals.{accept}
-use Rattle.rules.specs.Types.{dimsOf, axesOf}
-use Rattle.rules.specs.Calls.{Past}
+use mathlib.Core.Path.{ap, _∙_}
+use mathlib.Core.List.{List}
+use Rattle.rules.specs.Types.{fourPlaces}
+use Rattle.rules.specs.declared.CheckOutcome.the-variants as check
 use Rattle.plan.specs.declared.Whole.{Whole}
 use Rattle.plan.proofs.passed.Statement.{statement}
 use Rattle.plan.proofs.passed.Tie as tie
@@ -31,23 +30,16 @@ cast-t12 : tie.Need-cast-t12
 cast-t12 c = search needs
 
 returns : tie.Need-returns
-unfolding dimsOf axesOf
 returns c =
-    let lists = c .before .before .before .lists-within .ensures in
-    let sizes = c .before .before .before .before .sizes-within in
-    let s = c .before .before .before .before .before .shard-of .ensures in
-    let w : Whole = c .before .before .before .before .before .before .before .before .before .args .whole in
-    let front = ap (λ (n : ℕ). take n (sizes .result)) (sym (s .0)) ∙ sizes .ensures .0 ∙ s .1 in (
-      (λ i. accept (record {
-        room = w .devices * w .most;
-        devices = w .devices;
-        steps = w .steps;
-        rank = w .table .rank;
-        sharding = lists .0 i;
-        shard = front i;
-      })),
-      record { lists = lists .1; sizes = subst (λ (n : ℕ). Past 0 n (sizes .result)) (s .0) (sizes .ensures .1) },
-    )
+    let l = c .before .before .before in
+    let s = l .before .before in
+    let w : Whole = s .before .before .before .before .args .whole in
+    let sizes = l .before .sizes-within .ensures ∙ ap (λ (n : List ℕ). fourPlaces 0 n) (s .shard-of .ensures .1) in
+    (λ i. record {
+      outcome = check.Passed (record { room = w .devices * w .most; devices = w .devices; steps = w .steps; rank = w .table .rank });
+      sharding = l .lists-within .ensures i;
+      shard = sizes i;
+    })
 
 pub passed-spec : {M : Type 1} → statement M
 passed-spec =

@@ -1,11 +1,12 @@
 use borrow.Author.Needs.{needs}
-use mathlib.Core.Path.{refl, sym, _∙_}
+use mathlib.Core.Path.{sym, ap, _∙_}
 use native.Mathlib.Omega.{arith}
 use lib.Dec.{lit≤}
-use Rattle.rules.proofs.Accepted.{section-facts}
+use lib.ListN.{length}
+use Rattle.rules.proofs.Accepted.{section-facts, mesh-and-table-facts}
 use Rattle.rules.specs.Limits.{mostDevices}
 use Rattle.reader.proofs.Answers.{read-on, read-stopped}
-use Rattle.plan.proofs.Opens.{headed, mesh-stops, tensor-stops, shape-is}
+use Rattle.plan.proofs.Opens.{headed, no-counted, mesh-stops, tensor-stops, shape-is}
 use Rattle.plan.proofs.read_shape.Statement.{statement}
 use Rattle.plan.proofs.read_shape.Tie as tie
 
@@ -32,8 +33,8 @@ refused-requires c κs = search needs
 returns : tie.Need-returns
 returns c =
     let p = c .before .before .before .before in
-    let stop = read-stopped _ (p .read-sizes .ensures .0) (c .before .before .enum-told .given .1) (c .before .refusal .ensures) in
-    (c .refused .ensures .0 ∙ sym (mesh-stops _ _ _ (p .before .u16-at .ensures .0) stop), c .refused .ensures .1)
+    let stop = read-stopped _ (p .read-sizes .ensures .0 .reads) (c .before .before .enum-told .given .1) (c .before .refusal .ensures) in
+    (c .refused .ensures .0 ∙ sym (mesh-stops _ _ _ (p .before .u16-at .ensures .0) stop), no-counted (c .refused .ensures .1))
 
 u16-at-requires-2 : tie.Need-u16-at-requires-2
 u16-at-requires-2 c κs = search needs
@@ -42,7 +43,7 @@ read-sizes-requires-2 : tie.Need-read-sizes-requires-2
 read-sizes-requires-2 c κs =
     let p = c .before .before .before .before in
     let h = headed _ _ (p .before .before .before .pre) in
-    let m = read-on _ (p .read-sizes .ensures .0) (c .before .before .next .given .1) in
+    let m = read-on _ (p .read-sizes .ensures .0 .reads) (c .before .before .next .given .1) in
     let f = section-facts mostDevices 10 11 _ _ _ 18 _ (lit≤ tt) m in
     (omega (arith, f .inside), omega (arith, h .facts .rank-few, h .rank-is), lit≤ tt)
 
@@ -62,9 +63,9 @@ returns-2 : tie.Need-returns-2
 returns-2 c =
     let p = c .before .before .before .before in
     let q = p .before .before .before .before .before in
-    let m = read-on _ (q .read-sizes .ensures .0) (p .before .before .before .next .given .1) in
-    let stop = read-stopped _ (p .read-sizes2 .ensures .0) (c .before .before .enum-told2 .given .1) (c .before .refusal2 .ensures) in
-    (c .refused2 .ensures .0 ∙ sym (tensor-stops _ _ _ (q .before .u16-at .ensures .0) m (p .before .u16-at2 .ensures .0) stop), c .refused2 .ensures .1)
+    let m = read-on _ (q .read-sizes .ensures .0 .reads) (p .before .before .before .next .given .1) in
+    let stop = read-stopped _ (p .read-sizes2 .ensures .0 .reads) (c .before .before .enum-told2 .given .1) (c .before .refusal2 .ensures) in
+    (c .refused2 .ensures .0 ∙ sym (tensor-stops _ _ _ (q .before .u16-at .ensures .0) m (p .before .u16-at2 .ensures .0) stop), no-counted (c .refused2 .ensures .1))
 
 table-of-requires : tie.Need-table-of-requires
 table-of-requires c κs =
@@ -76,11 +77,14 @@ returns-3 c =
     let l = c .before .before .before .before in
     let p = l .before .before in
     let q = p .before .before .before .before .before in
-    let m = read-on _ (q .read-sizes .ensures .0) (p .before .before .before .next .given .1) in
-    let t = read-on _ (p .read-sizes2 .ensures .0) (l .last .given .1) in
+    let m = read-on _ (q .read-sizes .ensures .0 .reads) (p .before .before .before .next .given .1) in
+    let t = read-on _ (p .read-sizes2 .ensures .0 .reads) (l .last .given .1) in
     let is = shape-is _ _ _ (q .before .u16-at .ensures .0) m (p .before .u16-at2 .ensures .0) t in
     let table = c .table-of .ensures in
-    (rw (table .1) (sym is), record { n-is = refl; rank-is = table .0; devices-are = q .read-sizes .ensures .1 })
+    let f = mesh-and-table-facts _ _ _ _ is in (
+      rw (table .1) (sym is),
+      record { devices-are = q .read-sizes .ensures .1; n-is = sym (f .axes-many); rank-is = table .0 ∙ sym (ap length (table .1) ∙ f .rank-many) },
+    )
 
 pub read-shape-spec : {M : Type 1} → statement M
 read-shape-spec =

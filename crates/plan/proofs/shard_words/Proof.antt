@@ -1,5 +1,6 @@
 use native.Mathlib.Omega.{arith}
 use Prim.Native.Nat.{_*_, _/_}
+use mathlib.Core.List.{_++_}
 use mathlib.Core.Path.{_≡_, ap₂, _∙_}
 use native.Mathlib.Nat.{mul-div-cancel}
 use lib.ListN.{length, length-take, length-append, take}
@@ -11,8 +12,7 @@ use Rattle.rules.proofs.Sizes.{cut-divisible, cut-product}
 use Rattle.axes.specs.Mesh.{meshOf}
 use Rattle.dims.specs.Dims.{sizesOf}
 use Rattle.dims.proofs.Dims.{span-least}
-use Rattle.judge.proofs.Counting.{few}
-use Rattle.judge.proofs.Sound.{counts-of}
+use Rattle.rules.proofs.Lists.{few-distinct}
 use Rattle.plan.proofs.shard_words.Statement.{statement}
 use Rattle.plan.proofs.shard_words.Tie as tie
 
@@ -20,13 +20,12 @@ span-dims-requires : tie.Need-span-dims-requires
 span-dims-requires c κs =
     let r = c .pre .0 in
     let a = c .args in
-    let k = counts-of (r .sound) in
     let dims = flat (take (a .table .rank) (dimsOf (a .sharding))) in
     let u = axesOf (a .sharding .unreduced) in
     let cut = length-take (a .mesh .n) (a .mesh .sizes) in (
       r .fits .rank,
       r .fits .sized,
-      omega (arith, few (length (meshOf (a .mesh))) _ (k .below) (k .once), length-append dims u, r .fits .axes, cut),
+      omega (arith, few-distinct (length (meshOf (a .mesh))) (dims ++ u) (r .sound .once) (r .sound .of-mesh), length-append dims u, r .fits .axes, cut),
     )
 
 div-result : tie.Need-div-result

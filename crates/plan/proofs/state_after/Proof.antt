@@ -1,7 +1,7 @@
 use borrow.Author.Needs.{needs}
 use native.Mathlib.Omega.{arith}
-use mathlib.Core.Path.{sym, _∙_}
-use Rattle.plan.proofs.Wholes.{plan-held, whole-stopped, bounded}
+use Rattle.reader.proofs.Answers.{is-told, retold}
+use Rattle.plan.proofs.Wholes.{plan-held, whole-stopped}
 use Rattle.plan.proofs.States.{state-stops, no-such-state, state-is}
 use Rattle.plan.proofs.state_after.Statement.{statement}
 use Rattle.plan.proofs.state_after.Tie as tie
@@ -23,9 +23,9 @@ refused-requires c κs = search needs
 
 returns : tie.Need-returns
 returns c =
-    let j = c .before .before .before .before .judge-keeping .ensures .0 in
+    let j = c .before .before .before .before .before .judge-keeping .ensures .0 in
     let stop = state-stops _ _ (whole-stopped _ _ j (c .before .before .enum-told .given .1) (c .before .refusal .ensures)) in
-    (c .refused .ensures .0 ∙ sym stop, c .refused .ensures .1)
+    (retold (c .refused .ensures .0) stop, c .refused .ensures .1)
 
 refused-requires-2 : tie.Need-refused-requires-2
 refused-requires-2 c κs = search needs
@@ -33,24 +33,29 @@ refused-requires-2 c κs = search needs
 returns-2 : tie.Need-returns-2
 returns-2 c =
     let t = c .before .before .before .before in
-    let h = plan-held _ _ (t .before .before .judge-keeping .ensures .0) (t .next .given .1) in
-    (c .refused2 .ensures .0 ∙ sym (no-such-state _ _ h (c .before .if1 .taken)), c .refused2 .ensures .1)
+    let h = plan-held _ _ (t .before .before .before .judge-keeping .ensures .0) (t .next .given .1) in
+    (retold (c .refused2 .ensures .0) (no-such-state _ _ h (c .before .if1 .taken)), c .refused2 .ensures .1)
 
 shard-of-requires : tie.Need-shard-of-requires
 shard-of-requires c κs =
     let t = c .before .before .before .before .before .before in
-    let f = bounded _ (plan-held _ _ (t .before .before .judge-keeping .ensures .0) (t .next .given .1)) .fits in
+    let f = plan-held _ _ (t .before .before .before .judge-keeping .ensures .0) (t .next .given .1) .2 .ready .fits in
     (f .rank, f .sized)
 
 returns-3 : tie.Need-returns-3
 returns-3 c =
     let i = c .before .before .before .before in
     let t = i .before .before .before in
-    let j = t .before .before .judge-keeping .ensures in
+    let j = t .before .before .before .judge-keeping .ensures in
     let h = plan-held _ _ (j .0) (t .next .given .1) in
-    let f = bounded _ h .fits in (
-      state-is _ _ h (i .if1 .left) (j .1) (c .shard-of .result) (c .shard-of .ensures .1),
-      record { rank-is = c .shard-of .ensures .0; rank-few = omega (arith, c .shard-of .ensures .0, f .rank); axes-few = f .axes },
+    let f = h .2 .ready .fits in (
+      is-told (state-is _ _ h (i .if1 .left) _ (j .1) (c .shard-of .result) (c .shard-of .ensures .1)),
+      record {
+        counted = j .0 .counted;
+        rank-is = c .shard-of .ensures .0;
+        rank-few = omega (arith, c .shard-of .ensures .0, f .rank);
+        axes-few = f .axes;
+      },
     )
 
 pub state-after-spec : {M : Type 1} → statement M

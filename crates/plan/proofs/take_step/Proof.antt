@@ -1,11 +1,10 @@
 use borrow.Author.Needs.{needs}
-use mathlib.Core.Path.{sym, _∙_}
 use native.Mathlib.Omega.{arith}
 use lib.ListN.{length-map}
 use lib.Seq.{length-take-le}
 use Rattle.axes.specs.Mesh.{meshOf}
 use Rattle.dims.specs.Dims.{sizesOf}
-use Rattle.reader.proofs.Answers.{read-on, read-stopped}
+use Rattle.reader.proofs.Answers.{read-on, read-stopped, is-told, retold}
 use Rattle.plan.proofs.Takes.{fine, stopped, bytes-stop, judgement-stops, step-taken}
 use Rattle.plan.proofs.take_step.Statement.{statement}
 use Rattle.plan.proofs.take_step.Tie as tie
@@ -33,8 +32,8 @@ returns c =
     let g = p .before .before .good in
     let n-is = length-take-le (a .mesh .n) (a .mesh .sizes) (omega (arith, f .axes, simp length-map at (g .1 .1 .1 .0 .1 .1 .1 .0 .1 .0 .1))) in
     let rank-is = length-take-le (a .table .rank) (a .table .sizes) (omega (arith, f .rank, simp length-map at (g .1 .1 .1 .1 .0 .1 .1 .1 .0 .1 .0 .1))) in
-    let stop = read-stopped _ (p .read-step .ensures) (c .before .before .enum-told .given .1) (c .before .refusal .ensures) in
-    c .refused .ensures (a .table .rank) ∙ sym (bytes-stop (meshOf (a .mesh)) (sizesOf (a .table)) _ _ _ _ n-is rank-is stop)
+    let stop = read-stopped _ (p .read-step .ensures .reads) (c .before .before .enum-told .given .1) (c .before .refusal .ensures) in
+    retold (c .refused .ensures (a .table .rank)) (bytes-stop (meshOf (a .mesh)) (sizesOf (a .table)) _ _ _ _ n-is rank-is stop)
 
 judge-step-requires : tie.Need-judge-step-requires
 judge-step-requires c κs = search needs
@@ -60,9 +59,9 @@ returns-2 c =
     let g = p .before .before .good in
     let n-is = length-take-le (a .mesh .n) (a .mesh .sizes) (omega (arith, f .axes, simp length-map at (g .1 .1 .1 .0 .1 .1 .1 .0 .1 .0 .1))) in
     let rank-is = length-take-le (a .table .rank) (a .table .sizes) (omega (arith, f .rank, simp length-map at (g .1 .1 .1 .1 .0 .1 .1 .1 .0 .1 .0 .1))) in
-    let t = read-on _ (p .read-step .ensures) (q .before .before .next .given .1) in
-    let stop = stopped _ (q .judge-step .ensures) (c .before .before .enum-told3 .given .1) (c .before .refusal-of .ensures) in
-    c .refused2 .ensures (a .table .rank) ∙ sym (judgement-stops (meshOf (a .mesh)) (sizesOf (a .table)) _ _ _ _ n-is rank-is t stop)
+    let t = read-on _ (p .read-step .ensures .reads) (q .before .before .next .given .1) in
+    let stop = stopped _ (q .judge-step .ensures .0) (c .before .before .enum-told3 .given .1) (c .before .refusal-of .ensures) in
+    retold (c .refused2 .ensures (a .table .rank)) (judgement-stops (meshOf (a .mesh)) (sizesOf (a .table)) _ _ _ _ n-is rank-is t stop)
 
 returns-3 : tie.Need-returns-3
 returns-3 c =
@@ -73,9 +72,9 @@ returns-3 c =
     let g = p .before .before .good in
     let n-is = length-take-le (a .mesh .n) (a .mesh .sizes) (omega (arith, f .axes, simp length-map at (g .1 .1 .1 .0 .1 .1 .1 .0 .1 .0 .1))) in
     let rank-is = length-take-le (a .table .rank) (a .table .sizes) (omega (arith, f .rank, simp length-map at (g .1 .1 .1 .1 .0 .1 .1 .1 .0 .1 .0 .1))) in
-    let t = read-on _ (p .read-step .ensures) (q .before .before .next .given .1) in
-    let r = fine (q .judge-step .ensures) (c .before .enum-told2 .given .1) in
-    sym (step-taken (meshOf (a .mesh)) (sizesOf (a .table)) _ _ _ _ n-is rank-is t r)
+    let t = read-on _ (p .read-step .ensures .reads) (q .before .before .next .given .1) in
+    let r = fine (q .judge-step .ensures .0) (c .before .enum-told2 .given .1) in
+    is-told (step-taken (meshOf (a .mesh)) (sizesOf (a .table)) _ _ _ _ n-is rank-is t r)
 
 pub take-step-spec : {M : Type 1} → statement M
 take-step-spec =

@@ -50,7 +50,7 @@ refused-requires c κs = search needs
 
 returns : tie.Need-returns Inv-loop μ-loop
 returns c =
-    let stop = read-stopped _ (c .before .before .before .before .take-step .ensures) (c .before .before .enum-told .given .1) (c .before .refusal .ensures) in
+    let stop = read-stopped _ (c .before .before .before .before .take-step .ensures .reads) (c .before .before .enum-told .given .1) (c .before .refusal .ensures) in
     c .refused .ensures (c .before .before .before .before .before .before .before .before .before .before .args .table .rank) ∙ sym (halted _ _ _ (c .before .before .before .before .before .before .loop .inv) (c .before .before .before .before .before .loop-test .taken) stop)
 
 kept-until-requires : tie.Need-kept-until-requires Inv-loop μ-loop
@@ -59,7 +59,7 @@ kept-until-requires c κs = search needs
 shard-words-requires-2 : tie.Need-shard-words-requires-2 Inv-loop μ-loop
 shard-words-requires-2 c κs =
     let s = c .before .before .before .before .before .before .before .before .before .before .before in
-    let m = read-on _ (c .before .before .before .before .before .take-step .ensures) (c .before .before .before .next .given .1) in
+    let m = read-on _ (c .before .before .before .before .before .take-step .ensures .reads) (c .before .before .before .next .given .1) in
     (record { fits = s .pre .0 .fits; sound = sound-after _ _ _ (c .before .before .before .before .before .before .before .loop .inv) (s .pre .0 .fits .sized .least) (c .before .before .before .before .before .before .loop-test .taken) m }, c .before .before .before .before .before .before .before .before .before .words .ensures)
 
 larger-requires : tie.Need-larger-requires Inv-loop μ-loop
@@ -75,7 +75,7 @@ loop-again : tie.Need-loop-again Inv-loop μ-loop
 loop-again c =
     let s = c .before .before .before .before .before .before .before .before .before .before .before .before .before in
     let u = c .before .before .kept-until .ensures in
-    let m = read-on _ (c .before .before .before .before .before .before .before .take-step .ensures) (c .before .before .before .before .before .next .given .1) in
+    let m = read-on _ (c .before .before .before .before .before .before .before .take-step .ensures .reads) (c .before .before .before .before .before .next .given .1) in
     let rank = s .args .table .rank in
     onward _ _ _ (c .before .before .before .before .before .before .before .before .before .loop .inv) (s .pre .0 .fits .sized .least) (c .before .before .before .before .before .before .before .before .loop-test .taken) m _ _
     (λ h. ap (shardingOf rank) (u .0 h)) (λ h. ap (shardingOf rank) (u .1 h)) (c .larger .ensures ∙ ap (max _) (c .before .shard-words2 .ensures))

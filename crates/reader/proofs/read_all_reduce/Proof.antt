@@ -1,8 +1,7 @@
 use borrow.Author.Needs.{needs}
-use mathlib.Core.Path.{sym, _∙_}
 use denote.Ref.{now}
 use Rattle.rules.specs.Types.{axesOf}
-use Rattle.reader.proofs.Answers.{read-on, read-stopped}
+use Rattle.reader.proofs.Answers.{read-on, read-stopped, is-told, retold}
 use Rattle.reader.proofs.Stepping.{reduce-refused, reduce-whole}
 use Rattle.reader.proofs.read_all_reduce.Statement.{statement}
 use Rattle.reader.proofs.read_all_reduce.Tie as tie
@@ -27,7 +26,7 @@ returns c =
     let a = c .before .before .before .before .before .before .args in
     let r = c .before .before .before .before .read-list in
     let stopped = read-stopped (axesOf (r .result .list)) (r .ensures) (c .before .before .enum-told .given .1) (c .before .refusal .ensures) in
-    λ rank k. c .refused .ensures rank ∙ sym (reduce-refused (a .n) rank k (now (a .file)) (a .at) _ _ stopped)
+    λ rank k. retold (c .refused .ensures rank) (reduce-refused (a .n) rank k (now (a .file)) (a .at) _ _ stopped)
 
 replicated-requires : tie.Need-replicated-requires
 replicated-requires c κs = search needs
@@ -37,7 +36,7 @@ returns-2 c =
     let a = c .before .before .before .before .before .before .before .before .args in
     let r = c .before .before .before .before .before .before .read-list in
     let list = read-on (axesOf (r .result .list)) (r .ensures) (c .before .before .before .before .next .given .1) in
-    λ rank k. sym (reduce-whole (a .n) rank k (now (a .file)) (a .at) _ _ list)
+    λ rank k. is-told (reduce-whole (a .n) rank k (now (a .file)) (a .at) _ _ list)
 
 pub read-all-reduce-spec : {M : Type 1} → statement M
 read-all-reduce-spec =

@@ -1,10 +1,9 @@
 use Prim.Native.Nat.{_+_}
 use borrow.Author.Needs.{needs}
-use mathlib.Core.Path.{sym, _∙_}
 use native.Mathlib.Omega.{arith}
 use denote.Ref.{now}
 use Rattle.rules.specs.Types.{axesOf}
-use Rattle.reader.proofs.Answers.{read-on, read-stopped}
+use Rattle.reader.proofs.Answers.{read-on, read-stopped, is-told, retold}
 use Rattle.reader.proofs.Listing.{ByteIs, byte-is, byte-end}
 use Rattle.reader.proofs.Stepping.{dims-missing, to-all-refused, to-all-whole}
 use Rattle.reader.proofs.read_all_to_all.Statement.{statement}
@@ -37,7 +36,7 @@ returns : tie.Need-returns
 returns c =
     let a = c .before .before .before .before .before .args in
     let end = byte-end (now (a .file)) (a .at) (c .before .before .before .byte-at .ensures) (c .before .enum-told .given .1) in
-    λ rank k. c .refused .ensures rank ∙ sym (dims-missing (a .n) rank k (now (a .file)) (a .at) (omega arith))
+    λ rank k. retold (c .refused .ensures rank) (dims-missing (a .n) rank k (now (a .file)) (a .at) (omega arith))
 
 add-byte-at : tie.Need-add-byte-at
 add-byte-at c = omega (arith, source-is (c .before))
@@ -58,7 +57,7 @@ returns-2 : tie.Need-returns-2
 returns-2 c =
     let a = c .before .before .before .before .before .before .before .before .before .args in
     let end = byte-end (now (a .file)) (a .at + 1) (c .before .before .before .byte-at2 .ensures) (c .before .enum-told2 .given .1) in
-    λ rank k. c .refused2 .ensures rank ∙ sym (dims-missing (a .n) rank k (now (a .file)) (a .at) (omega arith))
+    λ rank k. retold (c .refused2 .ensures rank) (dims-missing (a .n) rank k (now (a .file)) (a .at) (omega arith))
 
 add-read-list : tie.Need-add-read-list
 add-read-list c = omega (arith, target-is (c .before))
@@ -85,7 +84,7 @@ returns-3 c =
     let r = p .read-list in
     let t = target-is (p .before .before) in
     let stopped = read-stopped (axesOf (r .result .list)) (r .ensures) (c .before .before .enum-told3 .given .1) (c .before .refusal .ensures) in
-    λ rank k. c .refused3 .ensures rank ∙ sym (to-all-refused (a .n) rank k (now (a .file)) (a .at) (omega arith) _ _ stopped)
+    λ rank k. retold (c .refused3 .ensures rank) (to-all-refused (a .n) rank k (now (a .file)) (a .at) (omega arith) _ _ stopped)
 
 replicated-requires : tie.Need-replicated-requires
 replicated-requires c κs = search needs
@@ -98,7 +97,7 @@ returns-4 c =
     let s = source-is (p .before .before .before .before .before .before) in
     let t = target-is (p .before .before) in
     let list = read-on (axesOf (r .result .list)) (r .ensures) (c .before .before .before .before .next .given .1) in
-    λ rank k. sym (to-all-whole (a .n) rank k (now (a .file)) (a .at) s t _ _ list)
+    λ rank k. is-told (to-all-whole (a .n) rank k (now (a .file)) (a .at) s t _ _ list)
 
 pub read-all-to-all-spec : {M : Type 1} → statement M
 read-all-to-all-spec =

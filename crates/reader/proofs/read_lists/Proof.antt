@@ -45,7 +45,7 @@ returns c =
     let r = p .read-list in
     let stopped = read-stopped (axesOf (r .result .list)) (r .ensures) (c .before .before .enum-told .given .1) (c .before .refusal .ensures) in
     let judged = list-refused (p .before .before .loop .inv) (p .before .loop-test .taken) _ _ stopped in
-    c .refused .ensures (p .before .before .before .before .before .before .before .args .rank) .0 ∙ sym judged
+    c .refused .ensures (p .before .before .before .before .before .before .before .args .rank) (omega arith) .0 ∙ sym judged
 
 mul-dims : tie.Need-mul-dims Inv-loop μ-loop
 mul-dims c = search needs

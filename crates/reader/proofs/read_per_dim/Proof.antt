@@ -1,9 +1,8 @@
 use borrow.Author.Needs.{needs}
-use mathlib.Core.Path.{sym, _∙_}
 use lib.ListN.{take}
 use denote.Ref.{now}
 use Rattle.rules.specs.Types.{dimsOf}
-use Rattle.reader.proofs.Answers.{read-on, read-stopped}
+use Rattle.reader.proofs.Answers.{read-on, read-stopped, is-told, retold}
 use Rattle.reader.proofs.Stepping.{per-dim-refused, per-dim-whole}
 use Rattle.reader.proofs.read_per_dim.Statement.{statement}
 use Rattle.reader.proofs.read_per_dim.Tie as tie
@@ -30,7 +29,7 @@ returns c =
     let r = c .before .before .before .before .read-lists in
     let lists = take (a .rank) (dimsOf (r .result .sharding)) in
     let stopped = read-stopped lists (r .ensures) (c .before .before .enum-told .given .1) (c .before .refusal .ensures) in
-    λ k. c .refused .ensures (a .rank) ∙ sym (per-dim-refused (a .n) (a .rank) k (now (a .file)) (a .at) (a .kind) (s .pre .2) _ _ stopped)
+    λ k. retold (c .refused .ensures (a .rank)) (per-dim-refused (a .n) (a .rank) k (now (a .file)) (a .at) (a .kind) (s .pre .2) _ _ stopped)
 
 returns-2 : tie.Need-returns-2
 returns-2 c =
@@ -38,7 +37,7 @@ returns-2 c =
     let a = s .args in
     let r = c .before .before .before .before .read-lists in
     let lists = read-on (take (a .rank) (dimsOf (r .result .sharding))) (r .ensures) (c .before .before .next .given .1) in
-    λ k. sym (per-dim-whole (a .n) (a .rank) k (now (a .file)) (a .at) (a .kind) (s .pre .2) _ _ lists)
+    λ k. is-told (per-dim-whole (a .n) (a .rank) k (now (a .file)) (a .at) (a .kind) (s .pre .2) _ _ lists)
 
 pub read-per-dim-spec : {M : Type 1} → statement M
 read-per-dim-spec =

@@ -1,12 +1,12 @@
 use borrow.Author.Needs.{needs}
-use mathlib.Core.Path.{_≡_, sym, _∙_}
+use mathlib.Core.Path.{_≡_}
 use native.Mathlib.Omega.{arith}
 use lib.ListN.{take}
 use denote.Ref.{now}
 use Rattle.rules.specs.Refusals.{accept}
 use Rattle.rules.specs.PlanFile.{listsAt}
 use Rattle.rules.specs.Types.{axesOf, dimsOf}
-use Rattle.reader.proofs.Answers.{read-on, read-stopped}
+use Rattle.reader.proofs.Answers.{read-on, read-stopped, is-told, retold}
 use Rattle.reader.proofs.Listing.{sharding-misplaced, dims-refused, unreduced-refused, sharding-whole}
 use Rattle.reader.proofs.read_sharding.Statement.{statement}
 use Rattle.reader.proofs.read_sharding.Tie as tie
@@ -24,7 +24,9 @@ refused-requires : tie.Need-refused-requires
 refused-requires c κs = search needs
 
 returns : tie.Need-returns
-returns c = c .refused .ensures (c .before .before .before .args .rank) .1 ∙ sym (sharding-misplaced _ _ _ _ _ (c .before .if1 .taken))
+returns c =
+    let s = c .before .before .before in
+    retold (c .refused .ensures (s .args .rank) (s .pre .1) .1) (sharding-misplaced _ _ _ _ _ (c .before .if1 .taken))
 
 read-lists-requires : tie.Need-read-lists-requires
 read-lists-requires c κs = search needs
@@ -48,7 +50,7 @@ returns-2 c =
     let r = p .read-lists in
     let dims = take (a .rank) (dimsOf (r .result .sharding)) in
     let stopped = read-stopped dims (r .ensures) (c .before .before .enum-told .given .1) (c .before .refusal .ensures) in
-    c .refused2 .ensures (a .rank) .1 ∙ sym (dims-refused (a .n) (a .rank) (a .offset) (now (a .file)) (a .at) (omega arith) _ _ stopped)
+    retold (c .refused2 .ensures (a .rank) (omega arith) .1) (dims-refused (a .n) (a .rank) (a .offset) (now (a .file)) (a .at) (omega arith) _ _ stopped)
 
 read-list-requires : tie.Need-read-list-requires
 read-list-requires c κs = search needs
@@ -69,10 +71,11 @@ returns-3 : tie.Need-returns-3
 returns-3 c =
     let p = c .before .before .before .before in
     let a = p .before .before .before .before .before .before .before .before .before .args in
+    let h = p .before .before .before .before .before .before .before .before .before .pre .1 in
     let r = p .read-list in
     let stopped = read-stopped (axesOf (r .result .list)) (r .ensures) (c .before .before .enum-told2 .given .1) (c .before .refusal2 .ensures) in
     let refused = unreduced-refused (a .n) (a .rank) (a .offset) (now (a .file)) (a .at) (omega arith) in
-    c .refused3 .ensures (a .rank) .1 ∙ sym (refused _ _ (dims-are (p .before .before .before .before)) _ _ stopped)
+    retold (c .refused3 .ensures (a .rank) h .1) (refused _ _ (dims-are (p .before .before .before .before)) _ _ stopped)
 
 returns-4 : tie.Need-returns-4
 unfolding dimsOf
@@ -82,7 +85,7 @@ returns-4 c =
     let r = p .read-list in
     let unreduced = read-on (axesOf (r .result .list)) (r .ensures) (c .before .before .after .given .1) in
     let whole = sharding-whole (a .n) (a .rank) (a .offset) (now (a .file)) (a .at) (omega arith) in
-    sym (whole _ _ (dims-are (p .before .before .before .before)) _ _ unreduced)
+    is-told (whole _ _ (dims-are (p .before .before .before .before)) _ _ unreduced)
 
 pub read-sharding-spec : {M : Type 1} → statement M
 read-sharding-spec =

@@ -1,17 +1,18 @@
 use Prim.Native.Nat.{_-_}
 use borrow.Author.Needs.{needs}
-use mathlib.Core.Path.{refl, sym, _∙_}
+use mathlib.Core.Path.{refl}
 use native.Mathlib.Omega.{arith}
 use native.Mathlib.Nat.{mul-le-mul}
 use Rattle.rules.specs.Limits.{mostWords}
 use Rattle.rules.specs.Refusals.{numberOf}
-use Rattle.reader.proofs.Sizing.{Going, start, wrong-offset, no-room, at-zero, at-over, step, at-end}
+use Rattle.reader.proofs.Answers.{is-told, retold}
+use Rattle.reader.proofs.Sizing.{Sizing, start, wrong-offset, no-room, at-zero, at-over, step, at-end}
 use Rattle.reader.proofs.read_sizes.Statement.{statement}
 use Rattle.reader.proofs.read_sizes.Tie as tie
 
 abbrev Inv-loop : tie.InvT-loop
 Inv-loop file at offset count most zero over sizes₀ product₀ i₀ sizes product i =
-    Going file at count most (numberOf zero) (numberOf over) sizes product i
+    Sizing file at count most (numberOf zero) (numberOf over) sizes product i
 
 abbrev μ-loop : tie.MeasureT-loop
 μ-loop file at offset count most zero over sizes₀ product₀ i₀ sizes product i = count - i
@@ -20,7 +21,9 @@ refused-for-requires : tie.Need-refused-for-requires Inv-loop μ-loop
 refused-for-requires c κs = search needs
 
 returns : tie.Need-returns Inv-loop μ-loop
-returns c = let r = c .refused-for .ensures (c .before .before .before .args .count) in (r .0 ∙ sym (wrong-offset _ _ _ _ _ _ _ (omega arith)), r .1)
+returns c =
+    let r = c .refused-for .ensures (c .before .before .before .args .count) (omega arith) in
+    (retold (r .0) (wrong-offset _ _ _ _ _ _ _ (omega arith)), r .1)
 
 sub-if2 : tie.Need-sub-if2 Inv-loop μ-loop
 sub-if2 c = omega arith
@@ -33,8 +36,8 @@ refused-for-requires-2 c κs = search needs
 
 returns-2 : tie.Need-returns-2 Inv-loop μ-loop
 returns-2 c =
-    let r = c .refused-for2 .ensures (c .before .before .before .before .args .count) in
-    (r .0 ∙ sym (no-room _ _ _ _ _ _ _ (omega arith) (omega arith)), r .1)
+    let r = c .refused-for2 .ensures (c .before .before .before .before .args .count) (omega arith) in
+    (retold (r .0) (no-room _ _ _ _ _ _ _ (omega arith) (omega arith)), r .1)
 
 loop-holds : tie.Need-loop-holds Inv-loop μ-loop
 loop-holds c = start _ _ _ _ _ _ _ refl
@@ -53,11 +56,11 @@ refused-for-requires-3 c κs = search needs
 
 returns-3 : tie.Need-returns-3 Inv-loop μ-loop
 returns-3 c =
-    let r = c .refused-for3 .ensures (c .before .before .before .before .before .before .before .before .args .count) in
+    let r = c .refused-for3 .ensures (c .before .before .before .before .before .before .before .before .args .count) (omega arith) in
     let p = c .before .before in
     let size = p .u16-at in
     let zero = at-zero (p .before .before .loop .inv) (size .result) (p .before .loop-test .taken) (size .ensures .0) in
-    (r .0 ∙ sym (zero (omega arith) (c .before .if3 .taken)), r .1)
+    (retold (r .0) (zero (omega arith) (c .before .if3 .taken)), r .1)
 
 mul-product : tie.Need-mul-product Inv-loop μ-loop
 mul-product c =
@@ -70,11 +73,11 @@ refused-for-requires-4 c κs = search needs
 
 returns-4 : tie.Need-returns-4 Inv-loop μ-loop
 returns-4 c =
-    let r = c .refused-for4 .ensures (c .before .before .before .before .before .before .before .before .before .args .count) in
+    let r = c .refused-for4 .ensures (c .before .before .before .before .before .before .before .before .before .args .count) (omega arith) in
     let p = c .before .before .before in
     let size = p .u16-at in
     let over = at-over (p .before .before .loop .inv) (size .result) (p .before .loop-test .taken) (size .ensures .0) in
-    (r .0 ∙ sym (over (omega arith) (c .before .before .if3 .left) (c .before .if4 .taken)), r .1)
+    (retold (r .0) (over (omega arith) (c .before .before .if3 .left) (c .before .if4 .taken)), r .1)
 
 cast-sizes : tie.Need-cast-sizes Inv-loop μ-loop
 cast-sizes c = let size = c .before .before .u16-at .ensures .1 in omega arith
@@ -107,7 +110,7 @@ add-t15 c = omega arith
 returns-5 : tie.Need-returns-5 Inv-loop μ-loop
 returns-5 c =
     let e = at-end (c .before .loop .inv) {offset = c .before .before .before .before .before .args .offset} (omega arith) (c .loop-test .left) in
-    (sym (e .0), e .1)
+    (is-told (e .0), e .1)
 
 pub read-sizes-spec : {M : Type 1} → statement M
 read-sizes-spec =

@@ -1,9 +1,10 @@
 use Prim.Native.Nat.{_+_}
 use borrow.Author.Needs.{needs}
-use mathlib.Core.Path.{_≡_, sym, _∙_}
+use mathlib.Core.Path.{_≡_, _∙_}
 use native.Mathlib.Omega.{arith}
 use denote.Ref.{now}
 use Rattle.rules.specs.PlanFile.{listsOf, stepAt}
+use Rattle.reader.proofs.Answers.{retold}
 use Rattle.reader.proofs.Listing.{ByteIs, byte-is, byte-end}
 use Rattle.reader.proofs.Stepping.{no-kind, by-kind, unknown}
 use Rattle.reader.proofs.read_step.Statement.{statement}
@@ -37,7 +38,7 @@ returns : tie.Need-returns
 returns c =
     let a = c .before .before .before .before .before .args in
     let end = byte-end (now (a .file)) (a .at) (c .before .before .before .byte-at .ensures) (c .before .enum-told .given .1) in
-    c .refused .ensures (a .rank) ∙ sym (no-kind (a .n) (a .rank) (a .k) (now (a .file)) (a .at) end)
+    retold (c .refused .ensures (a .rank)) (no-kind (a .n) (a .rank) (a .k) (now (a .file)) (a .at) end)
 
 kind-of-requires : tie.Need-kind-of-requires
 kind-of-requires c κs = search needs
@@ -87,31 +88,31 @@ refused-requires-2 c κs = search needs
 returns-2 : tie.Need-returns-2
 returns-2 c =
     let p = c .before .before .before in
-    c .read-per-dim .ensures (p .before .before .before .before .before .before .args .k) ∙ sym (kind-is p)
+    retold (c .read-per-dim .ensures (p .before .before .before .before .before .before .args .k)) (kind-is p)
 
 returns-3 : tie.Need-returns-3
 returns-3 c =
     let p = c .before .before .before in
-    c .read-per-dim2 .ensures (p .before .before .before .before .before .before .args .k) ∙ sym (kind-is p)
+    retold (c .read-per-dim2 .ensures (p .before .before .before .before .before .before .args .k)) (kind-is p)
 
 returns-4 : tie.Need-returns-4
 returns-4 c =
     let p = c .before .before .before in
     let a = p .before .before .before .before .before .before .args in
-    c .read-all-reduce .ensures (a .rank) (a .k) ∙ sym (rw (c .before .enum-told4 .given .1) at (kind-is p))
+    retold (c .read-all-reduce .ensures (a .rank) (a .k)) (rw (c .before .enum-told4 .given .1) at (kind-is p))
 
 returns-5 : tie.Need-returns-5
 returns-5 c =
     let p = c .before .before .before in
     let a = p .before .before .before .before .before .before .args in
-    c .read-all-to-all .ensures (a .rank) (a .k) ∙ sym (rw (c .before .enum-told5 .given .1) at (kind-is p))
+    retold (c .read-all-to-all .ensures (a .rank) (a .k)) (rw (c .before .enum-told5 .given .1) at (kind-is p))
 
 returns-6 : tie.Need-returns-6
 returns-6 c =
     let p = c .before .before .before in
     let a = p .before .before .before .before .before .before .args in
     let judged = kind-is p ∙ unknown (a .n) (a .rank) (a .k) (now (a .file)) (a .at + 1) (c .before .enum-told6 .given .1) in
-    c .refused2 .ensures (a .rank) ∙ sym judged
+    retold (c .refused2 .ensures (a .rank)) judged
 
 pub read-step-spec : {M : Type 1} → statement M
 read-step-spec =

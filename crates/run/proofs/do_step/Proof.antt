@@ -48,7 +48,7 @@ step-from-requires c κs =
     let t = b .before .take-step in
     let s = b .before .before .before .before .before in
     let l = sym (slice-aggregate-step-from-2 c) ∙ b .shard-of .ensures .0 in
-    turn-asks (t .result) (s .pre) (t .ensures) (b .shard-of .ensures .1) l (u .words .ensures ∙ ap product (u .before .shard-of2 .ensures .1))
+    turn-asks (t .result) (s .pre) (t .ensures .reads) (b .shard-of .ensures .1) l (u .words .ensures ∙ ap product (u .before .shard-of2 .ensures .1))
 
 same-length : tie.Need-same-length
 same-length c = search needs
@@ -64,7 +64,7 @@ returns c =
     let t = b .before .take-step in
     let s = b .before .before .before .before .before in
     let l = sym (slice-aggregate-step-from-2 (o .before)) ∙ b .shard-of .ensures .0 in
-    turned (t .result) (s .pre) (t .ensures) (b .shard-of .ensures .1) l (u .words .ensures ∙ ap product (u .before .shard-of2 .ensures .1)) _ _
+    turned (t .result) (s .pre) (t .ensures .reads) (b .shard-of .ensures .1) l (u .words .ensures ∙ ap product (u .before .shard-of2 .ensures .1)) _ _
     (o .step-from .ensures .0) (o .step-from .ensures .1)
 
 pub do-step-spec : {M : Type 1} → statement M

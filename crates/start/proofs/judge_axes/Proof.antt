@@ -1,28 +1,28 @@
 use borrow.Author.Needs.{needs}
 use Prim.Native.Nat.{_-_}
 use mathlib.Core.Bool.{false}
-use mathlib.Core.List.{[]}
-use mathlib.Core.Path.{refl, sym}
-use lib.ListN.{length}
+use mathlib.Core.Path.{refl}
+use lib.ListN.{length, replicate}
+use Rattle.rules.specs.Limits.{mostAxes}
+use Rattle.axes.proofs.Naming.{none-marked}
 use Rattle.start.proofs.Turn.{Turning, turning, turn-stops, turn-passes, turn-ends}
 use Rattle.start.proofs.judge_axes.Statement.{statement}
 use Rattle.start.proofs.judge_axes.Tie as tie
-use Rattle.axes.proofs.Naming.{none-marked}
 
 abbrev Inv-loop : tie.InvT-loop
-Inv-loop axes n marks₀ i₀ marks i = Turning n false [] axes marks 0 (length axes) i
+Inv-loop axes n marks₀ i₀ marks i = Turning n false (replicate mostAxes false) axes marks 0 (length axes) i
 
 abbrev μ-loop : tie.MeasureT-loop
 μ-loop axes n marks₀ i₀ marks i = length axes - i
 
 loop-holds : tie.Need-loop-holds Inv-loop μ-loop
-loop-holds c = turning _ _ [] _ _ _ refl none-marked
+loop-holds c = turning _ _ _ _ _ refl
 
 shared-slice-read-t10 : tie.Need-shared-slice-read-t10 Inv-loop μ-loop
 shared-slice-read-t10 c = search needs
 
 slice-aggregate-judge-axis : tie.Need-slice-aggregate-judge-axis Inv-loop μ-loop
-slice-aggregate-judge-axis c = search (needs, c .before .before .before .loop .inv .marks .0)
+slice-aggregate-judge-axis c = search (needs, c .before .before .before .loop .inv .places)
 
 judge-axis-requires : tie.Need-judge-axis-requires Inv-loop μ-loop
 judge-axis-requires c κs = search needs
@@ -35,11 +35,11 @@ enum-told-2 c = search needs
 
 returns : tie.Need-returns Inv-loop μ-loop
 returns c =
-    let g = c .before .before .before .before .before .before .loop .inv in
-    turn-stops g (c .before .before .before .before .before .loop-test .taken) _ refl _ (c .before .before .judge-axis .ensures _ (g .marks)) _ (c .enum-told2 .given .1)
+    rw (← none-marked) (turn-stops (c .before .before .before .before .before .before .loop .inv) (c .before .before .before .before .before .loop-test .taken) _ refl
+    (c .before .before .judge-axis .ensures) (c .enum-told2 .given .1) .0)
 
 slice-aggregate-mark : tie.Need-slice-aggregate-mark Inv-loop μ-loop
-slice-aggregate-mark c = search (needs, c .before .before .before .before .before .before .before .loop .inv .marks .0)
+slice-aggregate-mark c = search (needs, c .before .before .before .before .before .before .before .loop .inv .places)
 
 mark-requires : tie.Need-mark-requires Inv-loop μ-loop
 mark-requires c κs = search needs
@@ -52,11 +52,13 @@ loop-less c = search needs
 
 loop-again : tie.Need-loop-again Inv-loop μ-loop
 loop-again c =
-    let g = c .before .before .before .before .before .before .before .before .before .loop .inv in
-    turn-passes g (c .before .before .before .before .before .before .before .before .loop-test .taken) _ refl _ (c .before .before .before .before .before .judge-axis .ensures _ (g .marks)) (c .before .before .before .enum-told .given .1) _ (c .before .mark .ensures) 0 refl
+    let l = c .before .before .before .before .before .before .before .before .before in
+    turn-passes (l .loop .inv) (c .before .before .before .before .before .before .before .before .loop-test .taken) _ refl
+    (c .before .before .before .before .before .judge-axis .ensures) (l .before .before .pre) (c .before .before .before .enum-told .given .1)
+    (c .before .mark .ensures) refl
 
 returns-2 : tie.Need-returns-2 Inv-loop μ-loop
-returns-2 c = sym (turn-ends (c .before .loop .inv) (c .loop-test .left))
+returns-2 c = rw (← none-marked) (turn-ends (c .before .loop .inv) (c .loop-test .left) .0)
 
 pub judge-axes-spec : {M : Type 1} → statement M
 judge-axes-spec =

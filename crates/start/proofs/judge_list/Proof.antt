@@ -1,21 +1,12 @@
 use borrow.Author.Needs.{needs}
-use Prim.Native.Nat.{ℕ, _-_}
-use mathlib.Core.List.{List}
-use native.Mathlib.Omega.{arith}
-use mathlib.Core.Path.{_≡_, refl, sym, _∙_}
-use lib.ListN.{length}
-use lib.Seq.{take-all}
+use Prim.Native.Nat.{_-_}
 use Rattle.rules.specs.Types.{axesOf}
-use Rattle.axes.specs.Marks.{StandFor}
-use Rattle.start.proofs.Verdicts.{not-fine}
 use Rattle.start.proofs.Turn.{Turning, turning, turn-stops, turn-passes, turn-ends}
 use Rattle.start.proofs.judge_list.Statement.{statement}
 use Rattle.start.proofs.judge_list.Tie as tie
 
 abbrev Inv-loop : tie.InvT-loop
-Inv-loop list n increasing marks₀ count low₀ i₀ marks low i =
-    (length marks ≡ length marks₀)
-    × ((before : List ℕ) → StandFor marks₀ before → Turning n increasing before (axesOf list) marks low count i)
+Inv-loop list n increasing marks₀ count low₀ i₀ marks low i = Turning n increasing marks₀ (axesOf list) marks low count i
 
 abbrev μ-loop : tie.MeasureT-loop
 μ-loop list n increasing marks₀ count low₀ i₀ marks low i = count - i
@@ -24,7 +15,7 @@ len-requires : tie.Need-len-requires Inv-loop μ-loop
 len-requires c κs = search needs
 
 loop-holds : tie.Need-loop-holds Inv-loop μ-loop
-loop-holds c = (refl, λ before s. turning _ _ before _ _ _ (c .len .ensures) s)
+loop-holds c = turning _ _ _ _ _ (c .len .ensures)
 
 at-requires : tie.Need-at-requires Inv-loop μ-loop
 at-requires c κs = search needs
@@ -39,15 +30,12 @@ enum-told-2 : tie.Need-enum-told-2 Inv-loop μ-loop
 enum-told-2 c = search needs
 
 same-length : tie.Need-same-length Inv-loop μ-loop
-same-length c = c .before .before .before .before .before .before .loop .inv .0
+same-length c = c .before .before .before .before .before .before .loop .inv .places
 
 returns : tie.Need-returns Inv-loop μ-loop
-returns c = (
-  λ before s.
-      let g = c .before .before .before .before .before .before .loop .inv .1 before s in
-      turn-stops g (c .before .before .before .before .before .loop-test .taken) _ (c .before .before .before .before .at .ensures) _ (c .before .before .judge-axis .ensures _ (g .marks)) _ (c .enum-told2 .given .1),
-  λ before s e. not-fine (c .enum-told2 .given .1) e,
-)
+returns c =
+    turn-stops (c .before .before .before .before .before .before .loop .inv) (c .before .before .before .before .before .loop-test .taken) _
+    (c .before .before .before .before .at .ensures) (c .before .before .judge-axis .ensures) (c .enum-told2 .given .1)
 
 mark-requires : tie.Need-mark-requires Inv-loop μ-loop
 mark-requires c κs = search needs
@@ -62,24 +50,18 @@ loop-less : tie.Need-loop-less Inv-loop μ-loop
 loop-less c = search needs
 
 loop-again : tie.Need-loop-again Inv-loop μ-loop
-loop-again c = (
-  c .before .before .before .mark .kept .0 ∙ c .before .before .before .before .before .before .before .before .before .before .before .loop .inv .0,
-  λ before s.
-      let g = c .before .before .before .before .before .before .before .before .before .before .before .loop .inv .1 before s in
-      turn-passes g (c .before .before .before .before .before .before .before .before .before .before .loop-test .taken) _ (c .before .before .before .before .before .before .before .before .before .at .ensures) _ (c .before .before .before .before .before .before .before .judge-axis .ensures _ (g .marks)) (c .before .before .before .before .before .enum-told .given .1) _
-      (c .before .before .before .mark .ensures) _ (c .next-low .ensures),
-)
+loop-again c =
+    let l = c .before .before .before .before .before .before .before .before .before .before .before in
+    turn-passes (l .loop .inv) (c .before .before .before .before .before .before .before .before .before .before .loop-test .taken) _
+    (c .before .before .before .before .before .before .before .before .before .at .ensures)
+    (c .before .before .before .before .before .before .before .judge-axis .ensures) (l .before .before .before .pre)
+    (c .before .before .before .before .before .enum-told .given .1) (c .before .before .before .mark .ensures) (c .next-low .ensures)
 
 same-length-2 : tie.Need-same-length-2 Inv-loop μ-loop
-same-length-2 c = c .before .loop .inv .0
+same-length-2 c = c .before .loop .inv .places
 
 returns-2 : tie.Need-returns-2 Inv-loop μ-loop
-returns-2 c = (
-  λ before s. sym (turn-ends (c .before .loop .inv .1 before s) (c .loop-test .left)),
-  λ before s e.
-      let g = c .before .loop .inv .1 before s in
-      rw (← (take-all (c .before .loop .i) (axesOf (c .before .before .before .before .args .list)) (omega (arith, g .along .size, c .loop-test .left)))) (g .marks),
-)
+returns-2 c = turn-ends (c .before .loop .inv) (c .loop-test .left)
 
 pub judge-list-spec : {M : Type 1} → statement M
 judge-list-spec =

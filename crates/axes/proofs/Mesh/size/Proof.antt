@@ -4,8 +4,6 @@ use lib.ListN.{length-map}
 use Rattle.axes.proofs.Lists.{size-in, size-past}
 use Rattle.axes.proofs.Mesh.size.Statement.{statement}
 use Rattle.axes.proofs.Mesh.size.Tie as tie
-use Rattle.axes.proofs.Mesh.size.Reads as reads
-use Rattle.axes.proofs.Mesh.size.Lts as lts
 
 cast-i : tie.Need-cast-i
 cast-i c = search needs

@@ -1,2 +1,0 @@
--- The promises, from those of the crates below.
-pub mod Promises

@@ -1,2 +1,0 @@
--- The promises of the library.
-pub mod Promises

@@ -1,0 +1,61 @@
+-- Lists that a slice joins to a sharding's have places: no axis is named twice, and a mesh has no more axes than a list has places.
+-- Of an all-slice `fresh-room`, of the second half of an all-to-all `moved-room`. Assumes nothing.
+use Prim.Native.Nat.{ℕ, _≤_, _<_}
+use mathlib.Core.Path.{_≡_, sym, _∙_, subst}
+use mathlib.Core.Logic.{⊎-elim}
+use mathlib.Core.List.{List, [], _++_}
+use native.Mathlib.Omega.{arith}
+use lib.Dec.{T}
+use lib.ListN.{length, getD, length-append}
+use Rattle.rules.specs.Lists.{each, both, flat, In, Distinct}
+use Rattle.rules.specs.Limits.{mostAxes}
+use Rattle.rules.specs.Sharding.{Sharding, IsSharding, named}
+use Rattle.rules.specs.Collectives.{only, cutTail, gathered}
+use Rattle.rules.specs.PlanFile.{allBelow, fresh, isTail}
+use Rattle.rules.proofs.Lists.{in-left, in-append, at-flat, distinct-split, distinct-append, distinct-at, few-distinct, Apart}
+use Rattle.rules.proofs.Judging.{allBelow-lt, fresh-distinct}
+use Rattle.rules.proofs.Steps.{flat-only, Gathered, gather-sharding}
+use Rattle.dims.specs.Dims.{Room}
+
+room : (n : ℕ) (ds Ss : List (List ℕ)) → n ≤ mostAxes → Apart ds Ss → ((a : ℕ) → In a (flat ds) → a < n) → ((a : ℕ) → In a (flat Ss) → a < n)
+    → Room ds Ss
+room n ds Ss w p h k d =
+    let l = getD ds d [] in
+    let t = getD Ss d [] in
+    let off : (a : ℕ) → In a t → ¬ In a l = λ a i j. p .off a (at-flat a Ss d i) (at-flat a ds d j) in
+    let below : (a : ℕ) → In a (l ++ t) → a < n = λ a i. ⊎-elim (λ j. h a (at-flat a ds d j)) (λ j. k a (at-flat a Ss d j)) (in-append a l t i) in
+    omega (
+      arith,
+      length-append l t,
+      few-distinct n (l ++ t) (distinct-append l t (distinct-at ds d (p .left)) (distinct-at Ss d (p .right)) off) below,
+    )
+
+module _ (mesh sizes : List ℕ) (s : Sharding) (g : IsSharding mesh sizes s) (w : length mesh ≤ mostAxes) where
+  in-dims : (a : ℕ) → In a (flat (s .dims)) → a < length mesh
+  in-dims a i = g .of-mesh a (in-left a (flat (s .dims)) (s .unreduced) i)
+
+  pub fresh-room : (Ss : List (List ℕ)) → T (allBelow (length mesh) (flat Ss)) → T (fresh (named s) (flat Ss)) → Room (s .dims) Ss
+  fresh-room Ss b f =
+      let r = fresh-distinct (named s) (flat Ss) f in
+      room (length mesh) (s .dims) Ss w (record {
+        left = distinct-split (flat (s .dims)) (s .unreduced) (g .once) .0;
+        right = r .0;
+        off = λ a i j. r .1 a i (in-left a (flat (s .dims)) (s .unreduced) j);
+      }) in-dims (allBelow-lt (length mesh) (flat Ss) b)
+
+  module _ (pos : (a : ℕ) → 0 < getD mesh a 1) (source target : ℕ) (L : List ℕ) (b : T (allBelow (length mesh) L)) (rank : ℕ) (p : source < rank)
+      (q : target < rank) (t : T (both isTail (s .dims) (only rank source L))) where
+    pub moved-room : Room (gathered (only rank source L) s .dims) (only rank target L)
+    unfolding gathered
+    moved-room =
+        let Gs : List (List ℕ) = only rank source L in
+        let Ss : List (List ℕ) = only rank target L in
+        let e : Gathered mesh sizes pos Gs s = gather-sharding mesh sizes pos Gs s g (record { tailed = t }) in
+        let gs : flat Gs ≡ L = flat-only rank source L p in
+        let ss : flat Ss ≡ L = flat-only rank target L q in
+        room (length mesh) (each cutTail (s .dims) Gs) Ss w (record {
+          left = e .apart .left;
+          right = subst Distinct (gs ∙ sym ss) (e .apart .right);
+          off = λ a i. e .apart .off a (subst (In a) (ss ∙ sym gs) i);
+        }) (λ a i. e .after-it .of-mesh a (in-left a (flat (each cutTail (s .dims) Gs)) (s .unreduced) i))
+        (λ a i. allBelow-lt (length mesh) L b a (subst (In a) ss i))

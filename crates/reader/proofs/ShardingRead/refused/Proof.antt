@@ -1,0 +1,20 @@
+use borrow.Author.Needs.{needs}
+use mathlib.Core.List.{List, []}
+use mathlib.Core.Path.{refl, ap, _∙_}
+use Prim.Native.Nat.{ℕ}
+use lib.ListN.{take}
+use Rattle.rules.specs.Limits.{mostDims}
+use Rattle.rules.proofs.Lists.{take-replicate}
+use Rattle.reader.proofs.ShardingRead.refused.Statement.{statement}
+use Rattle.reader.proofs.ShardingRead.refused.Tie as tie
+
+replicated-requires : tie.Need-replicated-requires
+replicated-requires c κs = search needs
+
+returns : tie.Need-returns
+returns c = λ rank h.
+    let dims = ap (take rank) (c .replicated .ensures .0) ∙ take-replicate {A = List ℕ} [] rank mostDims h in
+    (refl, record { reads = refl; beside = λ i. record { dims = dims i; unreduced = c .replicated .ensures .1 i } })
+
+pub refused-spec : {M : Type 1} → statement M
+refused-spec = tie.close (tie.spec replicated-requires returns)

@@ -1,0 +1,70 @@
+-- Answers of the check and of the placement on plans of the ledger, every place of them as the code holds it. Assumes nothing.
+use Prim.Native.Nat.{ℕ}
+use mathlib.Core.Path.{_≡_, refl}
+use mathlib.Core.List.{List, [], _∷_, map}
+use lib.ListN.{replicate}
+use Rattle.rules.specs.Types.{dimsOf, shardingOf, listFrom}
+use Rattle.rules.specs.Refusals.{reasonOf}
+use Rattle.rules.specs.Calls.{checkOf, checkedOf, placeOf, placedOf}
+use Rattle.rules.specs.Ledger.{fileOf, w1, w4}
+use Rattle.rules.specs.declared.AxisList.{AxisList}
+use Rattle.rules.specs.declared.Sharding.{Sharding}
+use Rattle.rules.specs.declared.Reason.the-variants.{NotTail, NoSuchDevice}
+use Rattle.rules.specs.declared.CheckOutcome.the-variants as check
+use Rattle.rules.specs.declared.PlaceOutcome.the-variants as place
+
+abbrev list : ℕ → List ℕ → AxisList
+list count places = record { count = count; axes = map (λ (a : ℕ). record { 0 = a }) places }
+
+abbrev none : AxisList
+none = list 0 (0 ∷ 0 ∷ 0 ∷ 0 ∷ 0 ∷ 0 ∷ [])
+
+-- the last sharding of W1; that of W4; and no axes at all
+abbrev split : Sharding
+split = record { dims = list 1 (0 ∷ 0 ∷ 0 ∷ 0 ∷ 0 ∷ 0 ∷ []) ∷ none ∷ none ∷ none ∷ []; unreduced = none }
+
+abbrev turned : Sharding
+turned = record { dims = list 2 (1 ∷ 0 ∷ 0 ∷ 0 ∷ 0 ∷ 0 ∷ []) ∷ none ∷ none ∷ none ∷ []; unreduced = none }
+
+abbrev nowhere : Sharding
+nowhere = record { dims = none ∷ none ∷ none ∷ none ∷ []; unreduced = none }
+
+pub places :
+    -- the check: W1, and W6 with gather [1]
+    (checkedOf (checkOf w1) ≡ record {
+      outcome = check.Passed (record { room = 32; devices = 4; steps = 1; rank = 2 });
+      sharding = split;
+      shard = 2 ∷ 4 ∷ 0 ∷ 0 ∷ [];
+    })
+    × (checkedOf (checkOf (w4 ((2 ∷ 1 ∷ 1 ∷ []) ∷ [])))
+    ≡ record { outcome = check.Refused (record { reason = NotTail; step = 1 }); sharding = nowhere; shard = 0 ∷ 0 ∷ 0 ∷ 0 ∷ [] })
+    -- mesh 2x2x2x2, table 4x2, sharding [[3, 0], [2]], unreduced [1]
+    × (checkedOf (checkOf (fileOf (2 ∷ 2 ∷ 2 ∷ 2 ∷ []) (4 ∷ 2 ∷ []) ((3 ∷ 0 ∷ []) ∷ (2 ∷ []) ∷ (1 ∷ []) ∷ []) [])) ≡ record {
+      outcome = check.Passed (record { room = 16; devices = 16; steps = 0; rank = 2 });
+      sharding = record {
+        dims = list 2 (3 ∷ 0 ∷ 0 ∷ 0 ∷ 0 ∷ 0 ∷ []) ∷ list 1 (2 ∷ 0 ∷ 0 ∷ 0 ∷ 0 ∷ 0 ∷ []) ∷ none ∷ none ∷ [];
+        unreduced = list 1 (1 ∷ 0 ∷ 0 ∷ 0 ∷ 0 ∷ 0 ∷ []);
+      };
+      shard = 1 ∷ 1 ∷ 0 ∷ 0 ∷ [];
+    })
+    -- the placement: W4, device 1; W1 after its step, device 3; W4, device 4
+    × (placedOf (placeOf (w4 []) 0 1)
+    ≡ record { outcome = place.Found 1; sharding = turned; shard = 1 ∷ 0 ∷ 0 ∷ 0 ∷ []; first = 2 ∷ 0 ∷ 0 ∷ 0 ∷ [] })
+    × (placedOf (placeOf w1 1 3)
+    ≡ record { outcome = place.Found 2; sharding = split; shard = 2 ∷ 4 ∷ 0 ∷ 0 ∷ []; first = 2 ∷ 0 ∷ 0 ∷ 0 ∷ [] })
+    × (placedOf (placeOf (w4 []) 0 4) ≡ record {
+      outcome = place.Refused (record { reason = NoSuchDevice; step = 0 });
+      sharding = nowhere;
+      shard = 0 ∷ 0 ∷ 0 ∷ 0 ∷ [];
+      first = 0 ∷ 0 ∷ 0 ∷ 0 ∷ [];
+    })
+unfolding fileOf checkOf placeOf listFrom reasonOf
+places = (refl, refl, refl, refl, refl, refl)
+
+-- of a table of two dimensions the first two lists count, and of a list as many places as it counts
+counted : shardingOf 2 (record {
+  dims = list 2 (3 ∷ 1 ∷ 9 ∷ 9 ∷ 9 ∷ 9 ∷ []) ∷ list 0 (replicate 6 9) ∷ list 1 (replicate 6 9) ∷ list 6 (replicate 6 9) ∷ [];
+  unreduced = list 1 (2 ∷ 9 ∷ 9 ∷ 9 ∷ 9 ∷ 9 ∷ []);
+}) ≡ record { dims = (3 ∷ 1 ∷ []) ∷ [] ∷ []; unreduced = 2 ∷ [] }
+unfolding dimsOf
+counted = refl
