@@ -97,7 +97,7 @@ module _ {p : Plan} (a : AcceptedPlan p) where
         divides = groups-devices (p .mesh) (named (announced p k)) (s .once) (s .of-mesh);
       }
 
-  -- "so at most 1,048,576 words"
+  -- "so at most" so many words
   pub room-few : room p ≤ mostDevices * mostWords
   unfolding room
   room-few =

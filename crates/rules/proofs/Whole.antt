@@ -300,11 +300,11 @@ startable file p e table words =
     let w = spreadable file p e table words (room p) (state (accepted file p e) 0 .fits (omega arith)) in
     (w .0, replicate (room p) 0, (omega (arith, w .1), omega (arith, length-replicate {A = ℕ} (room p) 0)), w .2, w .3)
 
--- "so at most 1,048,576 words"
+-- "Room is at most 67,108,864 words"
 pub room-limit : RoomLimit
 room-limit file p e = room-few (accepted file p e)
 
--- 256 devices with all 4,096 words each have that room
-room-reached : (p : Plan) × (judge (fileOf (256 ∷ []) (4096 ∷ []) ([] ∷ [] ∷ []) []) ≡ accept p) × (room p ≡ 1_048_576)
+-- 1,024 devices with all 65,536 words each have that room
+room-reached : (p : Plan) × (judge (fileOf (1024 ∷ []) (256 ∷ 256 ∷ []) ([] ∷ [] ∷ [] ∷ []) []) ≡ accept p) × (room p ≡ 67_108_864)
 unfolding fileOf judgeBy room
-room-reached = (record { mesh = 256 ∷ []; sizes = 4096 ∷ []; start = record { dims = [] ∷ []; unreduced = [] }; steps = [] }, refl, refl)
+room-reached = (record { mesh = 1024 ∷ []; sizes = 256 ∷ 256 ∷ []; start = record { dims = [] ∷ [] ∷ []; unreduced = [] }; steps = [] }, refl, refl)

@@ -84,9 +84,9 @@ Startable =
     (file : List ℕ) (p : Plan) → judge file ≡ accept p → (table : List ℕ → ℕ) → ((i : List ℕ) → table i < 2 ^ 32)
     → (work spare : List ℕ) × Fits p work spare × Words work × SpreadAt p table 0 (shardsAfter p work 0 .words)
 
--- "so at most 1,048,576 words"
+-- 02, Ask 12: "Room is at most 67,108,864 words"
 abbrev pub RoomLimit : Type 0
-RoomLimit = (file : List ℕ) (p : Plan) → judge file ≡ accept p → room p ≤ 1_048_576
+RoomLimit = (file : List ℕ) (p : Plan) → judge file ≡ accept p → room p ≤ 67_108_864
 
 -- ---- refusals
 

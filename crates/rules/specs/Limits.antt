@@ -1,29 +1,35 @@
--- Document 01, "Numbers to hold to": "These limits belong to the kinds of thing they limit, one stated constant each."
+-- Document 01, "Numbers to hold to": "These limits belong to the kinds of thing they limit, one stated constant each." Three of the numbers are those
+-- of document 02, Ask 12: "D up to 1,024, tables up to 65,536 words, files up to 8,192 bytes; 2, 11 and 13 move with them."
 -- The constants of the code are stated against these (src/lib.rt). Assumes nothing.
 use Prim.Native.Nat.{ℕ}
 
--- "n 1 to 6, D at most 256, rank 1 to 4"
+-- "n 1 to 6"
 abbrev pub mostAxes : ℕ
 mostAxes = 6
 
+-- "D up to 1,024"
 abbrev pub mostDevices : ℕ
-mostDevices = 256
+mostDevices = 1024
 
+-- "rank 1 to 4"
 abbrev pub mostDims : ℕ
 mostDims = 4
 
--- "table at most 4,096 words, 0 to 64 steps, file 18 to 4,096 bytes"
+-- "tables up to 65,536 words"
 abbrev pub mostWords : ℕ
-mostWords = 4096
+mostWords = 65536
 
+-- "0 to 64 steps"
 abbrev pub mostSteps : ℕ
 mostSteps = 64
 
+-- "file 18 to"
 abbrev pub leastBytes : ℕ
 leastBytes = 18
 
+-- "files up to 8,192 bytes"
 abbrev pub mostBytes : ℕ
-mostBytes = 4096
+mostBytes = 8192
 
 -- What a reader of plan files takes. Later readers take more (document 02); each is an instance of the one judgement (PlanFile).
 pub record Reader : Type 0 where

@@ -41,7 +41,7 @@ pub struct Device(pub u16);
 
 impl Device {
     // The most devices of a mesh.
-    pub const MOST: usize = 256;
+    pub const MOST: usize = 1024;
 
     pub fn most() -> usize
         ensures { λ r. ⌜ r ≡ mostDevices ⌝ }
@@ -70,7 +70,7 @@ pub struct Table {
 
 impl Table {
     // The most words of a table.
-    pub const MOST: usize = 4096;
+    pub const MOST: usize = 65536;
 
     pub fn most() -> usize
         ensures { λ r. ⌜ r ≡ mostWords ⌝ }
@@ -114,7 +114,7 @@ impl PlanFile {
     // The least and the most bytes of a plan file.
     pub const LEAST: usize = 18;
 
-    pub const MOST: usize = 4096;
+    pub const MOST: usize = 8192;
 
     pub fn least() -> usize
         ensures { λ r. ⌜ r ≡ leastBytes ⌝ }
