@@ -13,11 +13,11 @@ use answer::print_refusal;
 use ishkrela::GroupsOutcome;
 use ishkrela::groups;
 
-// The output before the call: 999 is no device of any mesh.
+// The output before the call: 9999 is no device of any mesh.
 fn blank() -> [u16; MOST]
     ensures { λ r. ⌜ 65536 ≡ length r ⌝ }
 {
-    [999; MOST]
+    [9999; MOST]
 }
 
 // Makes the call and prints what it answers and leaves.

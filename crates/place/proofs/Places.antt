@@ -1,5 +1,5 @@
--- The placement is a state and a device: refusals and answer, and that a device's blocks end within the table. Assumes nothing.
-use Prim.Native.Nat.{ℕ, zero, suc, _*_, _≤_, _<_}
+-- The placement is a state and a device: refusals and answer, and that a device's blocks begin within the table. Assumes nothing.
+use Prim.Native.Nat.{ℕ, zero, suc, _+_, _*_, _≤_, _<_}
 use mathlib.Core.Path.{_≡_, refl, sym, ap, _∙_, subst}
 use mathlib.Core.List.{List, []}
 use native.Mathlib.Omega.{arith}
@@ -31,18 +31,20 @@ use Rattle.plan.specs.declared.State as code
 use Rattle.plan.proofs.States.{state-on, state-stopped}
 use Rattle.place.specs.Placing.{Placing}
 
--- ---- a block ends within the table
+-- ---- a block begins within the table
 
 module _ (mesh : List ℕ) where
   blocks-few : {Ss : List (List ℕ)} {wholes pieces x : List ℕ} → Cut mesh Ss wholes pieces → Below x mesh → 0 < product wholes
-      → (j : ℕ) → position mesh (getD Ss j []) x * getD pieces j 0 ≤ product wholes
+      → (j : ℕ) → position mesh (getD Ss j []) x * getD pieces j 0 < product wholes
   blocks-few uncut b h zero = omega arith
   blocks-few uncut b h (suc j) = omega arith
   blocks-few {x = x} (cut {S} {Ss} {whole} {piece} {wholes} {pieces} e c) b h zero =
       let rest : 1 ≤ product wholes = pos-of-lt whole (product wholes) h in
-      let block : position mesh S x * piece ≤ span mesh S * piece = mul-le-mul (omega (arith, position-lt mesh S b)) (omega arith) in
+      let one : 1 ≤ whole = pos-of-lt {q = 0} (product wholes) whole (rw (mul-comm (product wholes) whole) h) in
+      let some : 0 < piece = pos-of-lt {q = 0} (span mesh S) piece (omega (arith, one, mul-comm (span mesh S) piece, e)) in
+      let block : (position mesh S x + 1) * piece ≤ span mesh S * piece = mul-le-mul (omega (arith, position-lt mesh S b)) (omega arith) in
       let all : whole * 1 ≤ whole * product wholes = mul-le-mul (omega arith) rest in
-      omega (arith, block, all, mul-comm (span mesh S) piece, e)
+      omega (arith, block, all, some, mul-comm (span mesh S) piece, e)
   blocks-few {x = x} (cut {S} {Ss} {whole} {piece} {wholes} {pieces} e c) b h (suc j) =
       let rest : 0 < product wholes = pos-of-lt whole (product wholes) h in
       let one : 1 ≤ whole = pos-of-lt {q = 0} (product wholes) whole (rw (mul-comm (product wholes) whole) h) in
@@ -54,7 +56,7 @@ module _ (mesh : List ℕ) where
 -- what the first indexes ask for
 Within : StateAnswer → ℕ → Type 0
 Within a d =
-    IsPlace (a .mesh) d × ((j : ℕ) → position (a .mesh) (getD (a .sharding .dims) j []) (deviceCoords (a .mesh) d) * getD (a .shard) j 0 ≤ mostWords)
+    IsPlace (a .mesh) d × ((j : ℕ) → position (a .mesh) (getD (a .sharding .dims) j []) (deviceCoords (a .mesh) d) * getD (a .shard) j 0 < mostWords)
 
 within : (file : List ℕ) (k d : ℕ) (a : StateAnswer) → stateOf file k ≡ accept a → d < devices (a .mesh) → Within a d
 unfolding announcedShape Within
@@ -83,7 +85,7 @@ unfolding Within
 placing file k d r e s h l =
     let w = within file k d (stateAnswer r) (state-on file k r e h) (subst (λ (n : ℕ). d < n) (s .counted .devices-are) l) in
     let mesh = meshOf (r .mesh) in
-    let Few : ℕ → Type 0 = λ n. (j : ℕ) → position mesh (getD (take n (dimsOf (r .sharding))) j []) (deviceCoords mesh d) * getD (sizesOf (r .shard)) j 0 ≤ mostWords in
+    let Few : ℕ → Type 0 = λ n. (j : ℕ) → position mesh (getD (take n (dimsOf (r .sharding))) j []) (deviceCoords mesh d) * getD (sizesOf (r .shard)) j 0 < mostWords in
     record { device = w .0; rank = s .rank-few; few = subst Few (sym (s .rank-is)) (w .1) }
 
 -- ---- the placement of a device in a state

@@ -1,5 +1,5 @@
 -- What the first indexes ask for. Assumes nothing.
-use Prim.Native.Nat.{ℕ, _*_, _≤_}
+use Prim.Native.Nat.{ℕ, _*_, _≤_, _<_}
 use mathlib.Core.List.{List, []}
 use lib.ListN.{getD, take}
 use Rattle.rules.specs.Mesh.{position, deviceCoords}
@@ -10,8 +10,8 @@ use Rattle.rules.specs.declared.Table.{Table}
 use Rattle.dims.specs.Dims.{sizesOf}
 use Rattle.mesh.specs.Fitting.{IsPlace}
 
--- a device of the mesh, and shard sizes whose blocks end within the table
+-- a device of the mesh, and shard sizes whose blocks begin within the table
 pub record Placing (mesh : List ℕ) (sharding : code.Sharding) (shard : Table) (d : ℕ) : Type 0 where
   pub device : IsPlace mesh d
   pub rank : shard .rank ≤ mostDims
-  pub few : (j : ℕ) → position mesh (getD (take (shard .rank) (dimsOf sharding)) j []) (deviceCoords mesh d) * getD (sizesOf shard) j 0 ≤ mostWords
+  pub few : (j : ℕ) → position mesh (getD (take (shard .rank) (dimsOf sharding)) j []) (deviceCoords mesh d) * getD (sizesOf shard) j 0 < mostWords

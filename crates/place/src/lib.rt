@@ -1,7 +1,7 @@
 // The placement: a state's sharding and shard sizes, and a device's first indexes.
 // What it answers is defined in rules/specs/Calls.antt (placeOf); specs/Placing.antt has what the parts ask for.
 ghost use mathlib.Core.Path.{_≡_};
-ghost use Prim.Native.Nat.{_*_, _≤_};
+ghost use Prim.Native.Nat.{_*_, _<_};
 ghost use lib.ListN.{take};
 ghost use Rattle.rules.specs.Mesh.{deviceCoords};
 ghost use Rattle.rules.specs.Sharding.{firstIndexes};
@@ -30,7 +30,7 @@ use rules::Table;
 
 // "its first index there is block number times shard size"
 fn first_index(block: usize, size: u16) -> u16
-    requires { ⌜ block * size ≤ mostWords ⌝ }
+    requires { ⌜ block * size < mostWords ⌝ }
     ensures { λ r. ⌜ r ≡ block * size ⌝ }
 {
     let words = size as usize;

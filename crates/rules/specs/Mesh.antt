@@ -32,7 +32,7 @@ deviceCoords mesh d = coords mesh d
 abbrev pub devices : List ℕ → ℕ
 devices mesh = product mesh
 
--- What the code asks of a mesh: "n 1 to 6, D at most 256", and no size is 0.
+-- What the code asks of a mesh: "n 1 to 6", "D up to 1,024" (document 02), and no size is 0.
 pub record OnMesh (mesh : List ℕ) : Type 0 where
   pub axes-some : 1 ≤ length mesh
   pub axes-few : length mesh ≤ mostAxes
