@@ -1,7 +1,7 @@
 /* Ishkrela: plans that move a table between the devices of a mesh.
  *
- * A mesh is a grid of up to 256 devices with 1 to 6 axes. A table (a tensor of rank 1 to 4, at
- * most 4,096 words of 32 bits) is spread over it: each dimension is split along some of the axes.
+ * A mesh is a grid of up to 1,024 devices with 1 to 6 axes. A table (a tensor of rank 1 to 4, at
+ * most 65,536 words of 32 bits) is spread over it: each dimension is split along some of the axes.
  * How it is spread is its sharding. A plan is a small file that names the mesh's sizes, the
  * table's sizes, the sharding at the start, and up to 64 steps that change it: all-slice,
  * all-gather, all-reduce (by sum) and all-to-all. State 0 is the start, state k is after step k.
@@ -25,12 +25,13 @@
  *           list is replicated: devices that differ only there hold equal shards
  * group     for a list of axes: devices that agree on all other axes. The position in a group
  *           counts along the list, its first axis most significant
- * room      the words that the run of a plan needs: D times the most words of a shard in any state
+ * room      the words that the run of a plan needs: D times the most words of a shard in any state,
+ *           67,108,864 at most
  *
  *
  * A PLAN FILE
  *
- * 18 to 4,096 bytes; 16-bit numbers are little-endian. Without gaps:
+ * 18 to 8,192 bytes; 16-bit numbers are little-endian. Without gaps:
  *
  *     header     nine 16-bit numbers: 1, number of axes, rank, number of steps, the offsets of
  *                mesh sizes (18), table sizes, sharding and steps, and the length of the file
@@ -75,14 +76,14 @@
  * where steps count from 1; the step is 0 for numbers outside 20 to 28. docs/REFUSALS.md has an
  * example of each number, and what to do.
  *
- *      1  fewer than 18 bytes                  2  more than 4,096 bytes
+ *      1  fewer than 18 bytes                  2  more than 8,192 bytes
  *      3  the edition is not 1                 4  total length is not the number of bytes given
  *      5  number of axes, rank or number of steps outside its limits
  *      6  an offset is wrong                   7  a section runs past the end
  *      8  a list's count is above the number of axes
  *      9  bytes left after the last step
- *     10  a mesh size is 0                    11  the product of mesh sizes passes 256
- *     12  a table size is 0                   13  the product of table sizes passes 4,096
+ *     10  a mesh size is 0                    11  the product of mesh sizes passes 1,024
+ *     12  a table size is 0                   13  the product of table sizes passes 65,536
  *     14  start: no such axis                 15  start: an axis named before
  *     16  start: unreduced list not strictly increasing
  *     17  start: a dimension is not divisible
@@ -112,7 +113,7 @@
  * is 0, so it may be null. The calls keep no state of their own: threads may call at once where none
  * lends memory for writing that another uses.
  *
- * A call takes less than 8 KiB of stack: on the cases of tests/ at most 6,568 bytes for a run, 2,128
+ * A call takes less than 20 KiB of stack: on the cases of tests/ at most 18,856 bytes for a run, 2,128
  * for a placement, 2,048 for a check, 208 for a group listing (tests/stack.c, which tools/try_c runs).
  */
 #ifndef ISHKRELA_H

@@ -1,8 +1,8 @@
 """Ishkrela from Python: plans that move a table between the devices of a mesh.
 
-A mesh is a grid of devices, given by the sizes of its axes. A table (a tensor of 32-bit words) is
-spread over it; its sharding says which axes split each dimension. A plan is a small file with the
-sizes of mesh and table, the sharding at the start, and steps that change it.
+A mesh is a grid of up to 1,024 devices, given by the sizes of its axes. A table (a tensor of up to
+65,536 words of 32 bits) is spread over it; its sharding says which axes split each dimension. A plan
+is a small file with the sizes of mesh and table, the sharding at the start, and steps that change it.
 
     >>> from ishkrela import *
     >>> file = plan_file([2, 2], [4, 4], Sharding([[0], [1]]), [AllGather([[], [1]])])
@@ -56,11 +56,11 @@ __all__ = [
 
 MOST_AXES = 6
 MOST_DIMS = 4
-MOST_DEVICES = 256
+MOST_DEVICES = 1024
 
 TEXTS = {
     1: "fewer than 18 bytes",
-    2: "more than 4,096 bytes",
+    2: "more than 8,192 bytes",
     3: "the edition is not 1",
     4: "total length is not the number of bytes given",
     5: "number of axes, rank or number of steps outside its limits",
@@ -69,9 +69,9 @@ TEXTS = {
     8: "a list's count is above the number of axes",
     9: "bytes left after the last step",
     10: "a mesh size is 0",
-    11: "the product of mesh sizes passes 256",
+    11: "the product of mesh sizes passes 1,024",
     12: "a table size is 0",
-    13: "the product of table sizes passes 4,096",
+    13: "the product of table sizes passes 65,536",
     14: "start: no such axis",
     15: "start: an axis named before",
     16: "start: unreduced list not strictly increasing",

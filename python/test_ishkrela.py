@@ -99,8 +99,17 @@ class Worked(Case):
 
     def test_limits(self):
         self.assertEqual(check(plan_file([256], [4096], Sharding([[0]]))).shard, (16,))
-        self.assertRefused(11, 0, check, plan_file([257], [4096], Sharding([[]])))
-        self.assertRefused(13, 0, check, plan_file([2], [4097], Sharding([[]])))
+        self.assertEqual(check(plan_file([257], [4097], Sharding([[]]))).room, 257 * 4097)
+        self.assertEqual(check(plan_file([1024], [256, 256], Sharding([[], []]))).room, 67108864)
+        self.assertEqual(check(plan_file([1], [65535], Sharding([[]]))).shard, (65535,))
+        self.assertRefused(11, 0, check, plan_file([1025], [4096], Sharding([[]])))
+        self.assertRefused(13, 0, check, plan_file([256], [256, 257], Sharding([[], []])))
+        self.assertRefused(4, 0, check, W1 + bytes(8192 - len(W1)))
+        self.assertRefused(2, 0, check, W1 + bytes(8193 - len(W1)))
+        self.assertEqual(groups([1024], []), [[device] for device in range(1024)])
+        self.assertRefused(11, 0, groups, [1025], [])
+        both = plan_file([2], [256, 256], Sharding([[0], []]), [AllGather([[0], []])])
+        self.assertEqual(moved(both, range(65536)), 2 * list(range(65536)))
         there_and_back = 32 * [AllSlice([[0]]), AllGather([[0]])]
         self.assertEqual(check(plan_file([2], [2], Sharding([[]]), there_and_back)).steps, 64)
         self.assertRefused(5, 0, check, plan_file([2], [2], Sharding([[]]), there_and_back + [AllSlice([[0]])]))
@@ -139,7 +148,7 @@ class Cases(Case):
     def test_groups(self):
         for mesh, axes, length, answer in cases("groups.txt"):
             with self.subTest(mesh, axes=axes, length=length):
-                out = array.array("H", int(length) * [999])
+                out = array.array("H", int(length) * [9999])
                 self.assertEqual(self.listed(json.loads(mesh), json.loads(axes), out), answer)
 
     def listed(self, mesh, axes, out):

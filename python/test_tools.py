@@ -123,8 +123,8 @@ class Plancheck(unittest.TestCase):
         self.assertEqual(self.printed("file"), ("", said))
 
     def test_the_longest_input_and_a_longer_one(self):
-        self.assertEqual(self.printed(input=bytes(4096)), ("no 3 0\n", ""))
-        self.assertEqual(self.printed(input=bytes(4097)), ("no 2 0\n", ""))
+        self.assertEqual(self.printed(input=bytes(8192)), ("no 3 0\n", ""))
+        self.assertEqual(self.printed(input=bytes(8193)), ("no 2 0\n", ""))
         self.assertEqual(self.printed(input=bytes(100000)), ("no 2 0\n", ""))
 
     def test_a_failed_read_is_the_end(self):

@@ -9,12 +9,12 @@
 #include <string.h>
 #include "ishkrela.h"
 
-enum { CHECK, PLACE, GROUPS, RUN, CALLS, PAINT = 0xa5, STACK = 1 << 18, ROOM = 1048576, SAID = 8192 };
+enum { CHECK, PLACE, GROUPS, RUN, CALLS, PAINT = 0xa5, STACK = 1 << 18, ROOM = 67108864, SAID = 20480 };
 
 static const char *const names[CALLS] = {"check", "place", "groups", "run"};
 static _Alignas(64) unsigned char stack[STACK];
 static uint32_t work[ROOM], spare[ROOM];
-static uint8_t file[5000];
+static uint8_t file[10000];
 static size_t len;
 static ishkrela_checked plan;
 static size_t deepest[CALLS];
@@ -24,14 +24,14 @@ static void *calling(void *which)
     unsigned char *top = __builtin_frame_address(0);
     static const uint16_t mesh[] = {2, 3, 2, 2, 3, 2};
     static const uint8_t axes[] = {5, 1, 3, 0, 4, 2};
-    static uint16_t out[256];
+    static uint16_t out[1024];
     int call = *(int *)which;
     if (call == CHECK)
         plan = ishkrela_check(file, len);
     if (call == PLACE)
         ishkrela_place(file, len, plan.steps, plan.devices - 1);
     if (call == GROUPS)
-        ishkrela_groups(mesh, 6, axes, len % 7, out, 256);
+        ishkrela_groups(mesh, 6, axes, len % 7, out, 1024);
     if (call == RUN)
         ishkrela_run(file, len, work, plan.room, spare, plan.room);
     return top;

@@ -1,15 +1,15 @@
-//! What the calls take and answer, and the limits of document 01.
+//! What the calls take and answer, and the limits of documents 01 and 02.
 
 use crate::short::Short;
 use std::fmt;
 
 pub const MOST_AXES: usize = 6;
-pub const MOST_DEVICES: usize = 256;
+pub const MOST_DEVICES: usize = 1024;
 pub const MOST_RANK: usize = 4;
-pub const MOST_WORDS: usize = 4096;
+pub const MOST_WORDS: usize = 65536;
 pub const MOST_STEPS: usize = 64;
 pub const LEAST_BYTES: usize = 18;
-pub const MOST_BYTES: usize = 4096;
+pub const MOST_BYTES: usize = 8192;
 /// No plan needs more words than this.
 pub const MOST_ROOM: usize = MOST_DEVICES * MOST_WORDS;
 

@@ -1,7 +1,7 @@
-//! Document 01 a second time, and what is needed to hold the verified library to it.
+//! The rules a second time, and what is needed to hold the verified library to them.
 //!
-//! `reference` is written from document 01 alone. `plans` and `spreads` make what both are tried
-//! on. `library` calls the archive, when it is there.
+//! `reference` is written from documents 01 and 02 alone. `plans` and `spreads` make what both are
+//! tried on. `library` calls the archive, when it is there.
 
 pub mod answers;
 pub mod hex;

@@ -40,6 +40,15 @@ pub struct Scale {
     pub steps: usize,
 }
 
+impl Scale {
+    /// Every limit.
+    pub const MOST: Scale = Scale {
+        devices: MOST_DEVICES,
+        words: MOST_WORDS,
+        steps: MOST_STEPS,
+    };
+}
+
 /// The refusals that a file alone can meet.
 pub const FILE_REFUSALS: [u8; 26] = [
     1, 2, 3, 4, 5, 6, 7, 8, 9, 10, 11, 12, 13, 14, 15, 16, 17, 20, 21, 22, 23, 24, 25, 26, 27, 28,
@@ -272,7 +281,7 @@ fn tail(random: &mut Random, list: &[Axis], least: usize) -> Vec<Axis> {
     list[list.len() - random.between(least, list.len())..].to_vec()
 }
 
-/// A plan that document 01 accepts.
+/// A plan that is accepted.
 pub fn accepted(random: &mut Random, scale: Scale) -> Draft {
     let mesh = random_mesh(random, scale.devices);
     let rank = random.between(1, MOST_RANK);
@@ -284,30 +293,52 @@ pub fn accepted(random: &mut Random, scale: Scale) -> Draft {
 
 /// A scale that is small most of the time, so that many plans can be run.
 pub fn random_scale(random: &mut Random) -> Scale {
+    const ROOM: usize = 1 << 18;
     let most = random.pick(&[0, 1, 2, 4, 8, 16, MOST_STEPS]);
+    let devices = random.pick(&[1, 4, 8, 16, 16, 32, 64, 256, MOST_DEVICES]);
+    let words = random.pick(&[8, 64, 64, 256, 256, 1024, 4096, MOST_WORDS]);
     Scale {
-        devices: random.pick(&[1, 4, 8, 16, 16, 32, 64, MOST_DEVICES]),
-        words: random.pick(&[8, 64, 64, 256, 256, 1024, MOST_WORDS]),
+        devices,
+        words: words.min(ROOM / devices),
         steps: random.between(most / 2, most),
     }
 }
 
-/// A plan at every limit: 256 devices, 4,096 words, 64 steps, and a state of 1,048,576 words.
-pub fn at_limits(random: &mut Random) -> Draft {
+/// A scale with the most devices or the most words, whose plans can still be run to and fro.
+pub fn scale_at_a_limit(random: &mut Random) -> Scale {
+    const ROOM: usize = 1 << 20;
+    let devices = random.pick(&[MOST_DEVICES, ROOM / MOST_WORDS]);
+    Scale {
+        devices,
+        words: ROOM / devices,
+        steps: MOST_STEPS,
+    }
+}
+
+/// A plan with so many devices, words and steps, the first two powers of two, and a state in which
+/// every device holds the whole table. At `Scale::MOST` it needs the room of 67,108,864 words.
+pub fn filling(random: &mut Random, scale: Scale) -> Draft {
     loop {
-        let draft = with_largest_state(random);
+        let draft = with_largest_state(random, scale);
         // Where no axis divides a dimension there may be no step to take.
-        if draft.steps.len() == MOST_STEPS {
+        if draft.steps.len() == scale.steps {
             return draft;
         }
     }
 }
 
-fn with_largest_state(random: &mut Random) -> Draft {
-    let (axes, rank) = (random.between(1, MOST_AXES), random.between(1, MOST_RANK));
-    let mesh = powers_of_two(random, axes, MOST_DEVICES);
+fn with_largest_state(random: &mut Random, scale: Scale) -> Draft {
+    let axes = random.between(1, MOST_AXES);
+    let mesh = powers_of_two(random, axes, scale.devices);
+    // One size has 16 bits, so that the largest table has two dimensions or more.
+    let least = if u16::try_from(scale.words).is_ok() {
+        1
+    } else {
+        2
+    };
+    let rank = random.between(least, MOST_RANK);
     let mut draft = Draft {
-        table: powers_of_two(random, rank, MOST_WORDS),
+        table: powers_of_two(random, rank, scale.words),
         start: vec![Vec::new(); rank],
         ..Draft::default()
     };
@@ -318,14 +349,17 @@ fn with_largest_state(random: &mut Random) -> Draft {
         }
     }
     draft.mesh = mesh;
-    add_steps(random, &mut draft, MOST_STEPS);
+    add_steps(random, &mut draft, scale.steps);
     draft
 }
 
 fn powers_of_two(random: &mut Random, count: usize, product: usize) -> Vec<u16> {
-    let mut sizes = vec![1; count];
+    let mut sizes = vec![1u16; count];
     for _ in 0..product.ilog2() {
-        sizes[random.below(count)] *= 2;
+        let places: Vec<usize> = (0..count)
+            .filter(|&at| sizes[at].checked_mul(2).is_some())
+            .collect();
+        sizes[random.pick(&places)] *= 2;
     }
     sizes
 }
@@ -378,9 +412,11 @@ fn random_table(random: &mut Random, draft: &Draft, most: usize) -> Vec<u16> {
             0 => random.between(2, 5) as u16,
             _ => random.pick(&draft.mesh),
         };
-        if product(&table) * usize::from(factor) <= most {
-            let dim = random.below(table.len());
-            table[dim] *= factor;
+        let within = product(&table) * usize::from(factor) <= most;
+        let dim = random.below(table.len());
+        // One size has 16 bits, also where the table may have more words.
+        if let Some(size) = table[dim].checked_mul(factor).filter(|_| within) {
+            table[dim] = size;
         }
     }
     table
@@ -529,7 +565,7 @@ fn broken_start(random: &mut Random, mut draft: Draft, number: u8) -> Option<(Ve
         10 => draft.mesh[axis] = 0,
         11 => draft.mesh[axis] = past(random, MOST_DEVICES),
         12 => draft.table[dim] = 0,
-        13 => draft.table[dim] = past(random, MOST_WORDS),
+        13 => enlarge(random, &mut draft.table, dim)?,
         14 => name_no_axis(random, &mut draft),
         15 => name_again(random, &mut draft)?,
         16 => unsort(random, &mut draft)?,
@@ -552,6 +588,19 @@ fn past(random: &mut Random, most: usize) -> u16 {
         true => most as u16 + 1,
         false => random.between(most + 1, 65535) as u16,
     }
+}
+
+/// Makes a table pass its limit, often by little. One size alone cannot.
+fn enlarge(random: &mut Random, table: &mut [u16], dim: usize) -> Option<()> {
+    if table.len() == 1 {
+        return None;
+    }
+    let other = (dim + random.between(1, table.len() - 1)) % table.len();
+    let any = random.between(2, 65535) as u16;
+    table[other] = random.pick(&[2, 256, any]);
+    table[dim] = 1;
+    table[dim] = past(random, MOST_WORDS / product(table));
+    Some(())
 }
 
 fn no_axis(random: &mut Random, mesh: &[u16]) -> Axis {

@@ -1,4 +1,4 @@
-//! Document 01 in plain Rust, written from that document alone.
+//! Document 01 with the limits of document 02 in plain Rust, written from these documents alone.
 //!
 //! A file is judged into a `Plan`, which holds the state after every step. The calls read their
 //! answers off the plan. A run moves the words between the two lent buffers, step by step.

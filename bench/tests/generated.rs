@@ -2,7 +2,9 @@
 
 use bench::answers::Device;
 use bench::implementations;
-use bench::plans::{accepted, at_limits, broken, damaged, random_scale, FILE_REFUSALS};
+use bench::plans::{
+    accepted, broken, damaged, filling, random_scale, scale_at_a_limit, Scale, FILE_REFUSALS,
+};
 use bench::random::Random;
 use bench::spreads::{product, Layout};
 
@@ -23,12 +25,27 @@ fn accepted_plans_are_accepted() {
 fn limits_are_reached() {
     let mut random = Random::new(2);
     for _ in 0..200 {
-        let draft = at_limits(&mut random);
-        assert_eq!(product(&draft.table), 4096);
+        let draft = filling(&mut random, Scale::MOST);
+        assert_eq!(product(&draft.table), 65536);
         for one in implementations() {
             let checked = one.check(&draft.encode()).expect("accepted");
             let (devices, steps, room) = (checked.devices, checked.steps, checked.room);
-            assert_eq!((devices, steps, room), (256, 64, 1_048_576));
+            assert_eq!((devices, steps, room), (1024, 64, 67_108_864));
+        }
+    }
+}
+
+#[test]
+fn one_limit_is_reached() {
+    let mut random = Random::new(6);
+    for _ in 0..200 {
+        let scale = scale_at_a_limit(&mut random);
+        let draft = filling(&mut random, scale);
+        let (devices, words) = (product(&draft.mesh), product(&draft.table));
+        assert!([(1024, 1024), (16, 65536)].contains(&(devices, words)));
+        for one in implementations() {
+            let checked = one.check(&draft.encode()).expect("accepted");
+            assert_eq!((checked.steps, checked.room), (64, 1_048_576));
         }
     }
 }

@@ -1,7 +1,8 @@
-//! The worked plans of document 01, and the cases at the limits in its ledger's last line.
+//! The worked plans of document 01, and the cases at the limits: those in its ledger's last line, as
+//! document 02 moves them.
 
 use bench::answers::{Device, Dim, Refusal};
-use bench::plans::{axes, lists, Draft, Step};
+use bench::plans::{axes, lists, mend_length, Draft, Step};
 use bench::{hex, implementations, Implementation};
 
 const W1: &str = "01 00 02 00 02 00 01 00 12 00 16 00 1a 00 1f 00 23 00 | 02 00 02 00 \
@@ -208,13 +209,33 @@ fn w10_reduces_no_replicated_axis() {
 
 #[test]
 fn the_largest_mesh_and_table_pass() {
+    let square = |mesh, rows, columns| {
+        let mut draft = resting(mesh, rows, &[]);
+        draft.table.push(columns);
+        draft.start.push(vec![]);
+        draft
+    };
     for one in implementations() {
-        let checked = one
-            .check(&resting(256, 4096, &[]).encode())
-            .expect("accepted");
-        assert_eq!(checked.room, 1_048_576);
-        assert_eq!(one.check(&resting(257, 4096, &[]).encode()), refusal(11, 0));
-        assert_eq!(one.check(&resting(256, 4097, &[]).encode()), refusal(13, 0));
+        let room = |draft: Draft| one.check(&draft.encode()).map(|checked| checked.room);
+        assert_eq!(room(resting(256, 4096, &[])), Ok(1_048_576));
+        assert_eq!(room(resting(257, 4097, &[])), Ok(257 * 4097));
+        assert_eq!(room(resting(1024, 65535, &[])), Ok(1024 * 65535));
+        assert_eq!(room(square(1024, 256, 256)), Ok(67_108_864));
+        assert_eq!(room(resting(1025, 4096, &[])), refusal(11, 0));
+        assert_eq!(room(square(256, 256, 257)), refusal(13, 0));
+        assert_eq!(room(square(256, 65535, 2)), refusal(13, 0));
+    }
+}
+
+#[test]
+fn the_longest_file_is_read_to_its_end() {
+    for (bytes, number) in [(8192, 9), (8193, 2)] {
+        let mut file = w1();
+        file.resize(bytes, 0);
+        mend_length(&mut file);
+        for one in implementations() {
+            assert_eq!(one.check(&file), refusal(number, 0));
+        }
     }
 }
 
@@ -282,8 +303,8 @@ fn a_listing_judges_sizes_and_axes_in_turn() {
     let cases: [(&[u16], &[u8], usize, u8); 7] = [
         (&[], &[9], 0, 5),
         (&[1; 7], &[], 0, 5),
-        (&[257, 0], &[9], 0, 11),
-        (&[0, 257], &[9], 0, 10),
+        (&[1025, 0], &[9], 0, 11),
+        (&[0, 1025], &[9], 0, 10),
         (&[2, 3], &[0, 2, 0], 0, 14),
         (&[2, 3], &[0, 0, 2], 0, 15),
         (&[2, 3], &[1], 5, 33),

@@ -61,7 +61,7 @@ int main(int argc, char **argv)
     FILE *in = fopen(argv[1], "rb");
     if (!in)
         return unread(argv[1]);
-    uint8_t file[4097]; /* one byte more than a plan may have: a longer file is refused, not cut */
+    uint8_t file[8193]; /* one byte more than a plan may have: a longer file is refused, not cut */
     size_t len = fread(file, 1, sizeof file, in);
     if (ferror(in))
         return unread(argv[1]);

@@ -3,8 +3,8 @@
 //! Arguments: a seed, a number of files, a number of runs. Without the library only demand 3 is
 //! tried, on the reference.
 
-use bench::answers::{Axis, Device, Refusal};
-use bench::plans::{self, Draft, Step, FILE_REFUSALS};
+use bench::answers::{Axis, Device, Refusal, MOST_BYTES, MOST_DEVICES, MOST_ROOM, MOST_WORDS};
+use bench::plans::{self, Draft, Scale, Step, FILE_REFUSALS};
 use bench::random::Random;
 use bench::spreads::{product, Layout};
 use bench::{hex, implementations, library, Implementation, Reference};
@@ -30,10 +30,15 @@ struct Tally {
     damaged: usize,
     accepted_though_damaged: usize,
     limits: usize,
+    most_bytes: usize,
+    /// Accepted plans with the most devices, and with the most words.
+    most_devices: usize,
+    most_words: usize,
     placements: usize,
     listings: usize,
     runs: usize,
-    runs_at_limits: usize,
+    runs_at_a_limit: usize,
+    runs_at_most_room: usize,
     /// Slices, gathers, reductions, all-to-alls.
     steps: [usize; 4],
     longer_buffers: usize,
@@ -50,6 +55,11 @@ impl Tally {
     fn see<T>(&mut self, answer: &Result<T, Refusal>) {
         let refusal = answer.as_ref().err();
         self.refusals.extend(refusal.map(|refusal| refusal.number));
+    }
+
+    fn see_plan(&mut self, draft: &Draft) {
+        self.most_devices += usize::from(product(&draft.mesh) == MOST_DEVICES);
+        self.most_words += usize::from(product(&draft.table) == MOST_WORDS);
     }
 
     fn see_steps(&mut self, draft: &Draft) {
@@ -103,6 +113,9 @@ fn compare(random: &mut Random, files: u64, runs: u64, tally: &mut Tally) -> Out
     for _ in 0..runs {
         compare_run(random, tally)?;
     }
+    for faithful in [true, false] {
+        compare_most_room(random, faithful, tally)?;
+    }
     Ok(())
 }
 
@@ -110,7 +123,9 @@ fn random_file(random: &mut Random, tally: &mut Tally) -> Vec<u8> {
     match random.below(30) {
         0..10 => {
             tally.accepted += 1;
-            random_draft(random).encode()
+            let draft = random_draft(random);
+            tally.see_plan(&draft);
+            draft.encode()
         }
         10..20 => {
             tally.broken += 1;
@@ -126,7 +141,9 @@ fn random_file(random: &mut Random, tally: &mut Tally) -> Vec<u8> {
         }
         _ => {
             tally.limits += 1;
-            plans::at_limits(random).encode()
+            let draft = plans::filling(random, Scale::MOST);
+            tally.see_plan(&draft);
+            draft.encode()
         }
     }
 }
@@ -144,6 +161,7 @@ fn compare_file(
 ) -> Outcome {
     let answer = Reference.check(file);
     tally.see(&answer);
+    tally.most_bytes += usize::from(file.len() == MOST_BYTES);
     same("check", file, &answer, &library.check(file))?;
     same_at_boundary(file, "check", |raw| raw.check(file, answer))?;
     let (steps, devices) = answer.map_or((3, 4), |checked| (checked.steps, checked.devices));
@@ -250,7 +268,7 @@ fn same<T: PartialEq + Debug>(call: &str, file: &[u8], reference: &T, library: &
 
 fn compare_groups(random: &mut Random, library: &dyn Implementation, tally: &mut Tally) -> Outcome {
     let (mesh, axes) = random_listing(random);
-    let devices = product(&mesh).min(300);
+    let devices = product(&mesh).min(MOST_DEVICES);
     let length = (devices + random.below(4)).saturating_sub(random.below(2));
     let untouched = vec![Device(random.draw() as u16); length];
     let (mut ours, mut theirs) = (untouched.clone(), untouched);
@@ -270,7 +288,8 @@ fn random_listing(random: &mut Random) -> (Vec<u16>, Vec<Axis>) {
     axes.truncate(random.below(axes.len() + 1));
     if random.once_in(6) {
         let at = random.below(mesh.len());
-        mesh[at] = random.pick(&[0, 256, 257, u16::MAX]);
+        let most = MOST_DEVICES as u16;
+        mesh[at] = random.pick(&[0, most, most + 1, u16::MAX]);
     }
     if random.once_in(12) {
         mesh.resize(random.pick(&[0, 7, 8]), 1);
@@ -307,16 +326,47 @@ fn compare_run(random: &mut Random, tally: &mut Tally) -> Outcome {
     }
 }
 
-/// A plan to be run, now and then one at the limits.
+/// A plan to be run, now and then one with the most devices or the most words.
 fn random_run(random: &mut Random, tally: &mut Tally) -> Draft {
-    let at_limits = random.once_in(50);
-    let draft = match at_limits {
-        true => plans::at_limits(random),
+    let at_a_limit = random.once_in(50);
+    let draft = match at_a_limit {
+        true => {
+            let scale = plans::scale_at_a_limit(random);
+            plans::filling(random, scale)
+        }
         false => random_draft(random),
     };
-    tally.runs_at_limits += usize::from(at_limits);
+    tally.runs_at_a_limit += usize::from(at_a_limit);
+    tally.see_plan(&draft);
     tally.see_steps(&draft);
     draft
+}
+
+/// A run that needs the most room, of few steps; on any words only where there is a library.
+fn compare_most_room(random: &mut Random, faithful: bool, tally: &mut Tally) -> Outcome {
+    let steps = 4;
+    let draft = plans::filling(
+        random,
+        Scale {
+            steps,
+            ..Scale::MOST
+        },
+    );
+    if faithful {
+        tally.faithful += 1;
+        try_demand_3(random, &draft, tally)?;
+    } else if let Some(library) = library() {
+        let (work, spare) = (random.words(MOST_ROOM), random.words(MOST_ROOM));
+        let answer = same_run(library, &draft.encode(), &work, &spare)?;
+        answer.map_err(|refusal| refused("a run with the most room", &draft.encode(), refusal))?;
+    } else {
+        return Ok(());
+    }
+    tally.runs += 1;
+    tally.runs_at_most_room += 1;
+    tally.see_plan(&draft);
+    tally.see_steps(&draft);
+    Ok(())
 }
 
 /// A run on words that spread no table, in buffers of any length.
@@ -529,13 +579,19 @@ impl fmt::Display for Tally {
         let still = self.accepted_though_damaged;
         writeln!(f, "    {} damaged, {still} still accepted", self.damaged)?;
         writeln!(f, "    {} at the limits", self.limits)?;
+        writeln!(f, "    {} of {MOST_BYTES} bytes", self.most_bytes)?;
+        let (devices, words) = (self.most_devices, self.most_words);
+        writeln!(
+            f,
+            "{devices} plans with {MOST_DEVICES} devices, {words} with {MOST_WORDS} words"
+        )?;
         let met = self.refusals.len();
         writeln!(f, "{} placements", self.placements)?;
         writeln!(f, "{} group listings", self.listings)?;
         writeln!(
             f,
-            "{} runs, {} at the limits",
-            self.runs, self.runs_at_limits
+            "{} runs, {} at a limit, {} with room for {MOST_ROOM} words",
+            self.runs, self.runs_at_a_limit, self.runs_at_most_room
         )?;
         writeln!(f, "    {slices} slices, {gathers} gathers")?;
         writeln!(f, "    {reductions} reductions, {all_to_alls} all-to-alls")?;

@@ -20,6 +20,41 @@ const TRIES: usize = 3;
 const RUNS: [usize; 4] = [1, 16, 256, 4096];
 const GROUPS: [usize; 3] = [2, 16, 256];
 
+/// How many devices hold how many words each: the largest state of a case.
+#[derive(Clone, Copy)]
+struct Extent {
+    devices: usize,
+    words: usize,
+}
+
+/// What is measured in a millisecond or less.
+const MIDDLE: Extent = Extent {
+    devices: 256,
+    words: 4096,
+};
+
+/// What a plan can have at most.
+const LARGEST: Extent = Extent {
+    devices: MOST_DEVICES,
+    words: MOST_WORDS,
+};
+
+impl Extent {
+    const fn room(self) -> usize {
+        self.devices * self.words
+    }
+
+    /// A mesh with groups of this size along axis 0.
+    fn mesh(self, group: usize) -> Vec<u16> {
+        vec![group as u16, (self.devices / group) as u16]
+    }
+
+    /// A table with rows of so many words.
+    fn table(self, row: usize) -> Vec<u16> {
+        vec![(self.words / row) as u16, row as u16]
+    }
+}
+
 /// Writes a line of the page.
 macro_rules! say {
     ($page:expr, $($text:tt)*) => {
@@ -49,6 +84,7 @@ fn main() -> ExitCode {
         steps_alone(&mut bench);
         whole_runs(&mut bench);
         bench.limits.tell(&mut bench.page);
+        largest_runs(&mut bench);
     }
     print!("{}", bench.page);
     ExitCode::SUCCESS
@@ -317,17 +353,19 @@ impl Bench {
 
     /// The least time of copying so many words, in buffers as long as those of the run.
     fn copy(&mut self, room: usize, words: usize) -> f64 {
-        self.least(|bench| {
-            bench.time(room, |work, spare| {
-                black_box(&mut spare[..words]).copy_from_slice(black_box(&work[..words]));
-            })
+        self.least(|bench| bench.copy_once(room, words))
+    }
+
+    fn copy_once(&mut self, room: usize, words: usize) -> f64 {
+        self.time(room, |work, spare| {
+            black_box(&mut spare[..words]).copy_from_slice(black_box(&work[..words]));
         })
     }
 
-    /// The least time of adding up shards, group by group, over as many words as a run may need.
+    /// The least time of adding up shards, group by group, over as many words as a reduction has.
     fn addition(&mut self, group: usize) -> f64 {
         self.least(|bench| {
-            bench.time(MOST_ROOM, |work, spare| {
+            bench.time(MIDDLE.room(), |work, spare| {
                 add_shards(black_box(work), black_box(spare), group);
             })
         })
@@ -337,8 +375,8 @@ impl Bench {
 /// Shard-wise addition: the sum of each group's shards in place of its first shard, then copies
 /// of it for the others. The devices of a group are as far apart as groups are many.
 fn add_shards(old: &[u32], new: &mut [u32], group: usize) {
-    let words = MOST_WORDS;
-    let groups = MOST_DEVICES / group;
+    let words = MIDDLE.words;
+    let groups = MIDDLE.devices / group;
     for first in 0..groups {
         let sum = &mut new[first * words..][..words];
         sum.copy_from_slice(&old[first * words..][..words]);
@@ -389,15 +427,6 @@ impl Case {
     }
 }
 
-/// Mesh of 256 devices with groups of this size along axis 0.
-fn mesh(group: usize) -> Vec<u16> {
-    vec![group as u16, (MOST_DEVICES / group) as u16]
-}
-
-fn table(sizes: &[usize]) -> Vec<u16> {
-    sizes.iter().map(|&size| size as u16).collect()
-}
-
 /// Axis 0 on one of two dimensions.
 fn axis_on(dim: usize) -> Lists {
     let mut lists = vec![Vec::new(); 2];
@@ -405,119 +434,121 @@ fn axis_on(dim: usize) -> Lists {
     lists
 }
 
-/// Tables for a slice or gather along the last dimension, with runs of so many words, and along
-/// the first, with rows of so many words; each with its run and group. A shard has at most 4,096
-/// words, so that a run of as many is there in groups of one device only.
-fn move_shapes() -> Vec<(&'static str, usize, usize, Vec<u16>)> {
-    let mut shapes = vec![("last", MOST_WORDS, 1, table(&[1, MOST_WORDS]))];
+/// Slices and gathers along the last dimension, with runs of so many words, and along the first,
+/// with rows of so many words. A shard has at most 4,096 words here, so that a run of as many is
+/// there in groups of one device only.
+fn slices_and_gathers() -> Vec<(Case, Case)> {
+    let most = MIDDLE.words;
+    let mut cases = vec![slice_and_gather(MIDDLE, "last", most, 1)];
     for group in GROUPS {
-        let mut runs: Vec<usize> = RUNS.map(|run| run.min(MOST_WORDS / group)).to_vec();
+        let mut runs: Vec<usize> = RUNS.map(|run| run.min(most / group)).to_vec();
         runs.dedup();
         for run in runs {
-            let row = run * group;
-            shapes.push(("last", run, group, table(&[MOST_WORDS / row, row])));
+            cases.push(slice_and_gather(MIDDLE, "last", run, group));
         }
-        for row in [16, 256]
-            .into_iter()
-            .filter(|row| row * group <= MOST_WORDS)
-        {
-            shapes.push(("first", row, group, table(&[MOST_WORDS / row, row])));
+        for row in [16, 256].into_iter().filter(|row| row * group <= most) {
+            cases.push(slice_and_gather(MIDDLE, "first", row, group));
         }
     }
-    shapes
+    cases
 }
 
-fn slices_and_gathers() -> Vec<(Case, Case)> {
-    let case = |(on, run, group, table): (&'static str, usize, usize, Vec<u16>)| {
-        let dim = usize::from(on == "last");
-        let slice = Step::Slice(axis_on(dim));
-        let gather = Step::Gather(axis_on(dim));
-        let draft = |start: Lists, step: &Step| Draft {
-            mesh: mesh(group),
-            table: table.clone(),
-            start,
-            unreduced: vec![],
-            steps: vec![step.clone()],
-        };
-        let slicing = Case {
-            kind: "slice",
-            on,
-            run,
-            group,
-            draft: draft(vec![Vec::new(); 2], &slice),
-            back: Some(gather.clone()),
-            words: MOST_ROOM / group,
-            words_back: MOST_ROOM,
-        };
-        let gathering = Case {
-            kind: "gather",
-            draft: draft(axis_on(dim), &gather),
-            back: Some(slice),
-            words: MOST_ROOM,
-            words_back: MOST_ROOM / group,
-            ..slicing.clone()
-        };
-        (slicing, gathering)
+fn slice_and_gather(extent: Extent, on: &'static str, run: usize, group: usize) -> (Case, Case) {
+    let dim = usize::from(on == "last");
+    let row = if on == "last" { run * group } else { run };
+    let slice = Step::Slice(axis_on(dim));
+    let gather = Step::Gather(axis_on(dim));
+    let draft = |start: Lists, step: &Step| Draft {
+        mesh: extent.mesh(group),
+        table: extent.table(row),
+        start,
+        unreduced: vec![],
+        steps: vec![step.clone()],
     };
-    move_shapes().into_iter().map(case).collect()
+    let slicing = Case {
+        kind: "slice",
+        on,
+        run,
+        group,
+        draft: draft(vec![Vec::new(); 2], &slice),
+        back: Some(gather.clone()),
+        words: extent.room() / group,
+        words_back: extent.room(),
+    };
+    let gathering = Case {
+        kind: "gather",
+        draft: draft(axis_on(dim), &gather),
+        back: Some(slice),
+        words: extent.room(),
+        words_back: extent.room() / group,
+        ..slicing.clone()
+    };
+    (slicing, gathering)
 }
 
-/// A group of 256 cannot change dimensions: both would need 256, and the table 65,536 words.
+/// A group of 256 would need 256 in both dimensions, and so more words than these tables have.
 fn all_to_alls() -> Vec<Case> {
     let mut cases = Vec::new();
     for group in [2, 16, 64] {
         for run in RUNS
             .into_iter()
-            .filter(|run| run * group * group <= MOST_WORDS)
+            .filter(|run| run * group * group <= MIDDLE.words)
         {
-            let row = run * group;
-            let step = |source, target| Step::AllToAll(Dim(source), Dim(target), axes(&[0]));
-            let words = MOST_ROOM / group;
-            cases.push(Case {
-                kind: "all-to-all",
-                on: "0 to 1",
-                run,
-                group,
-                draft: Draft {
-                    mesh: mesh(group),
-                    table: table(&[MOST_WORDS / row, row]),
-                    start: axis_on(0),
-                    unreduced: vec![],
-                    steps: vec![step(0, 1)],
-                },
-                back: Some(step(1, 0)),
-                words,
-                words_back: words,
-            });
+            cases.push(all_to_all(MIDDLE, run, group));
+        }
+    }
+    cases
+}
+
+fn all_to_all(extent: Extent, run: usize, group: usize) -> Case {
+    let step = |source, target| Step::AllToAll(Dim(source), Dim(target), axes(&[0]));
+    let words = extent.room() / group;
+    Case {
+        kind: "all-to-all",
+        on: "0 to 1",
+        run,
+        group,
+        draft: Draft {
+            mesh: extent.mesh(group),
+            table: extent.table(run * group),
+            start: axis_on(0),
+            unreduced: vec![],
+            steps: vec![step(0, 1)],
+        },
+        back: Some(step(1, 0)),
+        words,
+        words_back: words,
+    }
+}
+
+fn reductions() -> Vec<Case> {
+    let mut cases = Vec::new();
+    for group in GROUPS {
+        for run in RUNS {
+            cases.push(reduction(MIDDLE, run, group));
         }
     }
     cases
 }
 
 /// Axes 2, 3 and 4 have one device each: to reduce them changes no word.
-fn reductions() -> Vec<Case> {
-    let mut cases = Vec::new();
-    for group in GROUPS {
-        for run in RUNS {
-            cases.push(Case {
-                kind: "reduce",
-                on: "all",
-                run,
-                group,
-                draft: Draft {
-                    mesh: [mesh(group), vec![1, 1, 1]].concat(),
-                    table: table(&[MOST_WORDS / run, run]),
-                    start: vec![Vec::new(); 2],
-                    unreduced: axes(&[0, 2, 3, 4]),
-                    steps: vec![Step::Reduce(axes(&[0]))],
-                },
-                back: None,
-                words: MOST_ROOM,
-                words_back: 0,
-            });
-        }
+fn reduction(extent: Extent, run: usize, group: usize) -> Case {
+    Case {
+        kind: "reduce",
+        on: "all",
+        run,
+        group,
+        draft: Draft {
+            mesh: [extent.mesh(group), vec![1, 1, 1]].concat(),
+            table: extent.table(run),
+            start: vec![Vec::new(); 2],
+            unreduced: axes(&[0, 2, 3, 4]),
+            steps: vec![Step::Reduce(axes(&[0]))],
+        },
+        back: None,
+        words: extent.room(),
+        words_back: 0,
     }
-    cases
 }
 
 /// The same plan with other steps.
@@ -743,10 +774,11 @@ fn whole_runs(bench: &mut Bench) {
     );
     say!(
         bench.page,
-        "is a copy of what the steps write; `64 full` is 64 copies of {MOST_ROOM} words."
+        "is a copy of what the steps write; `64 full` is 64 copies of {} words.",
+        MIDDLE.room()
     );
     columns(&mut bench.page, Some("64 full"));
-    let full = 64.0 * bench.copy(MOST_ROOM, MOST_ROOM);
+    let full = 64.0 * bench.copy(MIDDLE.room(), MIDDLE.room());
     for (case, _) in &slices_and_gathers() {
         let Some(back) = case.back.clone() else {
             continue;
@@ -770,6 +802,105 @@ fn whole_runs(bench: &mut Bench) {
         };
         row.tell(&mut bench.page);
     }
+}
+
+/// The same steps on a middle state and on the largest, as far as their kind allows, and what a
+/// word costs in each.
+fn largest_runs(bench: &mut Bench) {
+    say!(bench.page, "\n### Runs at the largest room\n");
+    say!(
+        bench.page,
+        "Runs of one step again, by the library alone: on {} devices with a table of {}",
+        MIDDLE.devices,
+        MIDDLE.words
+    );
+    say!(
+        bench.page,
+        "words, and the same on {} with {}, where a buffer has up to {} words ({} MiB).",
+        LARGEST.devices,
+        LARGEST.words,
+        LARGEST.room(),
+        (LARGEST.room() * size_of::<u32>()) >> 20
+    );
+    say!(
+        bench.page,
+        "One try in each round. `ns/word` is the time by the words that the step writes,"
+    );
+    say!(
+        bench.page,
+        "`against` that of the larger run by that of the smaller one, which is above it."
+    );
+    let [middle, largest] = [MIDDLE, LARGEST].map(|extent| copy_of_a_buffer(bench, extent));
+    say!(
+        bench.page,
+        "A copy of a whole buffer takes {middle:.3} ns a word in the smaller, {largest:.3} in the larger: {:.2}",
+        largest / middle
+    );
+    say!(
+        bench.page,
+        "times as much, for the smaller ones stand in the processor's caches.\n"
+    );
+    say!(
+        bench.page,
+        "    {:<13} {:<6} {:>4} {:>5} {:>8} {:>9} {:>8} {:>8} {:>7} {:>7}",
+        "kind",
+        "dim",
+        "run",
+        "group",
+        "words",
+        "library",
+        "copy",
+        "lib/copy",
+        "ns/word",
+        "against"
+    );
+    let [middle, largest] = [MIDDLE, LARGEST].map(of_each_kind);
+    for (middle, largest) in middle.iter().zip(&largest) {
+        let cost = run_with_cost(bench, middle, None);
+        run_with_cost(bench, largest, cost);
+    }
+}
+
+/// Nanoseconds a word.
+fn copy_of_a_buffer(bench: &mut Bench, extent: Extent) -> f64 {
+    let room = extent.room();
+    let time = bench.copy_once(room, room);
+    bench.kept(time) * 1e3 / room as f64
+}
+
+fn of_each_kind(extent: Extent) -> Vec<Case> {
+    let mut cases = Vec::new();
+    for (run, group) in [(256, 2), (16, 16)] {
+        let (slice, gather) = slice_and_gather(extent, "last", run, group);
+        let to_all = all_to_all(extent, run, group);
+        cases.extend([slice, gather, to_all, reduction(extent, run, group)]);
+    }
+    cases
+}
+
+/// Prints a row, and answers the nanoseconds that a word costs.
+fn run_with_cost(bench: &mut Bench, case: &Case, smaller: Option<f64>) -> Option<f64> {
+    let file = case.draft.encode();
+    let time = library().map(|one| bench.run(one, &file));
+    let time = time.map(|time| bench.kept(time));
+    let copy = bench.copy_once(case.room(), case.words);
+    let copy = bench.kept(copy);
+    let cost = time.map(|time| time * 1e3 / case.words as f64);
+    let against = smaller.map(|smaller| format!(" {}", shown(ratio(cost, smaller), 7, 2)));
+    say!(
+        bench.page,
+        "    {:<13} {:<6} {:>4} {:>5} {:>8} {} {copy:>8.1} {} {}{}",
+        case.kind,
+        case.on,
+        case.run,
+        case.group,
+        case.words,
+        shown(time, 9, 1),
+        shown(ratio(time, copy), 8, 2),
+        shown(cost, 7, 2),
+        against.unwrap_or_default(),
+    );
+    cost
 }
 
 /// The last columns are for what else a kind of row is compared with.
