@@ -14,6 +14,7 @@ pub mod Spreads
 pub mod Judging
 pub mod Steps
 pub mod Accepted
+pub mod Readers
 pub mod Room
 pub mod Next
 pub mod Whole

@@ -19,6 +19,7 @@ use Rattle.rules.specs.declared.RunOutcome.the-variants as run
 use Rattle.rules.proofs.Judging.{never, accept-inj, bind-inv}
 use Rattle.rules.proofs.Whole as whole
 use Rattle.rules.proofs.Refusing as refusing
+use Rattle.rules.proofs.Readers as readers
 use Rattle.rules.proofs.Locality as local
 use Rattle.rules.proofs.Groups as group
 use Rattle.rules.proofs.Sums as sums
@@ -116,6 +117,8 @@ rules-promise = record {
   startable = whole.startable;
   room-limit = whole.room-limit;
   refusal-numbers = refusing.refusal-numbers;
+  readers-compared = readers.readers-compared;
+  earlier-limits = readers.earlier-limits;
   locality = local.locality;
   group-by-position = group.groups-by-position;
   sum-of-words = sums.addWords-total;

@@ -9,6 +9,7 @@ pub mod Refusals
 pub mod PlanFile
 pub mod Types
 pub mod Calls
+pub mod Readers
 pub mod Demands
 pub mod Ledger
 pub mod WorkedRefusals

@@ -10,6 +10,7 @@ use Rattle.rules.specs.Mesh.{devices, Rearrangement}
 use Rattle.rules.specs.Refusals.{accept, refuse}
 use Rattle.rules.specs.PlanFile.{Plan, judge}
 use Rattle.rules.specs.Calls.{CheckAnswer, checkOf, checkedOf, placeOf, placedOf, groupsOf, groupsLeave, groupsMeaning, runOf, runMeaning}
+use Rattle.rules.specs.Readers.{ReadersCompared, EarlierLimits}
 use Rattle.rules.specs.Demands.{
   Demand3,
   WholePlan,
@@ -74,7 +75,7 @@ pub record RunPromise (file work spare : List ℕ) (outcome : RunOutcome) (workA
 
 -- ---- what the rules promise of themselves
 
--- Demand 3 for every plan that passes, and that it speaks of something; the room's limit; the numbers of refusals; a step's locality; what a group
+-- Demand 3 for every plan that passes, and that it speaks of something; the room's limit; the numbers of refusals; what readers with other limits answer; a step's locality; what a group
 -- and a sum of words are; the ledger W1 to W10, and cases beside it; a file or a call for each refusal number; each limit from both sides.
 pub record RulesPromise : Type 1 where
   pub whole-plan : WholePlan
@@ -82,6 +83,8 @@ pub record RulesPromise : Type 1 where
   pub startable : Startable
   pub room-limit : RoomLimit
   pub refusal-numbers : RefusalNumbers
+  pub readers-compared : ReadersCompared
+  pub earlier-limits : EarlierLimits
   pub locality : Locality
   pub group-by-position : GroupByPosition
   pub sum-of-words : SumOfWords

@@ -1,12 +1,14 @@
 -- Document 01, "Numbers to hold to", with the numbers of document 02, Ask 12: of each limit, calls at it and calls one past it, as one table in the form of the ledger, a limit's lines together.
 -- src/lib.rt ties the constants of the code to those of Limits.antt; these lines tie both to the numbers themselves. Assumes nothing.
 use Prim.Native.Nat.{ℕ, _+_, _-_, _*_, _/_, _%_}
-use mathlib.Core.Path.{refl}
+use mathlib.Core.Path.{_≡_, refl}
 use mathlib.Core.List.{List, [], _∷_, _++_}
 use lib.ListN.{length, set, replicate}
 use Rattle.rules.specs.Lists.{tab, All, done, _&_}
-use Rattle.rules.specs.Refusals.{refuse}
+use Rattle.rules.specs.Refusals.{accept, refuse}
+use Rattle.rules.specs.PlanFile.{judgeBy}
 use Rattle.rules.specs.Calls.{checkOf, groupsOf, groupsLeave}
+use Rattle.rules.specs.Readers.{original}
 use Rattle.rules.specs.Ledger.{Case, checked, Holds, fileOf, w1, passed, listsAs}
 use Rattle.rules.specs.WorkedRefusals.{cutAt, refusedListing}
 
@@ -68,3 +70,14 @@ limited =
     refl & refl & refl & refl & refl & refl & refl & refl & refl & refl & refl & refl
     & refl & refl & refl & refl & refl & refl & refl & refl & refl & refl & refl & refl
     & refl & refl & refl & refl & refl & refl & done
+
+-- the reader with document 01's own limits, at each of them and one past it: "mesh 257 gives 11; table 4,097 gives 13", and a file of 4,097 bytes 2
+pub earlier :
+    (judgeBy original (plain (256 ∷ []) (4096 ∷ []))
+    ≡ accept (record { mesh = 256 ∷ []; sizes = 4096 ∷ []; start = record { dims = [] ∷ []; unreduced = [] }; steps = [] }))
+    × (judgeBy original (plain (257 ∷ []) (4096 ∷ [])) ≡ refuse 11 0)
+    × (judgeBy original (plain (256 ∷ []) (4097 ∷ [])) ≡ refuse 13 0)
+    × (judgeBy original (filledTo 4096) ≡ refuse 9 0)
+    × (judgeBy original (filledTo 4097) ≡ refuse 2 0)
+unfolding fileOf judgeBy
+earlier = (refl, refl, refl, refl, refl)
