@@ -18,7 +18,7 @@ use Rattle.rules.specs.declared.Table.{Table}
 use Rattle.axes.specs.Mesh.{meshOf}
 use Rattle.axes.specs.declared.Mesh.{Mesh}
 use Rattle.dims.specs.Dims.{sizesOf}
-use Rattle.judge.specs.Step.{Ready}
+use Rattle.judge.specs.Step.{Sharded}
 use Rattle.plan.specs.Parts.{HoldsPlan, StepTaken, takeStep, takenRead}
 use Rattle.plan.specs.declared.Taken.{Taken}
 use Rattle.plan.specs.declared.Whole.{Whole}
@@ -33,7 +33,7 @@ shapeOf mesh table s = shardSizes (meshOf mesh) (sizesOf table) (take (table .ra
 -- step k, which is read at `at` and accepted of the sharding s, and what it asks of a buffer of `old` words with the state before it and of another one
 -- of `new` words
 pub record Turning (file : List ℕ) (at k : ℕ) (mesh : Mesh) (table : Table) (s : code.Sharding) (old new : ℕ) : Type 0 where
-  pub ready : Ready mesh table s
+  pub ready : Sharded mesh table s
   pub move : Read StepTaken
   pub taken : takeStep (meshOf mesh) (sizesOf table) k file at (shardingOf (table .rank) s) ≡ accept move
   pub stepping : Stepping (meshOf mesh) (shapeOf mesh table s) (move .value .step)
