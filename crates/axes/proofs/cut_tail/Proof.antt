@@ -8,26 +8,8 @@ use Rattle.axes.proofs.Lists.{cut-counted}
 use Rattle.axes.proofs.cut_tail.Statement.{statement}
 use Rattle.axes.proofs.cut_tail.Tie as tie
 
-len-requires : tie.Need-len-requires
-len-requires c κs = search needs
-
-len-requires-2 : tie.Need-len-requires-2
-len-requires-2 c κs = search needs
-
-cast-front : tie.Need-cast-front
-cast-front c =
-    let s = c .before .before .before in
-    omega (arith, axes-length (s .args .list) (simp length-map at (s .good .0 .1 .1 .1 .0 .1 .0 .1)), c .before .before .len .ensures)
-
-returns : tie.Need-returns
-returns c =
-    let c3 = c .before .before .before in
-    let a = c3 .args in cut-counted (a .list) (axesOf (a .tail)) _ _ 0 (c .before .before .len .ensures) (c .before .len2 .ensures) (omega arith)
-
-returns-2 : tie.Need-returns-2
-returns-2 c =
-    let c3 = c .before .before .before in
-    let a = c3 .args in cut-counted (a .list) (axesOf (a .tail)) _ _ _ (c .before .before .len .ensures) (c .before .len2 .ensures) refl
-
 pub cut-tail-spec : {M : Type 1} → statement M
-cut-tail-spec = tie.close (tie.spec len-requires len-requires-2 cast-front returns returns-2)
+cut-tail-spec = tie.close (tie.spec (λ c κs. search needs) (λ c κs. search needs) (λ c. let s = c .before .before .before in
+    omega (arith, axes-length (s .args .list) (simp length-map at (s .good .0 .1 .1 .1 .0 .1 .0 .1)), c .before .before .len .ensures)) (λ c. let c3 = c .before .before .before in
+    let a = c3 .args in cut-counted (a .list) (axesOf (a .tail)) _ _ 0 (c .before .before .len .ensures) (c .before .len2 .ensures) (omega arith)) (λ c. let c3 = c .before .before .before in
+    let a = c3 .args in cut-counted (a .list) (axesOf (a .tail)) _ _ _ (c .before .before .len .ensures) (c .before .len2 .ensures) refl))

@@ -23,41 +23,29 @@ Inv-loop list mesh count product₀ i₀ product i =
 abbrev μ-loop : tie.MeasureT-loop
 μ-loop list mesh count product₀ i₀ product i = count - i
 
-len-requires : tie.Need-len-requires Inv-loop μ-loop
-len-requires c κs = search needs
-
-loop-holds : tie.Need-loop-holds Inv-loop μ-loop
-loop-holds c =
-    let a = c .before in (
+pub span-spec : {M : Type 1} → statement M
+span-spec =
+    tie.close
+    (tie.spec
+    Inv-loop
+    μ-loop
+    (λ c κs. search needs)
+    (λ c. let a = c .before in (
       record { size = c .len .ensures; within = omega arith; same = omega arith },
       omega arith,
       omega (arith, axes-length (a .args .list) (simp length-map at (a .good .0 .1 .1 .1 .0 .1 .0 .1))),
-    )
-
-at-requires : tie.Need-at-requires Inv-loop μ-loop
-at-requires c κs = search needs
-
-size-requires : tie.Need-size-requires Inv-loop μ-loop
-size-requires c κs = search needs
-
-mul-product : tie.Need-mul-product Inv-loop μ-loop
-mul-product c =
-    let c3 = c .before .before .before in
+    ))
+    (λ c κs. search needs)
+    (λ c κs. search needs)
+    (λ c. let c3 = c .before .before .before in
     let c5 = c3 .before .before in
     let l = c3 .loop in
     let s = c .size .ensures in
     let m = c5 .pre .most (c .before .at .result .0) in
-    omega (arith, small _ (l .i) (omega (arith, l .inv .2)) (grown (l .product) (c .size .result) (l .i) (l .inv .1) (omega arith)))
-
-add-i : tie.Need-add-i Inv-loop μ-loop
-add-i c = search needs
-
-loop-less : tie.Need-loop-less Inv-loop μ-loop
-loop-less c = search needs
-
-loop-again : tie.Need-loop-again Inv-loop μ-loop
-loop-again c =
-    let c3 = c .before .before .before in
+    omega (arith, small _ (l .i) (omega (arith, l .inv .2)) (grown (l .product) (c .size .result) (l .i) (l .inv .1) (omega arith))))
+    (λ c. search needs)
+    (λ c. search needs)
+    (λ c. let c3 = c .before .before .before in
     let c5 = c3 .before .before in
     let l = c3 .loop in
     let s = c .size .ensures in
@@ -65,23 +53,5 @@ loop-again c =
       onward (l .inv .0) (c .before .before .loop-test .taken) _ 0 (c .before .at .ensures) _ (rw (s, mul-assoc) refl),
       grown (l .product) (c .size .result) (l .i) (l .inv .1) (omega arith),
       l .inv .2,
-    )
-
-returns : tie.Need-returns Inv-loop μ-loop
-returns c = sym (finish (c .before .loop .inv .0) (c .loop-test .left) ∙ mul-one _)
-
-pub span-spec : {M : Type 1} → statement M
-span-spec =
-    tie.close
-    (tie.spec
-    Inv-loop
-    μ-loop
-    len-requires
-    loop-holds
-    at-requires
-    size-requires
-    mul-product
-    add-i
-    loop-less
-    loop-again
-    returns)
+    ))
+    (λ c. sym (finish (c .before .loop .inv .0) (c .loop-test .left) ∙ mul-one _)))

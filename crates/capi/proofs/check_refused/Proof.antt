@@ -3,11 +3,5 @@ use mathlib.Core.Path.{refl}
 use Rattle.capi.proofs.check_refused.Statement.{statement}
 use Rattle.capi.proofs.check_refused.Tie as tie
 
-code-of-requires : tie.Need-code-of-requires
-code-of-requires c κs = search needs
-
-returns : tie.Need-returns
-returns c = rw (c .code-of .ensures) refl
-
 pub check-refused-spec : {M : Type 1} → statement M
-check-refused-spec = tie.close (tie.spec code-of-requires returns)
+check-refused-spec = tie.close (tie.spec (λ c κs. search needs) (λ c. rw (c .code-of .ensures) refl))

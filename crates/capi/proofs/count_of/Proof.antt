@@ -7,17 +7,5 @@ use Rattle.rules.proofs.Types.{axes-length}
 use Rattle.capi.proofs.count_of.Statement.{statement}
 use Rattle.capi.proofs.count_of.Tie as tie
 
-list-of-requires : tie.Need-list-of-requires
-list-of-requires c κs = search needs
-
-len-requires : tie.Need-len-requires
-len-requires c κs = search needs
-
-cast-result : tie.Need-cast-result
-cast-result c = search (needs, c .len .ensures, axes-length (c .before .list-of .result) (simp length-map at (c .before .list-of .ok .1 .1 .1 .0 .1 .0 .1)))
-
-returns : tie.Need-returns
-returns c = c .len .ensures ∙ ap (λ (l : List ℕ). length l) (c .before .list-of .ensures)
-
 pub count-of-spec : {M : Type 1} → statement M
-count-of-spec = tie.close (tie.spec list-of-requires len-requires cast-result returns)
+count-of-spec = tie.close (tie.spec (λ c κs. search needs) (λ c κs. search needs) (λ c. search (needs, c .len .ensures, axes-length (c .before .list-of .result) (simp length-map at (c .before .list-of .ok .1 .1 .1 .0 .1 .0 .1)))) (λ c. c .len .ensures ∙ ap (λ (l : List ℕ). length l) (c .before .list-of .ensures)))

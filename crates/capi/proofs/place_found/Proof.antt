@@ -2,18 +2,10 @@ use borrow.Author.Needs.{needs}
 use Rattle.capi.proofs.place_found.Statement.{statement}
 use Rattle.capi.proofs.place_found.Tie as tie
 
-five-counts-requires : tie.Need-five-counts-requires
-five-counts-requires c κs = search needs
-
-thirty-axes-requires : tie.Need-thirty-axes-requires
-thirty-axes-requires c κs = search needs
-
-cast-t8 : tie.Need-cast-t8
-cast-t8 c = search needs
-
-returns : tie.Need-returns
-returns c =
-    let s = c .before .before .before .before .before .args in
+pub place-found-spec : {M : Type 1} → statement M
+place-found-spec =
+    tie.close
+    (tie.spec (λ c κs. search needs) (λ c κs. search needs) (λ c. search needs) (λ c. let s = c .before .before .before .before .before .args in
     (λ i. record {
       refusal = 0;
       rank = s .rank;
@@ -21,9 +13,4 @@ returns c =
       first = s .placed .first;
       counts = c .before .five-counts .ensures i;
       axes = c .thirty-axes .ensures i;
-    })
-
-pub place-found-spec : {M : Type 1} → statement M
-place-found-spec =
-    tie.close
-    (tie.spec five-counts-requires thirty-axes-requires cast-t8 returns)
+    })))

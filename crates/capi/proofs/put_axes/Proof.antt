@@ -18,47 +18,21 @@ Inv-loop places₀ list i₀ places i = Filling (λ k. getD (axesOf list) k 0) p
 abbrev μ-loop : tie.MeasureT-loop
 μ-loop places₀ list i₀ places i = mostAxes - i
 
-loop-holds : tie.Need-loop-holds Inv-loop μ-loop
-loop-holds c = (record { same = refl; long = refl }, c .before .pre, omega arith)
-
-at-requires : tie.Need-at-requires Inv-loop μ-loop
-at-requires c κs = search needs
-
-slice-write-places : tie.Need-slice-write-places Inv-loop μ-loop
-slice-write-places c = let g = c .before .before .loop .inv in omega (arith, g .0 .long, g .1)
-
-add-i : tie.Need-add-i Inv-loop μ-loop
-add-i c = omega arith
-
-loop-less : tie.Need-loop-less Inv-loop μ-loop
-loop-less c = omega arith
-
-loop-again : tie.Need-loop-again Inv-loop μ-loop
-loop-again c =
-    let g = c .before .before .loop .inv in
-    (filled (g .0) (omega (arith, g .1)) _ (c .at .ensures), g .1, omega arith)
-
-same-length : tie.Need-same-length Inv-loop μ-loop
-same-length c = c .before .loop .inv .0 .long
-
-returns : tie.Need-returns Inv-loop μ-loop
-returns c =
-    let l = c .before .loop in
-    let a = c .before .before .before .args in
-    let word : ℕ → ℕ = λ k. getD (axesOf (a .list)) k 0 in
-    l .inv .0 .same ∙ front-full word (now (a .places)) (l .i) (omega (arith, l .inv .1)) ∙ ap (λ (n : ℕ). tab n word) (l .inv .1)
-
 pub put-axes-spec : {M : Type 1} → statement M
 put-axes-spec =
     tie.close
     (tie.spec
     Inv-loop
     μ-loop
-    loop-holds
-    at-requires
-    slice-write-places
-    add-i
-    loop-less
-    loop-again
-    same-length
-    returns)
+    (λ c. (record { same = refl; long = refl }, c .before .pre, omega arith))
+    (λ c κs. search needs)
+    (λ c. let g = c .before .before .loop .inv in omega (arith, g .0 .long, g .1))
+    (λ c. omega arith)
+    (λ c. omega arith)
+    (λ c. let g = c .before .before .loop .inv in
+    (filled (g .0) (omega (arith, g .1)) _ (c .at .ensures), g .1, omega arith))
+    (λ c. c .before .loop .inv .0 .long)
+    (λ c. let l = c .before .loop in
+    let a = c .before .before .before .args in
+    let word : ℕ → ℕ = λ k. getD (axesOf (a .list)) k 0 in
+    l .inv .0 .same ∙ front-full word (now (a .places)) (l .i) (omega (arith, l .inv .1)) ∙ ap (λ (n : ℕ). tab n word) (l .inv .1)))

@@ -21,29 +21,21 @@ Inv-loop lists rank marks₀ d₀ marks d =
 abbrev μ-loop : tie.MeasureT-loop
 μ-loop lists rank marks₀ d₀ marks d = rank - d
 
-loop-holds : tie.Need-loop-holds Inv-loop μ-loop
-loop-holds c =
-    let a = c .before .args in
-    (refl, begin _ _ _ (sym (dims-length (a .lists) (a .rank) (simp length-map at (c .before .good .0 .1 .1 .0 .1 .0 .1)) (omega arith))))
-
-cast-t7 : tie.Need-cast-t7 Inv-loop μ-loop
-cast-t7 c = search needs
-
-list-requires : tie.Need-list-requires Inv-loop μ-loop
-list-requires c κs = search needs
-
-mark-list-requires : tie.Need-mark-list-requires Inv-loop μ-loop
-mark-list-requires c κs = search needs
-
-add-d : tie.Need-add-d Inv-loop μ-loop
-add-d c = search needs
-
-loop-less : tie.Need-loop-less Inv-loop μ-loop
-loop-less c = search needs
-
-loop-again : tie.Need-loop-again Inv-loop μ-loop
-loop-again c =
-    let a = c .before .before .before .before .before .before .before .before .args in
+pub mark-dims-spec : {M : Type 1} → statement M
+unfolding marksWith
+mark-dims-spec =
+    tie.close
+    (tie.spec
+    Inv-loop
+    μ-loop
+    (λ c. let a = c .before .args in
+    (refl, begin _ _ _ (sym (dims-length (a .lists) (a .rank) (simp length-map at (c .before .good .0 .1 .1 .0 .1 .0 .1)) (omega arith)))))
+    (λ c. search needs)
+    (λ c κs. search needs)
+    (λ c κs. search needs)
+    (λ c. search needs)
+    (λ c. search needs)
+    (λ c. let a = c .before .before .before .before .before .before .before .before .args in
     let i = c .before .before .before .before .before .before .loop .inv in
     let h = c .before .before .before .before .before .loop-test .taken in
     let l = c .before .before .before .before .list in
@@ -51,27 +43,6 @@ loop-again c =
       m .kept .0 ∙ i .0,
       onward (i .1) h (axesOf (l .result)) [] (list-at (a .lists) (a .rank) _ _ h (l .ensures)) _
           (rw (m .ensures) (with-append _ (axesOf (l .result)) _)),
-    )
-
-same-length : tie.Need-same-length Inv-loop μ-loop
-same-length c = c .before .loop .inv .0
-
-returns : tie.Need-returns Inv-loop μ-loop
-unfolding marksWith
-returns c = sym (finish (c .before .loop .inv .1) (c .loop-test .left))
-
-pub mark-dims-spec : {M : Type 1} → statement M
-mark-dims-spec =
-    tie.close
-    (tie.spec
-    Inv-loop
-    μ-loop
-    loop-holds
-    cast-t7
-    list-requires
-    mark-list-requires
-    add-d
-    loop-less
-    loop-again
-    same-length
-    returns)
+    ))
+    (λ c. c .before .loop .inv .0)
+    (λ c. sym (finish (c .before .loop .inv .1) (c .loop-test .left))))

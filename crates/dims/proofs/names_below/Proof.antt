@@ -20,62 +20,33 @@ Inv-loop lists rank n d₀ d = Going (allBelow n (flat (take rank (dimsOf lists)
 abbrev μ-loop : tie.MeasureT-loop
 μ-loop lists rank n d₀ d = rank - d
 
-loop-holds : tie.Need-loop-holds Inv-loop μ-loop
-loop-holds c = begin _ _ _ (sym (dims-length (c .args .lists) (c .args .rank) (simp length-map at (c .good .0 .1 .1 .0 .1 .0 .1)) (omega arith)))
-
-cast-t7 : tie.Need-cast-t7 Inv-loop μ-loop
-cast-t7 c = search needs
-
-list-requires : tie.Need-list-requires Inv-loop μ-loop
-list-requires c κs = search needs
-
-all-below-requires : tie.Need-all-below-requires Inv-loop μ-loop
-all-below-requires c κs = search needs
-
-returns : tie.Need-returns Inv-loop μ-loop
-returns c =
-    let c3 = c .before .before .before in
+pub names-below-spec : {M : Type 1} → statement M
+unfolding allBelow
+names-below-spec =
+    tie.close
+    (tie.spec
+    Inv-loop
+    μ-loop
+    (λ c. begin _ _ _ (sym (dims-length (c .args .lists) (c .args .rank) (simp length-map at (c .good .0 .1 .1 .0 .1 .0 .1)) (omega arith))))
+    (λ c. search needs)
+    (λ c κs. search needs)
+    (λ c κs. search needs)
+    (λ c. let c3 = c .before .before .before in
     let c4 = c3 .before in
     let c5 = c4 .before in
     let a = c5 .args in
     let h = c3 .loop-test .taken in
     let l = axesOf (c .before .before .list .result) in
     sym (ahead (c4 .loop .inv) h l [] (list-at (a .lists) (a .rank) (c4 .loop .d) l h (c .before .before .list .ensures))
-    ∙ below-append (a .n) l _ ∙ simp (sym (c .before .all-below .ensures) ∙ not-true _ (c .if1 .taken)))
-
-add-d : tie.Need-add-d Inv-loop μ-loop
-add-d c = search needs
-
-loop-less : tie.Need-loop-less Inv-loop μ-loop
-loop-less c = search needs
-
-loop-again : tie.Need-loop-again Inv-loop μ-loop
-loop-again c =
-    let c3 = c .before .before .before in
+    ∙ below-append (a .n) l _ ∙ simp (sym (c .before .all-below .ensures) ∙ not-true _ (c .if1 .taken))))
+    (λ c. search needs)
+    (λ c. search needs)
+    (λ c. let c3 = c .before .before .before in
     let c4 = c3 .before in
     let c5 = c4 .before in
     let a = c5 .args in
     let h = c3 .loop-test .taken in
     let l = axesOf (c .before .before .list .result) in
     onward (c4 .loop .inv) h l [] (list-at (a .lists) (a .rank) (c4 .loop .d) l h (c .before .before .list .ensures)) _
-    (below-append (a .n) l _ ∙ simp (sym (c .before .all-below .ensures) ∙ not-false _ (c .if1 .left)))
-
-returns-2 : tie.Need-returns-2 Inv-loop μ-loop
-unfolding allBelow
-returns-2 c = sym (finish (c .before .loop .inv) (c .loop-test .left))
-
-pub names-below-spec : {M : Type 1} → statement M
-names-below-spec =
-    tie.close
-    (tie.spec
-    Inv-loop
-    μ-loop
-    loop-holds
-    cast-t7
-    list-requires
-    all-below-requires
-    returns
-    add-d
-    loop-less
-    loop-again
-    returns-2)
+    (below-append (a .n) l _ ∙ simp (sym (c .before .all-below .ensures) ∙ not-false _ (c .if1 .left))))
+    (λ c. sym (finish (c .before .loop .inv) (c .loop-test .left))))

@@ -6,15 +6,5 @@ use Rattle.rules.specs.Types.{shardingFrom}
 use Rattle.dims.proofs.no_lists.Statement.{statement}
 use Rattle.dims.proofs.no_lists.Tie as tie
 
-replicated-requires : tie.Need-replicated-requires
-replicated-requires c κs = search needs
-
-lists-within-requires : tie.Need-lists-within-requires
-lists-within-requires c κs = search needs
-
-returns : tie.Need-returns
-returns c =
-    c .lists-within .ensures ∙ ap (λ (u : List ℕ). shardingFrom (record { dims = []; unreduced = u })) (c .before .replicated .ensures .1)
-
 pub no-lists-spec : {M : Type 1} → statement M
-no-lists-spec = tie.close (tie.spec replicated-requires lists-within-requires returns)
+no-lists-spec = tie.close (tie.spec (λ c κs. search needs) (λ c κs. search needs) (λ c. c .lists-within .ensures ∙ ap (λ (u : List ℕ). shardingFrom (record { dims = []; unreduced = u })) (c .before .replicated .ensures .1)))

@@ -22,51 +22,31 @@ Inv-loop sharding mesh table rank shard₀ d₀ shard d =
 abbrev μ-loop : tie.MeasureT-loop
 μ-loop sharding mesh table rank shard₀ d₀ shard d = rank - d
 
-loop-holds : tie.Need-loop-holds Inv-loop μ-loop
-loop-holds c =
-    let a = c .args in
+pub shard-of-spec : {M : Type 1} → statement M
+shard-of-spec =
+    tie.close
+    (tie.spec
+    Inv-loop
+    μ-loop
+    (λ c. let a = c .args in
     let s = simp length-map at (c .good .0 .1 .1 .1 .0 .1 .0 .1) in (
       making _ _ _ _ (a .t1 .rank) (length-take-le (a .t1 .rank) (a .t1 .sizes) (omega (arith, s)))
           (dims-length (a .sharding) (a .t1 .rank) (simp length-map at (c .good .1 .0 .1 .1 .0 .1 .0 .1)) (omega arith)) (omega (arith, s)),
       refl,
       refl,
-    )
-
-cast-t12 : tie.Need-cast-t12 Inv-loop μ-loop
-cast-t12 c = search needs
-
-list-requires : tie.Need-list-requires Inv-loop μ-loop
-list-requires c κs = search needs
-
-mul-size : tie.Need-mul-size Inv-loop μ-loop
-mul-size c = search needs
-
-element-copy-out-size : tie.Need-element-copy-out-size Inv-loop μ-loop
-element-copy-out-size c = search needs
-
-span-requires : tie.Need-span-requires Inv-loop μ-loop
-span-requires c κs = search needs
-
-quotient-requires : tie.Need-quotient-requires Inv-loop μ-loop
-quotient-requires c κs =
-    let c5 = c .before .before .before .before .before in
-    omega (arith, c .span .ensures, span-least (meshOf (c5 .args .mesh)) (c5 .pre .1) (axesOf (c .before .before .list .result)))
-
-mul-shard : tie.Need-mul-shard Inv-loop μ-loop
-mul-shard c = search needs
-
-element-write-shard : tie.Need-element-write-shard Inv-loop μ-loop
-element-write-shard c = search needs
-
-add-d : tie.Need-add-d Inv-loop μ-loop
-add-d c = search needs
-
-loop-less : tie.Need-loop-less Inv-loop μ-loop
-loop-less c = search needs
-
-loop-again : tie.Need-loop-again Inv-loop μ-loop
-loop-again c =
-    let c3 = c .before .before .before in
+    ))
+    (λ c. search needs)
+    (λ c κs. search needs)
+    (λ c. search needs)
+    (λ c. search needs)
+    (λ c κs. search needs)
+    (λ c κs. let c5 = c .before .before .before .before .before in
+    omega (arith, c .span .ensures, span-least (meshOf (c5 .args .mesh)) (c5 .pre .1) (axesOf (c .before .before .list .result))))
+    (λ c. search needs)
+    (λ c. search needs)
+    (λ c. search needs)
+    (λ c. search needs)
+    (λ c. let c3 = c .before .before .before in
     let c4 = c3 .before in
     let c5 = c4 .before in
     let c6 = c5 .before in
@@ -75,29 +55,6 @@ loop-again c =
     let h = c4 .loop-test .taken in
     let p = sym (getD-take (a .t1 .rank) (a .t1 .sizes) (c5 .loop .d) 0 h) in
     let q = list-at (a .sharding) (a .t1 .rank) (c5 .loop .d) _ h (c3 .list .ensures) in
-    (makes (i .0) h _ 0 p _ [] q _ _ refl (rw (← (c .before .span .ensures)) (c .quotient .ensures)), i .1, stays (i .0) _ refl h (i .2))
-
-returns : tie.Need-returns Inv-loop μ-loop
-returns c =
-    let i = c .before .loop .inv in
-    (i .1, rw (i .1) (all-made (i .0) (c .loop-test .left)), i .2)
-
-pub shard-of-spec : {M : Type 1} → statement M
-shard-of-spec =
-    tie.close
-    (tie.spec
-    Inv-loop
-    μ-loop
-    loop-holds
-    cast-t12
-    list-requires
-    mul-size
-    element-copy-out-size
-    span-requires
-    quotient-requires
-    mul-shard
-    element-write-shard
-    add-d
-    loop-less
-    loop-again
-    returns)
+    (makes (i .0) h _ 0 p _ [] q _ _ refl (rw (← (c .before .span .ensures)) (c .quotient .ensures)), i .1, stays (i .0) _ refl h (i .2)))
+    (λ c. let i = c .before .loop .inv in
+    (i .1, rw (i .1) (all-made (i .0) (c .loop-test .left)), i .2)))

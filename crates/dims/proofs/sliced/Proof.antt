@@ -18,49 +18,35 @@ Inv-loop sharding lists rank next₀ d₀ next d = Making _++_ (take rank (dimsO
 abbrev μ-loop : tie.MeasureT-loop
 μ-loop sharding lists rank next₀ d₀ next d = rank - d
 
-loop-holds : tie.Need-loop-holds Inv-loop μ-loop
-unfolding dimsOf
-loop-holds c =
-    let a = c .args in
+pub sliced-spec : {M : Type 1} → statement M
+unfolding dimsOf slicedOf
+sliced-spec =
+    tie.close
+    (tie.spec
+    Inv-loop
+    μ-loop
+    (λ c. let a = c .args in
     let s = simp length-map at (c .good .0 .1 .1 .0 .1 .0 .1) in
     let t = simp length-map at (c .good .1 .0 .1 .1 .0 .1 .0 .1) in (
       making _++_ _ _ _ (a .rank) (dims-length (a .sharding) (a .rank) s (omega arith)) (dims-length (a .lists) (a .rank) t (omega arith))
           (omega (arith, length-map (a .sharding .dims) axesOf, s)),
       refl,
       refl,
-    )
-
-cast-t10 : tie.Need-cast-t10 Inv-loop μ-loop
-cast-t10 c = search needs
-
-list-requires : tie.Need-list-requires Inv-loop μ-loop
-list-requires c κs = search needs
-
-list-requires-2 : tie.Need-list-requires-2 Inv-loop μ-loop
-list-requires-2 c κs = search needs
-
-join-requires : tie.Need-join-requires Inv-loop μ-loop
-join-requires c κs =
-    let c3 = c .before .before .before in
+    ))
+    (λ c. search needs)
+    (λ c κs. search needs)
+    (λ c κs. search needs)
+    (λ c κs. let c3 = c .before .before .before in
     let c4 = c3 .before in
     let a = c4 .args in
     let h = c .before .before .loop-test .taken in
     let p = list-at (a .sharding) (a .rank) (c3 .loop .d) _ h (c .before .list .ensures) in
     let q = list-at (a .lists) (a .rank) (c3 .loop .d) _ h (c .list2 .ensures) in
-    omega (arith, c4 .pre .1 (c3 .loop .d), ap length p, ap length q)
-
-with-list-requires : tie.Need-with-list-requires Inv-loop μ-loop
-with-list-requires c κs = search needs
-
-add-d : tie.Need-add-d Inv-loop μ-loop
-add-d c = search needs
-
-loop-less : tie.Need-loop-less Inv-loop μ-loop
-loop-less c = search needs
-
-loop-again : tie.Need-loop-again Inv-loop μ-loop
-loop-again c =
-    let c3 = c .before .before .before in
+    omega (arith, c4 .pre .1 (c3 .loop .d), ap length p, ap length q))
+    (λ c κs. search needs)
+    (λ c. search needs)
+    (λ c. search needs)
+    (λ c. let c3 = c .before .before .before in
     let c4 = c3 .before in
     let c5 = c4 .before in
     let c6 = c5 .before in
@@ -70,27 +56,6 @@ loop-again c =
     let p = list-at (a .sharding) (a .rank) (c5 .loop .d) _ h (c3 .list .ensures) in
     let q = list-at (a .lists) (a .rank) (c5 .loop .d) _ h (c .before .before .list2 .ensures) in
     let w = c .with-list .ensures in
-    (makes (i .0) h _ [] p _ [] q _ _ (w .0) (c .before .join .ensures), w .1 ∙ i .1, stays (i .0) _ (w .0) h (i .2))
-
-returns : tie.Need-returns Inv-loop μ-loop
-unfolding slicedOf
-returns c =
-    let i = c .before .loop .inv in
-    (sharding-is _ _ _ _ (all-made (i .0) (c .loop-test .left)) (ap axesOf (i .1)), i .2)
-
-pub sliced-spec : {M : Type 1} → statement M
-sliced-spec =
-    tie.close
-    (tie.spec
-    Inv-loop
-    μ-loop
-    loop-holds
-    cast-t10
-    list-requires
-    list-requires-2
-    join-requires
-    with-list-requires
-    add-d
-    loop-less
-    loop-again
-    returns)
+    (makes (i .0) h _ [] p _ [] q _ _ (w .0) (c .before .join .ensures), w .1 ∙ i .1, stays (i .0) _ (w .0) h (i .2)))
+    (λ c. let i = c .before .loop .inv in
+    (sharding-is _ _ _ _ (all-made (i .0) (c .loop-test .left)) (ap axesOf (i .1)), i .2)))

@@ -24,21 +24,6 @@ Inv-loop lists rank mesh product₀ d₀ product d = (length (take rank (dimsOf 
 abbrev μ-loop : tie.MeasureT-loop
 μ-loop lists rank mesh product₀ d₀ product d = rank - d
 
-loop-holds : tie.Need-loop-holds Inv-loop μ-loop
-loop-holds c = (
-  dims-length (c .args .lists) (c .args .rank) (simp length-map at (c .good .0 .1 .1 .0 .1 .0 .1)) (omega arith),
-  refl,
-)
-
-cast-t8 : tie.Need-cast-t8 Inv-loop μ-loop
-cast-t8 c = search needs
-
-list-requires : tie.Need-list-requires Inv-loop μ-loop
-list-requires c κs = search needs
-
-span-requires : tie.Need-span-requires Inv-loop μ-loop
-span-requires c κs = search needs
-
 -- one list more
 next : (c : lts.After-span (list-reads.Asked, list-reads.Learnt, span-reads.Asked, span-reads.Learnt) reads.Pre reads.Post Inv-loop μ-loop)
     → (let a = c .before .before .before .before .args in
@@ -52,42 +37,28 @@ next c =
     ap₂ _*_ (i .1) (c .span .ensures)
     ∙ span-more (meshOf (a .mesh)) (take (a .rank) (dimsOf (a .lists))) d l (omega (arith, i .0)) (list-at (a .lists) (a .rank) d l h (c .before .list .ensures))
 
-mul-product : tie.Need-mul-product Inv-loop μ-loop
-mul-product c =
-    let s = c .before .before .before .before in
-    let ls = take (s .args .rank) (dimsOf (s .args .lists)) in
-    let b = span-most (meshOf (s .args .mesh)) (s .pre .1) (flat (take (c .before .before .before .loop .d + 1) ls))
-    (le-trans (flat-front ls (c .before .before .before .loop .d + 1)) (s .pre .2)) in
-    omega (arith, next c, b)
-
-add-d : tie.Need-add-d Inv-loop μ-loop
-add-d c = search needs
-
-loop-less : tie.Need-loop-less Inv-loop μ-loop
-loop-less c = search needs
-
-loop-again : tie.Need-loop-again Inv-loop μ-loop
-loop-again c = (c .before .before .before .loop .inv .0, next c)
-
-returns : tie.Need-returns Inv-loop μ-loop
-returns c =
-    let a = c .before .before .args in
-    let ls = take (a .rank) (dimsOf (a .lists)) in
-    let i = c .before .loop .inv in
-    i .1 ∙ ap (λ t. spanOf (meshOf (a .mesh)) (flat t)) (take-all (c .before .loop .d) ls (omega (arith, i .0, c .loop-test .left)))
-
 pub span-dims-spec : {M : Type 1} → statement M
 span-dims-spec =
     tie.close
     (tie.spec
     Inv-loop
     μ-loop
-    loop-holds
-    cast-t8
-    list-requires
-    span-requires
-    mul-product
-    add-d
-    loop-less
-    loop-again
-    returns)
+    (λ c. (
+      dims-length (c .args .lists) (c .args .rank) (simp length-map at (c .good .0 .1 .1 .0 .1 .0 .1)) (omega arith),
+      refl,
+    ))
+    (λ c. search needs)
+    (λ c κs. search needs)
+    (λ c κs. search needs)
+    (λ c. let s = c .before .before .before .before in
+    let ls = take (s .args .rank) (dimsOf (s .args .lists)) in
+    let b = span-most (meshOf (s .args .mesh)) (s .pre .1) (flat (take (c .before .before .before .loop .d + 1) ls))
+    (le-trans (flat-front ls (c .before .before .before .loop .d + 1)) (s .pre .2)) in
+    omega (arith, next c, b))
+    (λ c. search needs)
+    (λ c. search needs)
+    (λ c. (c .before .before .before .loop .inv .0, next c))
+    (λ c. let a = c .before .before .args in
+    let ls = take (a .rank) (dimsOf (a .lists)) in
+    let i = c .before .loop .inv in
+    i .1 ∙ ap (λ t. spanOf (meshOf (a .mesh)) (flat t)) (take-all (c .before .loop .d) ls (omega (arith, i .0, c .loop-test .left)))))

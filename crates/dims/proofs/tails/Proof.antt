@@ -18,74 +18,38 @@ Inv-loop sharding lists rank d₀ d = Testing isTail (take rank (dimsOf sharding
 abbrev μ-loop : tie.MeasureT-loop
 μ-loop sharding lists rank d₀ d = rank - d
 
-loop-holds : tie.Need-loop-holds Inv-loop μ-loop
-loop-holds c =
-    let a = c .args in
-    testing isTail _ _ (a .rank) (dims-length (a .sharding) (a .rank) (simp length-map at (c .good .0 .1 .1 .0 .1 .0 .1)) (omega arith))
-    (dims-length (a .lists) (a .rank) (simp length-map at (c .good .1 .0 .1 .1 .0 .1 .0 .1)) (omega arith))
-
-cast-t8 : tie.Need-cast-t8 Inv-loop μ-loop
-cast-t8 c = search needs
-
-list-requires : tie.Need-list-requires Inv-loop μ-loop
-list-requires c κs = search needs
-
-cast-t8-2 : tie.Need-cast-t8-2 Inv-loop μ-loop
-cast-t8-2 c = search needs
-
-list-requires-2 : tie.Need-list-requires-2 Inv-loop μ-loop
-list-requires-2 c κs = search needs
-
-is-tail-requires : tie.Need-is-tail-requires Inv-loop μ-loop
-is-tail-requires c κs = search needs
-
-returns : tie.Need-returns Inv-loop μ-loop
-returns c =
-    let c3 = c .before .before .before in
-    let c4 = c3 .before in
-    let c5 = c4 .before in
-    let c6 = c5 .before in
-    let a = c6 .args in
-    let h = c4 .loop-test .taken in
-    let p = list-at (a .sharding) (a .rank) (c5 .loop .d) _ h (c3 .list .ensures) in
-    let q = list-at (a .lists) (a .rank) (c5 .loop .d) _ h (c .before .before .list2 .ensures) in
-    sym (fails (c5 .loop .inv) h _ [] p _ [] q (sym (c .before .is-tail .ensures) ∙ not-true _ (c .if1 .taken)))
-
-add-d : tie.Need-add-d Inv-loop μ-loop
-add-d c = search needs
-
-loop-less : tie.Need-loop-less Inv-loop μ-loop
-loop-less c = search needs
-
-loop-again : tie.Need-loop-again Inv-loop μ-loop
-loop-again c =
-    let c3 = c .before .before .before in
-    let c4 = c3 .before in
-    let c5 = c4 .before in
-    let c6 = c5 .before in
-    let a = c6 .args in
-    let h = c4 .loop-test .taken in
-    let p = list-at (a .sharding) (a .rank) (c5 .loop .d) _ h (c3 .list .ensures) in
-    let q = list-at (a .lists) (a .rank) (c5 .loop .d) _ h (c .before .before .list2 .ensures) in
-    passes (c5 .loop .inv) h _ [] p _ [] q (sym (c .before .is-tail .ensures) ∙ not-false _ (c .if1 .left))
-
-returns-2 : tie.Need-returns-2 Inv-loop μ-loop
-returns-2 c = sym (tested (c .before .loop .inv) (c .loop-test .left))
-
 pub tails-spec : {M : Type 1} → statement M
 tails-spec =
     tie.close
     (tie.spec
     Inv-loop
     μ-loop
-    loop-holds
-    cast-t8
-    list-requires
-    cast-t8-2
-    list-requires-2
-    is-tail-requires
-    returns
-    add-d
-    loop-less
-    loop-again
-    returns-2)
+    (λ c. let a = c .args in
+    testing isTail _ _ (a .rank) (dims-length (a .sharding) (a .rank) (simp length-map at (c .good .0 .1 .1 .0 .1 .0 .1)) (omega arith))
+    (dims-length (a .lists) (a .rank) (simp length-map at (c .good .1 .0 .1 .1 .0 .1 .0 .1)) (omega arith)))
+    (λ c. search needs)
+    (λ c κs. search needs)
+    (λ c. search needs)
+    (λ c κs. search needs)
+    (λ c κs. search needs)
+    (λ c. let c3 = c .before .before .before in
+    let c4 = c3 .before in
+    let c5 = c4 .before in
+    let c6 = c5 .before in
+    let a = c6 .args in
+    let h = c4 .loop-test .taken in
+    let p = list-at (a .sharding) (a .rank) (c5 .loop .d) _ h (c3 .list .ensures) in
+    let q = list-at (a .lists) (a .rank) (c5 .loop .d) _ h (c .before .before .list2 .ensures) in
+    sym (fails (c5 .loop .inv) h _ [] p _ [] q (sym (c .before .is-tail .ensures) ∙ not-true _ (c .if1 .taken))))
+    (λ c. search needs)
+    (λ c. search needs)
+    (λ c. let c3 = c .before .before .before in
+    let c4 = c3 .before in
+    let c5 = c4 .before in
+    let c6 = c5 .before in
+    let a = c6 .args in
+    let h = c4 .loop-test .taken in
+    let p = list-at (a .sharding) (a .rank) (c5 .loop .d) _ h (c3 .list .ensures) in
+    let q = list-at (a .lists) (a .rank) (c5 .loop .d) _ h (c .before .before .list2 .ensures) in
+    passes (c5 .loop .inv) h _ [] p _ [] q (sym (c .before .is-tail .ensures) ∙ not-false _ (c .if1 .left)))
+    (λ c. sym (tested (c .before .loop .inv) (c .loop-test .left))))

@@ -20,42 +20,30 @@ Inv-loop table rank product₀ d₀ product d = Going (productOf (sizesOf table)
 abbrev μ-loop : tie.MeasureT-loop
 μ-loop table rank product₀ d₀ product d = rank - d
 
-loop-holds : tie.Need-loop-holds Inv-loop μ-loop
-loop-holds c =
-    let a = c .args in (
+pub words-spec : {M : Type 1} → statement M
+words-spec =
+    tie.close
+    (tie.spec
+    Inv-loop
+    μ-loop
+    (λ c. let a = c .args in (
       record {
         size = sym (length-take-le (a .t1 .rank) (a .t1 .sizes) (omega (arith, simp length-map at (c .good .0 .1 .1 .1 .0 .1 .0 .1))));
         within = omega arith;
         same = omega arith;
       },
       omega arith,
-    )
-
-mul-wide : tie.Need-mul-wide Inv-loop μ-loop
-mul-wide c = search needs
-
-element-copy-out-wide : tie.Need-element-copy-out-wide Inv-loop μ-loop
-element-copy-out-wide c = search needs
-
-wide-requires : tie.Need-wide-requires Inv-loop μ-loop
-wide-requires c κs = search needs
-
-mul-product : tie.Need-mul-product Inv-loop μ-loop
-mul-product c =
-    let c3 = c .before .before .before in
+    ))
+    (λ c. search needs)
+    (λ c. search needs)
+    (λ c κs. search needs)
+    (λ c. let c3 = c .before .before .before in
     let i = c3 .loop .inv in
     let s = c .wide .ensures .1 in
-    omega (arith, small _ (c3 .loop .d) (omega arith) (grown (c3 .loop .product) (c .wide .result) (c3 .loop .d) (i .1) (omega arith)))
-
-add-d : tie.Need-add-d Inv-loop μ-loop
-add-d c = search needs
-
-loop-less : tie.Need-loop-less Inv-loop μ-loop
-loop-less c = search needs
-
-loop-again : tie.Need-loop-again Inv-loop μ-loop
-loop-again c =
-    let c3 = c .before .before .before in
+    omega (arith, small _ (c3 .loop .d) (omega arith) (grown (c3 .loop .product) (c .wide .result) (c3 .loop .d) (i .1) (omega arith))))
+    (λ c. search needs)
+    (λ c. search needs)
+    (λ c. let c3 = c .before .before .before in
     let c4 = c3 .before in
     let a = c4 .args in
     let i = c3 .loop .inv in
@@ -63,23 +51,5 @@ loop-again c =
     let s = c .wide .ensures in (
       onward (i .0) h _ 0 (s .0 ∙ sym (getD-take (a .t1 .rank) (a .t1 .sizes) (c3 .loop .d) 0 h)) _ (sym (mul-assoc _ _ _)),
       grown (c3 .loop .product) (c .wide .result) (c3 .loop .d) (i .1) (omega arith),
-    )
-
-returns : tie.Need-returns Inv-loop μ-loop
-returns c = sym (finish (c .before .loop .inv .0) (c .loop-test .left) ∙ mul-one _)
-
-pub words-spec : {M : Type 1} → statement M
-words-spec =
-    tie.close
-    (tie.spec
-    Inv-loop
-    μ-loop
-    loop-holds
-    mul-wide
-    element-copy-out-wide
-    wide-requires
-    mul-product
-    add-d
-    loop-less
-    loop-again
-    returns)
+    ))
+    (λ c. sym (finish (c .before .loop .inv .0) (c .loop-test .left) ∙ mul-one _)))

@@ -18,21 +18,18 @@ Inv-loop more but count whole₀ i₀ whole i =
 abbrev μ-loop : tie.MeasureT-loop
 μ-loop more but count whole₀ i₀ whole i = count - i
 
-len-requires : tie.Need-len-requires Inv-loop μ-loop
-len-requires c κs = search needs
-
-loop-holds : tie.Need-loop-holds Inv-loop μ-loop
-loop-holds c = refl
-
-at-requires : tie.Need-at-requires Inv-loop μ-loop
-at-requires c κs = search needs
-
-is-in-requires : tie.Need-is-in-requires Inv-loop μ-loop
-is-in-requires c κs = search needs
-
-with-unless-requires : tie.Need-with-unless-requires Inv-loop μ-loop
-with-unless-requires c κs =
-    let l = c .before .before .before in
+pub extended-spec : {M : Type 1} → statement M
+unfolding without keep
+extended-spec =
+    tie.close
+    (tie.spec
+    Inv-loop
+    μ-loop
+    (λ c κs. search needs)
+    (λ c. refl)
+    (λ c κs. search needs)
+    (λ c κs. search needs)
+    (λ c κs. let l = c .before .before .before in
     let a = l .before .before in
     let more = axesOf (a .args .more) in
     let but = axesOf (a .args .but) in
@@ -41,17 +38,10 @@ with-unless-requires c κs =
     let e = l .loop .inv ∙ ap (λ (r : List ℕ). axesOf (l .loop .whole) ++ without r but) t
     ∙ keeps (axesOf (l .loop .whole)) but (drop (l .loop .i + 1) more) _ next (c .is-in .ensures) in
     let rest = without (drop (l .loop .i + 1) more) but in
-    omega (arith, a .pre, ap length e, length-append (axesOf (l .loop .whole) ++ pick (c .is-in .result) [] (next ∷ [])) rest)
-
-add-i : tie.Need-add-i Inv-loop μ-loop
-add-i c = search needs
-
-loop-less : tie.Need-loop-less Inv-loop μ-loop
-loop-less c = search needs
-
-loop-again : tie.Need-loop-again Inv-loop μ-loop
-loop-again c =
-    let l = c .before .before .before .before in
+    omega (arith, a .pre, ap length e, length-append (axesOf (l .loop .whole) ++ pick (c .is-in .result) [] (next ∷ [])) rest))
+    (λ c. search needs)
+    (λ c. search needs)
+    (λ c. let l = c .before .before .before .before in
     let a = l .before .before in
     let more = axesOf (a .args .more) in
     let but = axesOf (a .args .but) in
@@ -59,30 +49,10 @@ loop-again c =
     let t = drop-at more (l .loop .i) next 0 (omega (arith, l .before .len .ensures)) (c .before .before .at .ensures) in
     let e = l .loop .inv ∙ ap (λ (r : List ℕ). axesOf (l .loop .whole) ++ without r but) t
     ∙ keeps (axesOf (l .loop .whole)) but (drop (l .loop .i + 1) more) _ next (c .before .is-in .ensures) in
-    e ∙ ap (λ (r : List ℕ). r ++ without (drop (l .loop .i + 1) more) but) (sym (c .with-unless .ensures))
-
-returns : tie.Need-returns Inv-loop μ-loop
-unfolding without keep
-returns c =
-    let l = c .before in
+    e ∙ ap (λ (r : List ℕ). r ++ without (drop (l .loop .i + 1) more) but) (sym (c .with-unless .ensures)))
+    (λ c. let l = c .before in
     let a = l .before .before .args in
     let more = axesOf (a .more) in
     let whole = axesOf (l .loop .whole) in
     let none : drop (l .loop .i) more ≡ [] = drop-of-length-le more {i = l .loop .i} (omega (arith, l .before .len .ensures)) in
-    sym (l .loop .inv ∙ ap (λ (r : List ℕ). whole ++ without r (axesOf (a .but))) none ∙ append-nil whole)
-
-pub extended-spec : {M : Type 1} → statement M
-extended-spec =
-    tie.close
-    (tie.spec
-    Inv-loop
-    μ-loop
-    len-requires
-    loop-holds
-    at-requires
-    is-in-requires
-    with-unless-requires
-    add-i
-    loop-less
-    loop-again
-    returns)
+    sym (l .loop .inv ∙ ap (λ (r : List ℕ). whole ++ without r (axesOf (a .but))) none ∙ append-nil whole)))

@@ -17,52 +17,25 @@ Inv-loop axes list₀ i₀ list i = (i ≤ length axes) × (axesOf list ≡ take
 abbrev μ-loop : tie.MeasureT-loop
 μ-loop axes list₀ i₀ list i = length axes - i
 
-empty-requires : tie.Need-empty-requires Inv-loop μ-loop
-empty-requires c κs = search needs
-
-loop-holds : tie.Need-loop-holds Inv-loop μ-loop
-loop-holds c = (omega arith, c .empty .ensures)
-
-shared-slice-read-t7 : tie.Need-shared-slice-read-t7 Inv-loop μ-loop
-shared-slice-read-t7 c = search needs
-
-with-requires : tie.Need-with-requires Inv-loop μ-loop
-with-requires c κs =
-    let l = c .before .before in
-    let a = l .before .before .before in
-    rw (l .loop .inv .1) (omega (arith, length-take-le (l .loop .i) (now (a .args .axes)) (l .loop .inv .0), a .pre))
-
-add-i : tie.Need-add-i Inv-loop μ-loop
-add-i c = search needs
-
-loop-less : tie.Need-loop-less Inv-loop μ-loop
-loop-less c = search needs
-
-loop-again : tie.Need-loop-again Inv-loop μ-loop
-loop-again c =
-    let l = c .before .before .before in
-    let axes = now (l .before .before .before .args .axes) in
-    let a = getD axes (l .loop .i) 0 in (
-      omega arith,
-      c .with .ensures ∙ ap (λ L. L ++ a ∷ []) (l .loop .inv .1) ∙ sym (take-at axes (l .loop .i) a (c .before .before .loop-test .taken) refl),
-    )
-
-returns : tie.Need-returns Inv-loop μ-loop
-returns c =
-    let l = c .before in
-    l .loop .inv .1 ∙ take-all (l .loop .i) (now (l .before .before .before .args .axes)) (c .loop-test .left)
-
 pub list-of-spec : {M : Type 1} → statement M
 list-of-spec =
     tie.close
     (tie.spec
     Inv-loop
     μ-loop
-    empty-requires
-    loop-holds
-    shared-slice-read-t7
-    with-requires
-    add-i
-    loop-less
-    loop-again
-    returns)
+    (λ c κs. search needs)
+    (λ c. (omega arith, c .empty .ensures))
+    (λ c. search needs)
+    (λ c κs. let l = c .before .before in
+    let a = l .before .before .before in
+    rw (l .loop .inv .1) (omega (arith, length-take-le (l .loop .i) (now (a .args .axes)) (l .loop .inv .0), a .pre)))
+    (λ c. search needs)
+    (λ c. search needs)
+    (λ c. let l = c .before .before .before in
+    let axes = now (l .before .before .before .args .axes) in
+    let a = getD axes (l .loop .i) 0 in (
+      omega arith,
+      c .with .ensures ∙ ap (λ L. L ++ a ∷ []) (l .loop .inv .1) ∙ sym (take-at axes (l .loop .i) a (c .before .before .loop-test .taken) refl),
+    ))
+    (λ c. let l = c .before in
+    l .loop .inv .1 ∙ take-all (l .loop .i) (now (l .before .before .before .args .axes)) (c .loop-test .left)))

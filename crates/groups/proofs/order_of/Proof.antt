@@ -7,37 +7,19 @@ use Rattle.groups.proofs.Ordering.{remaining-length, order-length, orde
 use Rattle.groups.proofs.order_of.Statement.{statement}
 use Rattle.groups.proofs.order_of.Tie as tie
 
-empty-requires : tie.Need-empty-requires
-empty-requires c κs = search needs
-
-axes-below-requires : tie.Need-axes-below-requires
-axes-below-requires c κs = c .before .pre .few
-
-extended-requires : tie.Need-extended-requires
-extended-requires c κs =
-    let a = c .before .before in
-    rw (c .before .empty .ensures, c .axes-below .ensures) (omega (arith, remaining-length (a .pre), a .pre .few))
-
-extended-requires-2 : tie.Need-extended-requires-2
-extended-requires-2 c κs =
-    let b = c .before in
+pub order-of-spec : {M : Type 1} → statement M
+order-of-spec =
+    tie.close
+    (tie.spec (λ c κs. search needs) (λ c κs. c .before .pre .few) (λ c κs. let a = c .before .before in
+    rw (c .before .empty .ensures, c .axes-below .ensures) (omega (arith, remaining-length (a .pre), a .pre .few))) (λ c κs. let b = c .before in
     let a = b .before .before in
     let made =
     order-made (a .args .n) (axesOf (a .args .list))
     (axesOf (b .before .empty .result)) (axesOf (b .axes-below .result)) (axesOf (c .extended .result))
     (b .before .empty .ensures) (b .axes-below .ensures) (c .extended .ensures) in
-    omega (arith, ap length made, order-length (a .pre), a .pre .few)
-
-returns : tie.Need-returns
-returns c =
-    let e = c .before in
+    omega (arith, ap length made, order-length (a .pre), a .pre .few)) (λ c. let e = c .before in
     let b = e .before in
     let a = b .before .before .args in
     c .extended2 .ensures
     ∙ order-made (a .n) (axesOf (a .list)) (axesOf (b .before .empty .result)) (axesOf (b .axes-below .result)) (axesOf (e .extended .result))
-    (b .before .empty .ensures) (b .axes-below .ensures) (e .extended .ensures)
-
-pub order-of-spec : {M : Type 1} → statement M
-order-of-spec =
-    tie.close
-    (tie.spec empty-requires axes-below-requires extended-requires extended-requires-2 returns)
+    (b .before .empty .ensures) (b .axes-below .ensures) (e .extended .ensures)))

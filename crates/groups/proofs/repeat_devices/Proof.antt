@@ -19,20 +19,6 @@ Inv-loop out₀ count end stride place₀ out place = Filling (repeated out₀ c
 abbrev μ-loop : tie.MeasureT-loop
 μ-loop out₀ count end stride place₀ out place = end - place
 
-loop-holds : tie.Need-loop-holds Inv-loop μ-loop
-loop-holds c =
-    let p = c .pre in
-    (repeating (now (c .args .out)) (c .args .count) (c .args .stride) (omega (arith, p .more, p .room)), omega arith, omega (arith, p .more))
-
-sub-device : tie.Need-sub-device Inv-loop μ-loop
-sub-device c = search needs
-
-mul-device : tie.Need-mul-device Inv-loop μ-loop
-mul-device c = search needs
-
-slice-read-device : tie.Need-slice-read-device Inv-loop μ-loop
-slice-read-device c = search needs
-
 -- the device that is written
 next : (c : tie.After-slice-known Inv-loop μ-loop)
     → (let l = c .before .before in
@@ -49,59 +35,28 @@ few : (c : tie.After-slice-known Inv-loop μ-loop)
     getD (l .loop .out) (l .loop .place - a .count) 0 + a .stride < mostDevices)
 few c = rw (next c) (c .before .before .before .pre .few (c .before .before .loop .place) (c .before .loop-test .taken))
 
-cast-device : tie.Need-cast-device Inv-loop μ-loop
-cast-device c = omega (arith, few c)
-
-add-device : tie.Need-add-device Inv-loop μ-loop
-add-device c = omega (arith, few c)
-
-cast-out : tie.Need-cast-out Inv-loop μ-loop
-cast-out c = omega (arith, few c)
-
-mul-out : tie.Need-mul-out Inv-loop μ-loop
-mul-out c = search needs
-
-slice-write-out : tie.Need-slice-write-out Inv-loop μ-loop
-slice-write-out c = search needs
-
-add-place : tie.Need-add-place Inv-loop μ-loop
-add-place c = search needs
-
-loop-less : tie.Need-loop-less Inv-loop μ-loop
-loop-less c = search needs
-
-loop-again : tie.Need-loop-again Inv-loop μ-loop
-loop-again c =
-    let l = c .before .before in
-    (filled (l .loop .inv .0) (omega (arith, l .before .pre .room)) _ (next c), omega arith, omega arith)
-
-same-length : tie.Need-same-length Inv-loop μ-loop
-same-length c = search needs
-
-returns : tie.Need-returns Inv-loop μ-loop
-returns c =
-    let l = c .before in
-    let a = l .before .args in
-    let all : l .loop .place ≡ a .end = omega arith in
-    l .loop .inv .0 .same ∙ ap (λ (k : ℕ). tab k (repeated (now (a .out)) (a .count) (a .stride)) ++ drop k (now (a .out))) all
-
 pub repeat-devices-spec : {M : Type 1} → statement M
 repeat-devices-spec =
     tie.close
     (tie.spec
     Inv-loop
     μ-loop
-    loop-holds
-    sub-device
-    mul-device
-    slice-read-device
-    cast-device
-    add-device
-    cast-out
-    mul-out
-    slice-write-out
-    add-place
-    loop-less
-    loop-again
-    same-length
-    returns)
+    (λ c. let p = c .pre in
+    (repeating (now (c .args .out)) (c .args .count) (c .args .stride) (omega (arith, p .more, p .room)), omega arith, omega (arith, p .more)))
+    (λ c. search needs)
+    (λ c. search needs)
+    (λ c. search needs)
+    (λ c. omega (arith, few c))
+    (λ c. omega (arith, few c))
+    (λ c. omega (arith, few c))
+    (λ c. search needs)
+    (λ c. search needs)
+    (λ c. search needs)
+    (λ c. search needs)
+    (λ c. let l = c .before .before in
+    (filled (l .loop .inv .0) (omega (arith, l .before .pre .room)) _ (next c), omega arith, omega arith))
+    (λ c. search needs)
+    (λ c. let l = c .before in
+    let a = l .before .args in
+    let all : l .loop .place ≡ a .end = omega arith in
+    l .loop .inv .0 .same ∙ ap (λ (k : ℕ). tab k (repeated (now (a .out)) (a .count) (a .stride)) ++ drop k (now (a .out))) all))

@@ -6,16 +6,6 @@ use Rattle.rules.specs.Types.{axesOf}
 use Rattle.groups.proofs.with_unless.Statement.{statement}
 use Rattle.groups.proofs.with_unless.Tie as tie
 
-with-requires : tie.Need-with-requires
-with-requires c κs =
-    let a = c .before in
-    omega (arith, length-append (axesOf (a .args .list)) (a .args .axis .0 ∷ []), simp (c .if1 .left) at (a .pre))
-
-returns : tie.Need-returns
-returns c = simp (c .if1 .taken, append-nil)
-
-returns-2 : tie.Need-returns-2
-returns-2 c = c .with .ensures ∙ simp (c .before .if1 .left)
-
 pub with-unless-spec : {M : Type 1} → statement M
-with-unless-spec = tie.close (tie.spec with-requires returns returns-2)
+with-unless-spec = tie.close (tie.spec (λ c κs. let a = c .before in
+    omega (arith, length-append (axesOf (a .args .list)) (a .args .axis .0 ∷ []), simp (c .if1 .left) at (a .pre))) (λ c. simp (c .if1 .taken, append-nil)) (λ c. c .with .ensures ∙ simp (c .before .if1 .left)))

@@ -6,23 +6,7 @@ use Rattle.judge.proofs.Steps.{not-tails, gathers}
 use Rattle.judge.proofs.gather_off.Statement.{statement}
 use Rattle.judge.proofs.gather_off.Tie as tie
 
-tails-requires : tie.Need-tails-requires
-tails-requires c κs = search needs
-
-refused-step-requires : tie.Need-refused-step-requires
-refused-step-requires c κs = search needs
-
-returns : tie.Need-returns
-returns c =
-    let c3 = c .before .before .before in
-    c .refused-step .ensures (c3 .args .rank) ∙ sym (not-tails _ _ _ (sym (c .before .before .tails .ensures) ∙ not-true _ (c .before .if1 .taken)))
-
-gathered-requires : tie.Need-gathered-requires
-gathered-requires c κs = search needs
-
-returns-2 : tie.Need-returns-2
-returns-2 c = ap accept (c .gathered .ensures .0) ∙ sym (gathers _ _ _ (sym (c .before .before .tails .ensures) ∙ not-false _ (c .before .if1 .left)))
-
 pub gather-off-spec : {M : Type 1} → statement M
 gather-off-spec =
-    tie.close (tie.spec tails-requires refused-step-requires returns gathered-requires returns-2)
+    tie.close (tie.spec (λ c κs. search needs) (λ c κs. search needs) (λ c. let c3 = c .before .before .before in
+    c .refused-step .ensures (c3 .args .rank) ∙ sym (not-tails _ _ _ (sym (c .before .before .tails .ensures) ∙ not-true _ (c .before .if1 .taken)))) (λ c κs. search needs) (λ c. ap accept (c .gathered .ensures .0) ∙ sym (gathers _ _ _ (sym (c .before .before .tails .ensures) ∙ not-false _ (c .before .if1 .left)))))

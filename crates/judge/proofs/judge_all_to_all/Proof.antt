@@ -17,40 +17,28 @@ use Rattle.judge.proofs.Steps.{only-at, no-dims, gather-stops, gather-p
 use Rattle.judge.proofs.judge_all_to_all.Statement.{statement}
 use Rattle.judge.proofs.judge_all_to_all.Tie as tie
 
-two-dims-requires : tie.Need-two-dims-requires
-two-dims-requires c κs = search needs
+enum-told : tie.Need-enum-told
+enum-told c = search needs
 
-refused-step-requires : tie.Need-refused-step-requires
-refused-step-requires c κs = search needs
-
-returns : tie.Need-returns
-returns c =
-    let c3 = c .before .before .before in
+pub judge-all-to-all-spec : {M : Type 1} → statement M
+judge-all-to-all-spec =
+    tie.close
+    (tie.spec
+    (λ c κs. search needs)
+    (λ c κs. search needs)
+    (λ c. let c3 = c .before .before .before in
     let a = c3 .args in
     let r = a .table .rank in
     let w = dims-length (a .sharding) r (simp length-map at (c3 .good .1 .1 .1 .1 .0 .1 .1 .0 .1 .0 .1)) (omega (arith, c3 .pre .0 .fits .rank)) in
     c .refused-step .ensures r
     ∙ sym (no-dims (meshOf (a .mesh)) (sizesOf (a .table)) (a .k) (a .source .0) (a .target .0) (axesOf (a .list)) (shardingOf r (a .sharding)) r w
-    (sym (c .before .before .two-dims .ensures) ∙ not-true _ (c .before .if1 .taken)))
-
-replicated-requires : tie.Need-replicated-requires
-replicated-requires c κs = search needs
-
-with-list-requires : tie.Need-with-list-requires
-with-list-requires c κs = search needs
-
-gather-off-requires : tie.Need-gather-off-requires
-gather-off-requires c κs = search needs
-
-enum-told : tie.Need-enum-told
-enum-told c = search needs
-
-enum-told-2 : tie.Need-enum-told-2
-enum-told-2 c = search needs
-
-returns-2 : tie.Need-returns-2
-returns-2 c =
-    let c3 = c .before .before .before in
+    (sym (c .before .before .two-dims .ensures) ∙ not-true _ (c .before .if1 .taken))))
+    (λ c κs. search needs)
+    (λ c κs. search needs)
+    (λ c κs. search needs)
+    enum-told
+    (λ c. search needs)
+    (λ c. let c3 = c .before .before .before in
     let c4 = c3 .before in
     let c5 = c4 .before in
     let c6 = c5 .before in
@@ -65,14 +53,9 @@ returns-2 c =
     let off = only-at r (a .source .0) L _ _ h (twoDims-facts r (a .source .0) (a .target .0) (rw d tt) .0) (c4 .replicated .ensures .0)
     (c3 .with-list .ensures .0) in
     gather-stops (meshOf (a .mesh)) (sizesOf (a .table)) (a .k) (a .source .0) (a .target .0) L s r w d _ _
-    (c .before .before .gather-off .ensures ∙ ap (λ (x : List (List ℕ)). gatherOff (a .k) x s) off) _ (c .enum-told2 .given .1)
-
-with-list-requires-2 : tie.Need-with-list-requires-2
-with-list-requires-2 c κs = search needs
-
-slice-on-requires : tie.Need-slice-on-requires
-slice-on-requires c κs =
-    let c4 = c .before .before .before .before in
+    (c .before .before .gather-off .ensures ∙ ap (λ (x : List (List ℕ)). gatherOff (a .k) x s) off) _ (c .enum-told2 .given .1))
+    (λ c κs. search needs)
+    (λ c κs. let c4 = c .before .before .before .before in
     let c5 = c4 .before in
     let c6 = c5 .before in
     let c7 = c6 .before in
@@ -97,11 +80,8 @@ slice-on-requires c κs =
           (shardingOf r (c4 .gather-off .result .sharding))
           (c4 .gather-off .ensures ∙ ap (λ (x : List (List ℕ)). gatherOff (a .k) x s) off) (c .before .before .enum-told .given .1) (g .sound)
           (omega (arith, e, g .fits .axes)) (g .fits .sized .least) b (t .0) (t .1)),
-    )
-
-returns-3 : tie.Need-returns-3
-returns-3 c =
-    let c3 = c .before .before .before in
+    ))
+    (λ c. let c3 = c .before .before .before in
     let c5 = c3 .before .before in
     let c6 = c5 .before in
     let c7 = c6 .before in
@@ -121,21 +101,4 @@ returns-3 c =
     let b = shardingOf r (c5 .gather-off .result .sharding) in
     c .slice-on .ensures ∙ ap (λ (x : List (List ℕ)). sliceOn (meshOf (a .mesh)) (sizesOf (a .table)) (a .k) x b) on
     ∙ sym (gather-passes (meshOf (a .mesh)) (sizesOf (a .table)) (a .k) (a .source .0) (a .target .0) L s r w d _ b
-    (c5 .gather-off .ensures ∙ ap (λ (x : List (List ℕ)). gatherOff (a .k) x s) off) (c3 .enum-told .given .1))
-
-pub judge-all-to-all-spec : {M : Type 1} → statement M
-judge-all-to-all-spec =
-    tie.close
-    (tie.spec
-    two-dims-requires
-    refused-step-requires
-    returns
-    replicated-requires
-    with-list-requires
-    gather-off-requires
-    enum-told
-    enum-told-2
-    returns-2
-    with-list-requires-2
-    slice-on-requires
-    returns-3)
+    (c5 .gather-off .ensures ∙ ap (λ (x : List (List ℕ)). gatherOff (a .k) x s) off) (c3 .enum-told .given .1))))

@@ -16,54 +16,36 @@ use Rattle.judge.proofs.Steps.{both-before, fresh-stops, fresh-passes, 
 use Rattle.judge.proofs.judge_slice.Statement.{statement}
 use Rattle.judge.proofs.judge_slice.Tie as tie
 
-slice-aggregate-mark-dims : tie.Need-slice-aggregate-mark-dims
-slice-aggregate-mark-dims c = search needs
-
-mark-dims-requires : tie.Need-mark-dims-requires
-mark-dims-requires c κs = search needs
-
-slice-aggregate-mark-list : tie.Need-slice-aggregate-mark-list
-slice-aggregate-mark-list c = search (needs, ap length (c .before .before .before .mark-dims .ensures) ∙ length-with _ _)
-
-mark-list-requires : tie.Need-mark-list-requires
-mark-list-requires c κs = search needs
-
-slice-aggregate-judge-dims : tie.Need-slice-aggregate-judge-dims
-slice-aggregate-judge-dims c =
-    search (
-      needs,
-      ap length (c .before .before .mark-list .ensures) ∙ length-with _ _ ∙ ap length (c .before .before .before .before .before .before .mark-dims .ensures)
-          ∙ length-with _ _,
-    )
-
-judge-dims-requires : tie.Need-judge-dims-requires
-judge-dims-requires c κs =
-    let s = c .before .before .before .before .before .before .before .before in
-    let m = ap length (c .before .before .before .before .before .before .mark-dims .ensures) ∙ length-with _ _ in
-    let k = ap length (c .before .before .mark-list .ensures) ∙ length-with _ _ in
-    (s .pre .0 .fits .rank, omega (arith, s .pre .0 .fits .axes, m, k))
-
 enum-told : tie.Need-enum-told
 enum-told c = search needs
 
-enum-told-2 : tie.Need-enum-told-2
-enum-told-2 c = search needs
-
-refused-step-requires : tie.Need-refused-step-requires
-refused-step-requires c κs = search needs
-
-returns : tie.Need-returns
-returns c =
-    let s = c .before .before .before .before .before .before .before .before .before .before .before .before .before in
+pub judge-slice-spec : {M : Type 1} → statement M
+judge-slice-spec =
+    tie.close
+    (tie.spec
+    (λ c. search needs)
+    (λ c κs. search needs)
+    (λ c. search (needs, ap length (c .before .before .before .mark-dims .ensures) ∙ length-with _ _))
+    (λ c κs. search needs)
+    (λ c. search (
+      needs,
+      ap length (c .before .before .mark-list .ensures) ∙ length-with _ _ ∙ ap length (c .before .before .before .before .before .before .mark-dims .ensures)
+          ∙ length-with _ _,
+    ))
+    (λ c κs. let s = c .before .before .before .before .before .before .before .before in
+    let m = ap length (c .before .before .before .before .before .before .mark-dims .ensures) ∙ length-with _ _ in
+    let k = ap length (c .before .before .mark-list .ensures) ∙ length-with _ _ in
+    (s .pre .0 .fits .rank, omega (arith, s .pre .0 .fits .axes, m, k)))
+    enum-told
+    (λ c. search needs)
+    (λ c κs. search needs)
+    (λ c. let s = c .before .before .before .before .before .before .before .before .before .before .before .before .before in
     let m = c .before .before .before .before .before .before .before .before .before .before .before .mark-dims .ensures in
     let k = c .before .before .before .before .before .before .before .mark-list .ensures in
     let j = c .before .before .before .before .judge-dims .ensures .0 ∙ both-before (s .args .mesh .n) _ _ _ (s .pre .0 .fits .axes) m k in
     c .refused-step .ensures (s .args .table .rank)
-    ∙ sym (not-replicated _ _ _ _ _ (fresh-stops (s .args .mesh .n) _ _ (s .pre .1) _ j _ (c .before .enum-told2 .given .1)))
-
-slice-on-requires : tie.Need-slice-on-requires
-slice-on-requires c κs =
-    let s = c .before .before .before .before .before .before .before .before .before .before .before .before in
+    ∙ sym (not-replicated _ _ _ _ _ (fresh-stops (s .args .mesh .n) _ _ (s .pre .1) _ j _ (c .before .enum-told2 .given .1))))
+    (λ c κs. let s = c .before .before .before .before .before .before .before .before .before .before .before .before in
     let m = c .before .before .before .before .before .before .before .before .before .before .mark-dims .ensures in
     let k = c .before .before .before .before .before .before .mark-list .ensures in
     let a = s .args in
@@ -75,29 +57,9 @@ slice-on-requires c κs =
       g .fits,
       fresh-room (meshOf (a .mesh)) (sizesOf (a .table)) (shardingOf (a .table .rank) (a .sharding)) (g .sound) (omega (arith, e, g .fits .axes)) Ss
           (subst (λ (x : ℕ). T (allBelow x (flat Ss))) (sym e) (s .pre .1)) (rw f tt),
-    )
-
-returns-2 : tie.Need-returns-2
-returns-2 c =
-    let s = c .before .before .before .before .before .before .before .before .before .before .before .before .before in
+    ))
+    (λ c. let s = c .before .before .before .before .before .before .before .before .before .before .before .before .before in
     let m = c .before .before .before .before .before .before .before .before .before .before .before .mark-dims .ensures in
     let k = c .before .before .before .before .before .before .before .mark-list .ensures in
     let j = c .before .before .before .before .judge-dims .ensures .0 ∙ both-before (s .args .mesh .n) _ _ _ (s .pre .0 .fits .axes) m k in
-    c .slice-on .ensures ∙ sym (replicated _ _ _ _ _ (fresh-passes (s .args .mesh .n) _ _ (s .pre .1) _ j (c .before .enum-told .given .1)))
-
-pub judge-slice-spec : {M : Type 1} → statement M
-judge-slice-spec =
-    tie.close
-    (tie.spec
-    slice-aggregate-mark-dims
-    mark-dims-requires
-    slice-aggregate-mark-list
-    mark-list-requires
-    slice-aggregate-judge-dims
-    judge-dims-requires
-    enum-told
-    enum-told-2
-    refused-step-requires
-    returns
-    slice-on-requires
-    returns-2)
+    c .slice-on .ensures ∙ sym (replicated _ _ _ _ _ (fresh-passes (s .args .mesh .n) _ _ (s .pre .1) _ j (c .before .enum-told .given .1)))))

@@ -13,38 +13,28 @@ use Rattle.judge.proofs.Steps.{named-stops, named-passes, stays}
 use Rattle.judge.proofs.judge_step.Statement.{statement}
 use Rattle.judge.proofs.judge_step.Tie as tie
 
-judge-named-requires : tie.Need-judge-named-requires
-judge-named-requires c κs = search needs
-
 enum-told : tie.Need-enum-told
 enum-told c = search needs
 
-enum-told-2 : tie.Need-enum-told-2
-enum-told-2 c = search needs
-
-returns : tie.Need-returns
-returns c =
-    let t = c .before .before .before in
+pub judge-step-spec : {M : Type 1} → statement M
+judge-step-spec =
+    tie.close
+    (tie.spec
+    (λ c κs. search needs)
+    enum-told
+    (λ c. search needs)
+    (λ c. let t = c .before .before .before in
     let a = t .args in
     let r = a .table .rank in
     let e = length-take-le (a .mesh .n) (a .mesh .sizes) (omega (arith, t .pre .fits .axes, simp length-map at (t .good .1 .1 .1 .0 .1 .1 .1 .0 .1 .0 .1))) in (
       named-stops (meshOf (a .mesh)) (sizesOf (a .table)) (a .k) (stepOf r (a .step)) (shardingOf r (a .sharding)) (a .mesh .n) e _
           (c .before .before .judge-named .ensures) _ (c .enum-told2 .given .1),
       λ x f. refl,
-    )
-
-judge-kind-requires : tie.Need-judge-kind-requires
-judge-kind-requires c κs = (c .before .before .before .pre, passed (c .before .before .judge-named .ensures) (c .enum-told .given .1))
-
-enum-told-3 : tie.Need-enum-told-3
-enum-told-3 c = search needs
-
-enum-told-4 : tie.Need-enum-told-4
-enum-told-4 c = search needs
-
-returns-2 : tie.Need-returns-2
-returns-2 c =
-    let t = c .before .before .before .before .before .before in
+    ))
+    (λ c κs. (c .before .before .before .pre, passed (c .before .before .judge-named .ensures) (c .enum-told .given .1)))
+    (λ c. search needs)
+    (λ c. search needs)
+    (λ c. let t = c .before .before .before .before .before .before in
     let a = t .args in
     let r = a .table .rank in
     let e = length-take-le (a .mesh .n) (a .mesh .sizes) (omega (arith, t .pre .fits .axes, simp length-map at (t .good .1 .1 .1 .0 .1 .1 .1 .0 .1 .0 .1))) in (
@@ -52,11 +42,8 @@ returns-2 c =
           ∙ sym (named-passes (meshOf (a .mesh)) (sizesOf (a .table)) (a .k) (stepOf r (a .step)) (shardingOf r (a .sharding)) (a .mesh .n) e _
           (c .before .before .before .before .before .judge-named .ensures) (c .before .before .before .enum-told .given .1)),
       λ x f. refl,
-    )
-
-returns-3 : tie.Need-returns-3
-returns-3 c =
-    let t = c .before .before .before .before .before .before in
+    ))
+    (λ c. let t = c .before .before .before .before .before .before in
     let a = t .args in
     let r = a .table .rank in
     let e = length-take-le (a .mesh .n) (a .mesh .sizes) (omega (arith, t .pre .fits .axes, simp length-map at (t .good .1 .1 .1 .0 .1 .1 .1 .0 .1 .0 .1))) in (
@@ -64,18 +51,4 @@ returns-3 c =
           ∙ sym (named-passes (meshOf (a .mesh)) (sizesOf (a .table)) (a .k) (stepOf r (a .step)) (shardingOf r (a .sharding)) (a .mesh .n) e _
           (c .before .before .before .before .before .judge-named .ensures) (c .before .before .before .enum-told .given .1)),
       λ x f. absurd (never (ap meaning (sym f ∙ c .enum-told3 .given .1))),
-    )
-
-pub judge-step-spec : {M : Type 1} → statement M
-judge-step-spec =
-    tie.close
-    (tie.spec
-    judge-named-requires
-    enum-told
-    enum-told-2
-    returns
-    judge-kind-requires
-    enum-told-3
-    enum-told-4
-    returns-2
-    returns-3)
+    )))

@@ -6,12 +6,6 @@ use Rattle.dims.proofs.Dims.{sharding-is}
 use Rattle.judge.proofs.reduced.Statement.{statement}
 use Rattle.judge.proofs.reduced.Tie as tie
 
-without-requires : tie.Need-without-requires
-without-requires c κs = search needs
-
-returns : tie.Need-returns
-unfolding reducedOf dimsOf
-returns c = λ rank. sharding-is _ _ _ _ refl (c .without .ensures)
-
 pub reduced-spec : {M : Type 1} → statement M
-reduced-spec = tie.close (tie.spec without-requires returns)
+unfolding reducedOf dimsOf
+reduced-spec = tie.close (tie.spec (λ c κs. search needs) (λ c. λ rank. sharding-is _ _ _ _ refl (c .without .ensures)))

@@ -22,59 +22,37 @@ Inv-loop mesh sharding device shard rank first₀ d₀ first d =
 abbrev μ-loop : tie.MeasureT-loop
 μ-loop mesh sharding device shard rank first₀ d₀ first d = rank - d
 
-loop-holds : tie.Need-loop-holds Inv-loop μ-loop
-loop-holds c =
-    let a = c .before .args in
+pub first-indexes-spec : {M : Type 1} → statement M
+first-indexes-spec =
+    tie.close
+    (tie.spec
+    Inv-loop
+    μ-loop
+    (λ c. let a = c .before .args in
     let s = simp length-map at (c .before .good .1 .1 .0 .1 .1 .1 .0 .1 .0 .1) in (
       making _ _ _ _ (a .t3 .rank) (length-take-le (a .t3 .rank) (a .t3 .sizes) (omega (arith, s, c .before .pre .rank)))
           (dims-length (a .sharding) (a .t3 .rank) (simp length-map at (c .before .good .1 .0 .1 .1 .0 .1 .0 .1)) (c .before .pre .rank))
           (omega (arith, s, c .before .pre .rank)),
       refl,
-    )
-
-cast-t13 : tie.Need-cast-t13 Inv-loop μ-loop
-cast-t13 c = search needs
-
-list-requires : tie.Need-list-requires Inv-loop μ-loop
-list-requires c κs = search needs
-
-mul-size : tie.Need-mul-size Inv-loop μ-loop
-mul-size c = search needs
-
-element-copy-out-size : tie.Need-element-copy-out-size Inv-loop μ-loop
-element-copy-out-size c = search needs
-
-cast-position-of : tie.Need-cast-position-of Inv-loop μ-loop
-cast-position-of c = search needs
-
-position-of-requires : tie.Need-position-of-requires Inv-loop μ-loop
-position-of-requires c κs = search needs
-
-first-index-requires : tie.Need-first-index-requires Inv-loop μ-loop
-first-index-requires c κs =
-    let c6 = c .before .before .before .before .before .before .before in
+    ))
+    (λ c. search needs)
+    (λ c κs. search needs)
+    (λ c. search needs)
+    (λ c. search needs)
+    (λ c. search needs)
+    (λ c κs. search needs)
+    (λ c κs. let c6 = c .before .before .before .before .before .before .before in
     let a = c6 .args in
     let d = c .before .before .before .before .before .loop .d in
     let h = c .before .before .before .before .loop-test .taken in
     let p = getD-take (a .t3 .rank) (a .t3 .sizes) d 0 h in
     let q = list-at (a .sharding) (a .t3 .rank) d _ h (c .before .before .before .list .ensures) in
-    rw (c .position-of .ensures, q, ← p) (c6 .pre .few d)
-
-mul-first : tie.Need-mul-first Inv-loop μ-loop
-mul-first c = search needs
-
-element-write-first : tie.Need-element-write-first Inv-loop μ-loop
-element-write-first c = search needs
-
-add-d : tie.Need-add-d Inv-loop μ-loop
-add-d c = search needs
-
-loop-less : tie.Need-loop-less Inv-loop μ-loop
-loop-less c = search needs
-
-loop-again : tie.Need-loop-again Inv-loop μ-loop
-loop-again c =
-    let c3 = c .before .before .before .before in
+    rw (c .position-of .ensures, q, ← p) (c6 .pre .few d))
+    (λ c. search needs)
+    (λ c. search needs)
+    (λ c. search needs)
+    (λ c. search needs)
+    (λ c. let c3 = c .before .before .before .before in
     let c4 = c3 .before in
     let c5 = c4 .before in
     let a = c5 .before .before .args in
@@ -82,30 +60,6 @@ loop-again c =
     let h = c4 .loop-test .taken in
     let p = sym (getD-take (a .t3 .rank) (a .t3 .sizes) (c5 .loop .d) 0 h) in
     let q = list-at (a .sharding) (a .t3 .rank) (c5 .loop .d) _ h (c3 .list .ensures) in
-    (makes (i .0) h _ 0 p _ [] q _ _ refl (rw (← (c .before .position-of .ensures)) (c .first-index .ensures)), i .1)
-
-returns : tie.Need-returns Inv-loop μ-loop
-returns c =
-    let i = c .before .loop .inv in
-    (i .1, rw (i .1) (all-made (i .0) (c .loop-test .left)))
-
-pub first-indexes-spec : {M : Type 1} → statement M
-first-indexes-spec =
-    tie.close
-    (tie.spec
-    Inv-loop
-    μ-loop
-    loop-holds
-    cast-t13
-    list-requires
-    mul-size
-    element-copy-out-size
-    cast-position-of
-    position-of-requires
-    first-index-requires
-    mul-first
-    element-write-first
-    add-d
-    loop-less
-    loop-again
-    returns)
+    (makes (i .0) h _ 0 p _ [] q _ _ refl (rw (← (c .before .position-of .ensures)) (c .first-index .ensures)), i .1))
+    (λ c. let i = c .before .loop .inv in
+    (i .1, rw (i .1) (all-made (i .0) (c .loop-test .left)))))

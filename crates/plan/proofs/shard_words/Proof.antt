@@ -16,9 +16,8 @@ use Rattle.rules.proofs.Lists.{few-distinct}
 use Rattle.plan.proofs.shard_words.Statement.{statement}
 use Rattle.plan.proofs.shard_words.Tie as tie
 
-span-dims-requires : tie.Need-span-dims-requires
-span-dims-requires c κs =
-    let r = c .pre .0 in
+pub shard-words-spec : {M : Type 1} → statement M
+shard-words-spec = tie.close (tie.spec (λ c κs. let r = c .pre .0 in
     let a = c .args in
     let dims = flat (take (a .table .rank) (dimsOf (a .sharding))) in
     let u = axesOf (a .sharding .unreduced) in
@@ -26,21 +25,11 @@ span-dims-requires c κs =
       r .fits .rank,
       r .fits .sized,
       omega (arith, few-distinct (length (meshOf (a .mesh))) (dims ++ u) (r .sound .once) (r .sound .of-mesh), length-append dims u, r .fits .axes, cut),
-    )
-
-div-result : tie.Need-div-result
-div-result c = omega (arith, span-least (meshOf (c .before .args .mesh)) (c .before .pre .0 .fits .sized) (flat (take (c .before .args .table .rank) (dimsOf (c .before .args .sharding)))), c .span-dims .ensures)
-
-returns : tie.Need-returns
-returns c =
-    let a = c .before .args in
+    )) (λ c. omega (arith, span-least (meshOf (c .before .args .mesh)) (c .before .pre .0 .fits .sized) (flat (take (c .before .args .table .rank) (dimsOf (c .before .args .sharding)))), c .span-dims .ensures)) (λ c. let a = c .before .args in
     let mesh = meshOf (a .mesh) in
     let sizes = sizesOf (a .table) in
     let dims = take (a .table .rank) (dimsOf (a .sharding)) in
     let words = product (shardSizes mesh sizes dims) in
     let r = c .before .pre .0 in
     let e : a .total ≡ words * span mesh (flat dims) = c .before .pre .1 ∙ cut-product mesh (cut-divisible mesh sizes dims (r .sound .divides)) in
-    ap₂ _/_ e (c .span-dims .ensures) ∙ mul-div-cancel words (span-least mesh (r .fits .sized) (flat dims))
-
-pub shard-words-spec : {M : Type 1} → statement M
-shard-words-spec = tie.close (tie.spec span-dims-requires div-result returns)
+    ap₂ _/_ e (c .span-dims .ensures) ∙ mul-div-cancel words (span-least mesh (r .fits .sized) (flat dims))))

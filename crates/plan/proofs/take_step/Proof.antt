@@ -9,50 +9,32 @@ use Rattle.plan.proofs.Takes.{fine, stopped, bytes-stop, judgement-stop
 use Rattle.plan.proofs.take_step.Statement.{statement}
 use Rattle.plan.proofs.take_step.Tie as tie
 
-read-step-requires : tie.Need-read-step-requires
-read-step-requires c κs = search needs
-
-enum-known-next : tie.Need-enum-known-next
-enum-known-next c = search needs
-
 enum-told : tie.Need-enum-told
 enum-told c = search needs
 
-refusal-requires : tie.Need-refusal-requires
-refusal-requires c κs = search needs
-
-refused-requires : tie.Need-refused-requires
-refused-requires c κs = search needs
-
-returns : tie.Need-returns
-returns c =
-    let p = c .before .before .before .before .before in
+pub take-step-spec : {M : Type 1} → statement M
+take-step-spec =
+    tie.close
+    (tie.spec
+    (λ c κs. search needs)
+    (λ c. search needs)
+    enum-told
+    (λ c κs. search needs)
+    (λ c κs. search needs)
+    (λ c. let p = c .before .before .before .before .before in
     let a = p .before .before .args in
     let f = p .before .before .pre .fits in
     let g = p .before .before .good in
     let n-is = length-take-le (a .mesh .n) (a .mesh .sizes) (omega (arith, f .axes, simp length-map at (g .1 .1 .1 .0 .1 .1 .1 .0 .1 .0 .1))) in
     let rank-is = length-take-le (a .table .rank) (a .table .sizes) (omega (arith, f .rank, simp length-map at (g .1 .1 .1 .1 .0 .1 .1 .1 .0 .1 .0 .1))) in
     let stop = read-stopped _ (p .read-step .ensures .reads) (c .before .before .enum-told .given .1) (c .before .refusal .ensures) in
-    retold (c .refused .ensures (a .table .rank)) (bytes-stop (meshOf (a .mesh)) (sizesOf (a .table)) _ _ _ _ n-is rank-is stop)
-
-judge-step-requires : tie.Need-judge-step-requires
-judge-step-requires c κs = search needs
-
-enum-told-2 : tie.Need-enum-told-2
-enum-told-2 c = search needs
-
-enum-told-3 : tie.Need-enum-told-3
-enum-told-3 c = search needs
-
-refusal-of-requires : tie.Need-refusal-of-requires
-refusal-of-requires c κs = search needs
-
-refused-requires-2 : tie.Need-refused-requires-2
-refused-requires-2 c κs = search needs
-
-returns-2 : tie.Need-returns-2
-returns-2 c =
-    let q = c .before .before .before .before in
+    retold (c .refused .ensures (a .table .rank)) (bytes-stop (meshOf (a .mesh)) (sizesOf (a .table)) _ _ _ _ n-is rank-is stop))
+    (λ c κs. search needs)
+    (λ c. search needs)
+    (λ c. search needs)
+    (λ c κs. search needs)
+    (λ c κs. search needs)
+    (λ c. let q = c .before .before .before .before in
     let p = q .before .before .before .before .before in
     let a = p .before .before .args in
     let f = p .before .before .pre .fits in
@@ -61,11 +43,8 @@ returns-2 c =
     let rank-is = length-take-le (a .table .rank) (a .table .sizes) (omega (arith, f .rank, simp length-map at (g .1 .1 .1 .1 .0 .1 .1 .1 .0 .1 .0 .1))) in
     let t = read-on _ (p .read-step .ensures .reads) (q .before .before .next .given .1) in
     let stop = stopped _ (q .judge-step .ensures .0) (c .before .before .enum-told3 .given .1) (c .before .refusal-of .ensures) in
-    retold (c .refused2 .ensures (a .table .rank)) (judgement-stops (meshOf (a .mesh)) (sizesOf (a .table)) _ _ _ _ n-is rank-is t stop)
-
-returns-3 : tie.Need-returns-3
-returns-3 c =
-    let q = c .before .before .before in
+    retold (c .refused2 .ensures (a .table .rank)) (judgement-stops (meshOf (a .mesh)) (sizesOf (a .table)) _ _ _ _ n-is rank-is t stop))
+    (λ c. let q = c .before .before .before in
     let p = q .before .before .before .before .before in
     let a = p .before .before .args in
     let f = p .before .before .pre .fits in
@@ -74,22 +53,4 @@ returns-3 c =
     let rank-is = length-take-le (a .table .rank) (a .table .sizes) (omega (arith, f .rank, simp length-map at (g .1 .1 .1 .1 .0 .1 .1 .1 .0 .1 .0 .1))) in
     let t = read-on _ (p .read-step .ensures .reads) (q .before .before .next .given .1) in
     let r = fine (q .judge-step .ensures .0) (c .before .enum-told2 .given .1) in
-    is-told (step-taken (meshOf (a .mesh)) (sizesOf (a .table)) _ _ _ _ n-is rank-is t r)
-
-pub take-step-spec : {M : Type 1} → statement M
-take-step-spec =
-    tie.close
-    (tie.spec
-    read-step-requires
-    enum-known-next
-    enum-told
-    refusal-requires
-    refused-requires
-    returns
-    judge-step-requires
-    enum-told-2
-    enum-told-3
-    refusal-of-requires
-    refused-requires-2
-    returns-2
-    returns-3)
+    is-told (step-taken (meshOf (a .mesh)) (sizesOf (a .table)) _ _ _ _ n-is rank-is t r)))

@@ -8,28 +8,11 @@ use Rattle.run.proofs.Turns.{turn-asks, turned}
 use Rattle.run.proofs.do_step.Statement.{statement}
 use Rattle.run.proofs.do_step.Tie as tie
 
-take-step-requires : tie.Need-take-step-requires
-take-step-requires c κs = c .before .before .before .pre .ready
-
-shard-of-requires : tie.Need-shard-of-requires
-shard-of-requires c κs = let f = c .before .before .before .before .pre .ready .fits in (f .rank, f .sized)
-
-shard-of-requires-2 : tie.Need-shard-of-requires-2
-shard-of-requires-2 c κs = let f = c .before .before .before .before .before .before .pre .ready .fits in (f .rank, f .sized)
-
-words-requires : tie.Need-words-requires
-words-requires c κs =
-    let f = c .before .before .before .before .before .before .before .pre .ready .fits in
-    omega (arith, f .rank, c .shard-of2 .ensures .0)
-
 array-share-prefix-axes : tie.Need-array-share-prefix-axes
 array-share-prefix-axes c =
     let s = c .before .before .before .before .before .before .before .before .before .before .before .before in
     let z = simp length-map at (s .good .1 .1 .1 .0 .1 .1 .1 .0 .1 .0 .1) in
     omega (arith, z, s .pre .ready .fits .axes)
-
-slice-aggregate-step-from : tie.Need-slice-aggregate-step-from
-slice-aggregate-step-from c = sym (length-take-le _ _ (array-share-prefix-axes (c .before)))
 
 array-share-prefix-shape : tie.Need-array-share-prefix-shape
 array-share-prefix-shape c =
@@ -41,45 +24,32 @@ array-share-prefix-shape c =
 slice-aggregate-step-from-2 : tie.Need-slice-aggregate-step-from-2
 slice-aggregate-step-from-2 c = sym (length-take-le _ _ (array-share-prefix-shape (c .before)))
 
-step-from-requires : tie.Need-step-from-requires
-step-from-requires c κs =
-    let u = c .before .before .before .before .before .before in
+pub do-step-spec : {M : Type 1} → statement M
+do-step-spec =
+    tie.close
+    (tie.spec
+    (λ c κs. c .before .before .before .pre .ready)
+    (λ c κs. let f = c .before .before .before .before .pre .ready .fits in (f .rank, f .sized))
+    (λ c κs. let f = c .before .before .before .before .before .before .pre .ready .fits in (f .rank, f .sized))
+    (λ c κs. let f = c .before .before .before .before .before .before .before .pre .ready .fits in
+    omega (arith, f .rank, c .shard-of2 .ensures .0))
+    array-share-prefix-axes
+    (λ c. sym (length-take-le _ _ (array-share-prefix-axes (c .before))))
+    array-share-prefix-shape
+    slice-aggregate-step-from-2
+    (λ c κs. let u = c .before .before .before .before .before .before in
     let b = u .before .before .before in
     let t = b .before .take-step in
     let s = b .before .before .before .before .before in
     let l = sym (slice-aggregate-step-from-2 c) ∙ b .shard-of .ensures .0 in
-    turn-asks (t .result) (s .pre) (t .ensures .reads) (b .shard-of .ensures .1) l (u .words .ensures ∙ ap product (u .before .shard-of2 .ensures .1))
-
-same-length : tie.Need-same-length
-same-length c = search needs
-
-same-length-2 : tie.Need-same-length-2
-same-length-2 c = search needs
-
-returns : tie.Need-returns
-returns c =
-    let o = c .before .before .before .before in
+    turn-asks (t .result) (s .pre) (t .ensures .reads) (b .shard-of .ensures .1) l (u .words .ensures ∙ ap product (u .before .shard-of2 .ensures .1)))
+    (λ c. search needs)
+    (λ c. search needs)
+    (λ c. let o = c .before .before .before .before in
     let u = o .before .before .before .before .before .before .before in
     let b = u .before .before .before in
     let t = b .before .take-step in
     let s = b .before .before .before .before .before in
     let l = sym (slice-aggregate-step-from-2 (o .before)) ∙ b .shard-of .ensures .0 in
     turned (t .result) (s .pre) (t .ensures .reads) (b .shard-of .ensures .1) l (u .words .ensures ∙ ap product (u .before .shard-of2 .ensures .1)) _ _
-    (o .step-from .ensures .0) (o .step-from .ensures .1)
-
-pub do-step-spec : {M : Type 1} → statement M
-do-step-spec =
-    tie.close
-    (tie.spec
-    take-step-requires
-    shard-of-requires
-    shard-of-requires-2
-    words-requires
-    array-share-prefix-axes
-    slice-aggregate-step-from
-    array-share-prefix-shape
-    slice-aggregate-step-from-2
-    step-from-requires
-    same-length
-    same-length-2
-    returns)
+    (o .step-from .ensures .0) (o .step-from .ensures .1)))

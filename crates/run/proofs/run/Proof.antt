@@ -16,68 +16,8 @@ use Rattle.run.proofs.Zeros.{cleared-behind}
 use Rattle.run.proofs.run.Statement.{statement}
 use Rattle.run.proofs.run.Tie as tie
 
-judge-file-requires : tie.Need-judge-file-requires
-judge-file-requires c κs = search needs
-
-enum-known-next : tie.Need-enum-known-next
-enum-known-next c = search needs
-
 enum-told : tie.Need-enum-told
 enum-told c = search needs
-
-refusal-requires : tie.Need-refusal-requires
-refusal-requires c κs = search needs
-
-returns : tie.Need-returns
-returns c =
-    let j = c .before .before .before in
-    let s = j .before .before .before .before in
-    let e = whole-stopped _ _ (j .judge-file .ensures) (c .before .enum-told .given .1) (c .refusal .ensures) in
-    run-promise _ _ _ _ (λ i. j .before .before .slice-known .given i .fits) (stops-file _ (now (s .args .work)) (now (s .args .spare)) e)
-
-mul-room : tie.Need-mul-room
-mul-room c =
-    let b = bounded _ (plan-held _ _ (c .before .before .before .before .judge-file .ensures) (c .before .before .next .given .1)) in
-    omega (arith, b .room-few)
-
-refused-requires : tie.Need-refused-requires
-refused-requires c κs = search needs
-
-returns-2 : tie.Need-returns-2
-returns-2 c =
-    let j = c .before .before .before .before .before .before in
-    let s = j .before .before .before .before in
-    let h = plan-held _ _ (j .judge-file .ensures) (c .before .before .before .before .next .given .1) in
-    let l : length (now (s .args .work)) < room (h .0) = omega (arith, h .2 .room-is, c .before .if1 .taken) in
-    run-promise _ _ _ (c .refused .result) (λ i. j .before .before .slice-known .given i .fits)
-    (stops-work _ (now (s .args .work)) (now (s .args .spare)) (h .1) l
-    ∙ ap (λ (o : RunOutcome). record { outcome = runMeaning o; work = now (s .args .work); spare = now (s .args .spare) }) (sym (c .refused .ensures)))
-
-refused-requires-2 : tie.Need-refused-requires-2
-refused-requires-2 c κs = search needs
-
-returns-3 : tie.Need-returns-3
-returns-3 c =
-    let j = c .before .before .before .before .before .before .before in
-    let s = j .before .before .before .before in
-    let h = plan-held _ _ (j .judge-file .ensures) (c .before .before .before .before .before .next .given .1) in
-    let w : room (h .0) ≤ length (now (s .args .work)) = omega (arith, h .2 .room-is, c .before .before .if1 .left) in
-    let l : length (now (s .args .spare)) < room (h .0) = omega (arith, h .2 .room-is, c .before .if2 .taken) in
-    run-promise _ _ _ (c .refused2 .result) (λ i. j .before .before .slice-known .given i .fits)
-    (stops-spare _ (now (s .args .work)) (now (s .args .spare)) (h .1) w l
-    ∙ ap (λ (o : RunOutcome). record { outcome = runMeaning o; work = now (s .args .work); spare = now (s .args .spare) }) (sym (c .refused2 .ensures)))
-
-run-steps-requires : tie.Need-run-steps-requires
-run-steps-requires c κs =
-    let j = c .before .before .before .before .before .before .before .before in
-    let h = plan-held _ _ (j .judge-file .ensures) (c .before .before .before .before .before .before .next .given .1) in
-    record {
-      plan = h .0;
-      judged = h .1;
-      holds = h .2;
-      work-room = omega (arith, h .2 .room-is, c .before .before .before .if1 .left);
-      spare-room = omega (arith, h .2 .room-is, c .before .before .if2 .left);
-    }
 
 last-words-requires : tie.Need-last-words-requires
 last-words-requires c κs =
@@ -98,33 +38,62 @@ bring-home-requires c κs =
       omega (arith, ls, v .last-words .ensures, last-fits h (r .before .before .before .if2 .left) .inside),
     )
 
-mul-clear : tie.Need-mul-clear
-mul-clear c = omega (arith, c .before .before .before .before .before .before .before .last-words .ensures, last-words-requires (c .before .before .before .before .before .before .before .before) _ .1)
-
 sub-clear : tie.Need-sub-clear
 sub-clear c =
     let g = c .before .before .before .before in
     let l : length (g .bring-home .last .1 .1 .0) ≡ length (g .before .before .before .before .before .before .before .before .run-steps .last .1 .1 .1 .0) = search needs in
     omega (arith, l, bring-home-requires (g .before) (g .bring-home .lifetimes) .0)
 
-part-clear-start : tie.Need-part-clear-start
-part-clear-start c = search (needs, sub-clear c)
-
-part-clear-end : tie.Need-part-clear-end
-part-clear-end c = search needs
-
-clear-requires : tie.Need-clear-requires
-clear-requires c κs = search needs
-
-same-length : tie.Need-same-length
-same-length c = search needs
-
-same-length-2 : tie.Need-same-length-2
-same-length-2 c = search needs
-
-returns-4 : tie.Need-returns-4
-returns-4 c =
-    let g = c .before .before .before .before .before .before .before .before in
+pub run-spec : {M : Type 1} → statement M
+run-spec =
+    tie.close
+    (tie.spec
+    (λ c κs. search needs)
+    (λ c. search needs)
+    enum-told
+    (λ c κs. search needs)
+    (λ c. let j = c .before .before .before in
+    let s = j .before .before .before .before in
+    let e = whole-stopped _ _ (j .judge-file .ensures) (c .before .enum-told .given .1) (c .refusal .ensures) in
+    run-promise _ _ _ _ (λ i. j .before .before .slice-known .given i .fits) (stops-file _ (now (s .args .work)) (now (s .args .spare)) e))
+    (λ c. let b = bounded _ (plan-held _ _ (c .before .before .before .before .judge-file .ensures) (c .before .before .next .given .1)) in
+    omega (arith, b .room-few))
+    (λ c κs. search needs)
+    (λ c. let j = c .before .before .before .before .before .before in
+    let s = j .before .before .before .before in
+    let h = plan-held _ _ (j .judge-file .ensures) (c .before .before .before .before .next .given .1) in
+    let l : length (now (s .args .work)) < room (h .0) = omega (arith, h .2 .room-is, c .before .if1 .taken) in
+    run-promise _ _ _ (c .refused .result) (λ i. j .before .before .slice-known .given i .fits)
+    (stops-work _ (now (s .args .work)) (now (s .args .spare)) (h .1) l
+    ∙ ap (λ (o : RunOutcome). record { outcome = runMeaning o; work = now (s .args .work); spare = now (s .args .spare) }) (sym (c .refused .ensures))))
+    (λ c κs. search needs)
+    (λ c. let j = c .before .before .before .before .before .before .before in
+    let s = j .before .before .before .before in
+    let h = plan-held _ _ (j .judge-file .ensures) (c .before .before .before .before .before .next .given .1) in
+    let w : room (h .0) ≤ length (now (s .args .work)) = omega (arith, h .2 .room-is, c .before .before .if1 .left) in
+    let l : length (now (s .args .spare)) < room (h .0) = omega (arith, h .2 .room-is, c .before .if2 .taken) in
+    run-promise _ _ _ (c .refused2 .result) (λ i. j .before .before .slice-known .given i .fits)
+    (stops-spare _ (now (s .args .work)) (now (s .args .spare)) (h .1) w l
+    ∙ ap (λ (o : RunOutcome). record { outcome = runMeaning o; work = now (s .args .work); spare = now (s .args .spare) }) (sym (c .refused2 .ensures))))
+    (λ c κs. let j = c .before .before .before .before .before .before .before .before in
+    let h = plan-held _ _ (j .judge-file .ensures) (c .before .before .before .before .before .before .next .given .1) in
+    record {
+      plan = h .0;
+      judged = h .1;
+      holds = h .2;
+      work-room = omega (arith, h .2 .room-is, c .before .before .before .if1 .left);
+      spare-room = omega (arith, h .2 .room-is, c .before .before .if2 .left);
+    })
+    last-words-requires
+    bring-home-requires
+    (λ c. omega (arith, c .before .before .before .before .before .before .before .last-words .ensures, last-words-requires (c .before .before .before .before .before .before .before .before) _ .1))
+    sub-clear
+    (λ c. search (needs, sub-clear c))
+    (λ c. search needs)
+    (λ c κs. search needs)
+    (λ c. search needs)
+    (λ c. search needs)
+    (λ c. let g = c .before .before .before .before .before .before .before .before in
     let v = g .before .before .before in
     let r = v .before .before .before .before .before in
     let j = r .before .before .before .before .before .before .before .before .before in
@@ -142,30 +111,4 @@ returns-4 c =
     ∙ r .run-steps .ensures (h .0) (h .1) in
     run-promise _ _ _ Finished (λ i. j .before .before .slice-known .given i .fits)
     (finishes _ work spare (h .1) (w, q) (cleared-behind _ work _ _ _ e (sub-clear (c .before .before .before .before)) lw f (c .before .before .clear .ensures))
-    (g .bring-home .ensures .0 ∙ ap (λ (n : ℕ). replicate n 0) ls))
-
-pub run-spec : {M : Type 1} → statement M
-run-spec =
-    tie.close
-    (tie.spec
-    judge-file-requires
-    enum-known-next
-    enum-told
-    refusal-requires
-    returns
-    mul-room
-    refused-requires
-    returns-2
-    refused-requires-2
-    returns-3
-    run-steps-requires
-    last-words-requires
-    bring-home-requires
-    mul-clear
-    sub-clear
-    part-clear-start
-    part-clear-end
-    clear-requires
-    same-length
-    same-length-2
-    returns-4)
+    (g .bring-home .ensures .0 ∙ ap (λ (n : ℕ). replicate n 0) ls))))

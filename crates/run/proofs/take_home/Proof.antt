@@ -18,36 +18,22 @@ Inv-loop work₀ spare₀ i₀ work spare i =
 abbrev μ-loop : tie.MeasureT-loop
 μ-loop work₀ spare₀ i₀ work spare i = length work₀ - i
 
-loop-holds : tie.Need-loop-holds Inv-loop μ-loop
-loop-holds c = (omega arith, refl, refl, refl, refl)
-
-mul-word : tie.Need-mul-word Inv-loop μ-loop
-mul-word c = omega arith
-
-slice-read-word : tie.Need-slice-read-word Inv-loop μ-loop
-slice-read-word c = omega arith
-
-mul-work : tie.Need-mul-work Inv-loop μ-loop
-mul-work c = omega arith
-
-slice-write-work : tie.Need-slice-write-work Inv-loop μ-loop
-slice-write-work c = omega arith
-
-mul-spare : tie.Need-mul-spare Inv-loop μ-loop
-mul-spare c = omega arith
-
-slice-write-spare : tie.Need-slice-write-spare Inv-loop μ-loop
-slice-write-spare c = omega arith
-
-add-i : tie.Need-add-i Inv-loop μ-loop
-add-i c = omega arith
-
-loop-less : tie.Need-loop-less Inv-loop μ-loop
-loop-less c = omega arith
-
-loop-again : tie.Need-loop-again Inv-loop μ-loop
-loop-again c =
-    let l = c .before .before in
+pub take-home-spec : {M : Type 1} → statement M
+take-home-spec =
+    tie.close
+    (tie.spec
+    Inv-loop
+    μ-loop
+    (λ c. (omega arith, refl, refl, refl, refl))
+    (λ c. omega arith)
+    (λ c. omega arith)
+    (λ c. omega arith)
+    (λ c. omega arith)
+    (λ c. omega arith)
+    (λ c. omega arith)
+    (λ c. omega arith)
+    (λ c. omega arith)
+    (λ c. let l = c .before .before in
     let s = l .before in
     let i = l .loop .i in
     let word : ℕ → ℕ = λ k. getD (now (s .args .spare)) k 0 in
@@ -57,40 +43,13 @@ loop-again c =
       rw (l .loop .inv .2) (front-step (λ k. 0) (now (s .args .spare)) i (omega arith)),
       rw length-set (l .loop .inv .3),
       rw length-set (l .loop .inv .4),
-    )
-
-same-length : tie.Need-same-length Inv-loop μ-loop
-same-length c = c .before .loop .inv .3
-
-same-length-2 : tie.Need-same-length-2 Inv-loop μ-loop
-same-length-2 c = c .before .loop .inv .4
-
-returns : tie.Need-returns Inv-loop μ-loop
-returns c =
-    let l = c .before in
+    ))
+    (λ c. c .before .loop .inv .3)
+    (λ c. c .before .loop .inv .4)
+    (λ c. let l = c .before in
     let s = l .before in
     let spare = now (s .args .spare) in
     let word : ℕ → ℕ = λ k. getD spare k 0 in (
       l .loop .inv .1 ∙ front-full word (now (s .args .work)) (l .loop .i) (omega arith) ∙ ap (λ n. tab n word) (s .pre) ∙ sym (whole-tab 0 spare),
       l .loop .inv .2 ∙ front-full (λ k. 0) spare (l .loop .i) (omega arith) ∙ tab-same (length spare) 0,
-    )
-
-pub take-home-spec : {M : Type 1} → statement M
-take-home-spec =
-    tie.close
-    (tie.spec
-    Inv-loop
-    μ-loop
-    loop-holds
-    mul-word
-    slice-read-word
-    mul-work
-    slice-write-work
-    mul-spare
-    slice-write-spare
-    add-i
-    loop-less
-    loop-again
-    same-length
-    same-length-2
-    returns)
+    )))

@@ -8,13 +8,7 @@ use Rattle.rules.proofs.Lists.{take-replicate}
 use Rattle.reader.proofs.ShardingRead.refused.Statement.{statement}
 use Rattle.reader.proofs.ShardingRead.refused.Tie as tie
 
-replicated-requires : tie.Need-replicated-requires
-replicated-requires c κs = search needs
-
-returns : tie.Need-returns
-returns c = λ rank h.
-    let dims = ap (take rank) (c .replicated .ensures .0) ∙ take-replicate {A = List ℕ} [] rank mostDims h in
-    (refl, record { reads = refl; beside = λ i. record { dims = dims i; unreduced = c .replicated .ensures .1 i } })
-
 pub refused-spec : {M : Type 1} → statement M
-refused-spec = tie.close (tie.spec replicated-requires returns)
+refused-spec = tie.close (tie.spec (λ c κs. search needs) (λ c. λ rank h.
+    let dims = ap (take rank) (c .replicated .ensures .0) ∙ take-replicate {A = List ℕ} [] rank mostDims h in
+    (refl, record { reads = refl; beside = λ i. record { dims = dims i; unreduced = c .replicated .ensures .1 i } })))

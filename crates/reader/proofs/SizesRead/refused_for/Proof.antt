@@ -5,8 +5,5 @@ use Rattle.reader.proofs.Sizing.{product-ones}
 use Rattle.reader.proofs.SizesRead.refused_for.Statement.{statement}
 use Rattle.reader.proofs.SizesRead.refused_for.Tie as tie
 
-returns : tie.Need-returns
-returns c = λ count h. (record { reads = refl; beside = take-replicate 1 count mostAxes h }, sym (product-ones count mostAxes))
-
 pub refused-for-spec : {M : Type 1} → statement M
-refused-for-spec = tie.close (tie.spec returns)
+refused-for-spec = tie.close (tie.spec (λ c. λ count h. (record { reads = refl; beside = take-replicate 1 count mostAxes h }, sym (product-ones count mostAxes))))
