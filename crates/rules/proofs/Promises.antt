@@ -126,4 +126,5 @@ rules-promise = record {
   beside = table.worked-beside;
   refused = files.refused;
   limited = sizes.limited;
+  earlier = sizes.earlier;
 }

@@ -110,11 +110,12 @@ abbrev pub listsAs : (mesh axes : List ℕ) → (groups : List (List ℕ)) → C
 listsAs mesh axes groups =
     listed mesh axes (nines (length (flat groups) + 2)) (record { outcome = accept (length (flat groups)); out = flat groups ++ nines 2 })
 
--- Work begins with the words given and is two words longer than the room, spare as long as the room. The words left are followed by zeros alone.
+-- Work begins with the words given and is two words longer than the room, spare three words. The words left are followed by zeros alone, and all of
+-- spare is 0.
 abbrev pub leaves : (file : List ℕ) → (room : ℕ) → (words left : List ℕ) → Case
 leaves file room words left =
-    ran file (words ++ nines (room + 2 - length words)) (nines room)
-    (record { outcome = accept tt; work = left ++ replicate (room + 2 - length left) 0; spare = replicate room 0 })
+    ran file (words ++ nines (room + 2 - length words)) (nines (room + 3))
+    (record { outcome = accept tt; work = left ++ replicate (room + 2 - length left) 0; spare = replicate (room + 3) 0 })
 
 -- ---- the ledger
 
@@ -224,10 +225,15 @@ beside =
     ∷ placed gathersTwice 0 3 (found ((1 ∷ 0 ∷ []) ∷ []) [] (1 ∷ []) (3 ∷ []))
     ∷ placed gathersTwice 1 3 (found ((1 ∷ []) ∷ []) [] (2 ∷ []) (2 ∷ []))
     ∷ placed gathersTwice 2 3 (found ([] ∷ []) [] (4 ∷ []) (0 ∷ []))
+    -- along two dimensions, and with unreduced axes before and after a reduction
+    ∷ placed w1 0 3 (found ((0 ∷ []) ∷ (1 ∷ []) ∷ []) [] (2 ∷ 2 ∷ []) (2 ∷ 2 ∷ []))
+    ∷ placed (on2x2 (2 ∷ []) ([] ∷ (0 ∷ 1 ∷ []) ∷ []) (3 ∷ 1 ∷ 0 ∷ [])) 0 1 (found ([] ∷ []) (0 ∷ 1 ∷ []) (2 ∷ []) (0 ∷ []))
+    ∷ placed (on2x2 (2 ∷ []) ([] ∷ (0 ∷ 1 ∷ []) ∷ []) (3 ∷ 1 ∷ 0 ∷ [])) 1 1 (found ([] ∷ []) (1 ∷ []) (2 ∷ []) (0 ∷ []))
     ∷ []
 
 pub worked-beside : All Holds beside
 unfolding fileOf checkOf placeOf runOf
 worked-beside =
     refl & refl & refl & refl & refl & refl & refl & refl & refl & refl & refl & refl
-    & refl & refl & refl & refl & refl & refl & refl & refl & refl & refl & done
+    & refl & refl & refl & refl & refl & refl & refl & refl & refl & refl & refl & refl
+    & refl & done

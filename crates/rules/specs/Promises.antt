@@ -24,7 +24,7 @@ use Rattle.rules.specs.Demands.{
 }
 use Rattle.rules.specs.Ledger.{Holds, ledger, beside as besideIt}
 use Rattle.rules.specs.WorkedRefusals.{refusals}
-use Rattle.rules.specs.WorkedLimits.{limits}
+use Rattle.rules.specs.WorkedLimits.{limits, Earlier}
 use Rattle.rules.specs.declared.Refusal.{Refusal}
 use Rattle.rules.specs.declared.Checked.{Checked}
 use Rattle.rules.specs.declared.Placed.{Placed}
@@ -92,3 +92,4 @@ pub record RulesPromise : Type 1 where
   pub beside : All Holds besideIt
   pub refused : All Holds refusals
   pub limited : All Holds limits
+  pub earlier : Earlier

@@ -12,7 +12,8 @@ use Rattle.rules.specs.Sharding.{Sharding, named, firstIndexes}
 abbrev pub StateOf : Type 0 → Type 0
 StateOf W = List ℕ → List ℕ → W
 
--- "Shards lie in the buffer by device number, each in row-major order, without gaps. m is the words of one shard."
+-- "Shards lie in the buffer by device number, each in row-major order, without gaps. m is the words of one shard." A device's number is the row-major
+-- number of its coordinates (Mesh), its place.
 -- The buffer of a state whose shards have a shape, and the state that a buffer holds: z is read where the buffer is too short. A device's place is
 -- the row-major number of its coordinates.
 unfoldable pub tabulate : {W : Type 0} → List ℕ → List ℕ → StateOf W → List W

@@ -1,4 +1,4 @@
--- What the answers of the code stand for, on plans of the ledger: each call's answer as the types of the code hold it, beside the answer of the rules.
+-- What answers and steps of the code stand for, on plans of the ledger: as the types of the code hold them, beside those of the rules.
 -- Places past a list's count, and past the rank, hold nines: they stand for nothing. The check's and the placement's answers are in WorkedPlaces.
 -- Assumes nothing.
 use Prim.Native.Nat.{ℕ, _-_}

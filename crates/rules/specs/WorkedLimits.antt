@@ -1,4 +1,4 @@
--- Document 01, "Numbers to hold to", with the numbers of document 02, Ask 12: of each limit, calls at it and calls one past it, as one table in the form of the ledger, a limit's lines together.
+-- Document 01, "Numbers to hold to", with the numbers of document 02, Ask 12: of each limit, calls at it and calls just past it, as one table in the form of the ledger, a limit's lines together.
 -- src/lib.rt ties the constants of the code to those of Limits.antt; these lines tie both to the numbers themselves. Assumes nothing.
 use Prim.Native.Nat.{ℕ, _+_, _-_, _*_, _/_, _%_}
 use mathlib.Core.Path.{_≡_, refl}
@@ -46,10 +46,11 @@ limits =
     ∷ checked (plain (1 ∷ []) []) (refuse 5 0)
     ∷ checked (plain (1 ∷ []) (replicate 4 2)) (passed 16 1 0 (replicate 4 []) [] (replicate 4 2))
     ∷ checked (plain (1 ∷ []) (replicate 5 2)) (refuse 5 0)
-    -- "tables up to 65,536 words": "one dimension ends at 65,535 while 256x256 passes", "table 256x257 gives 13". "Room is at most 67,108,864 words"
+    -- "tables up to 65,536 words": "one dimension ends at 65,535 while 256x256 passes", "table 256x257 gives 13"; the next product of sizes past it is 65,538. "Room is at most 67,108,864 words"
     ∷ checked (plain (1024 ∷ []) (256 ∷ 256 ∷ [])) (passed 67108864 1024 0 ([] ∷ [] ∷ []) [] (256 ∷ 256 ∷ []))
     ∷ checked (plain (1 ∷ []) (65535 ∷ [])) (passed 65535 1 0 ([] ∷ []) [] (65535 ∷ []))
     ∷ checked (plain (1 ∷ []) (256 ∷ 257 ∷ [])) (refuse 13 0)
+    ∷ checked (plain (1 ∷ []) (2 ∷ 32769 ∷ [])) (refuse 13 0)
     ∷ checked (plain (1 ∷ []) (16 ∷ 64 ∷ 64 ∷ [])) (passed 65536 1 0 ([] ∷ [] ∷ [] ∷ []) [] (16 ∷ 64 ∷ 64 ∷ []))
     ∷ checked (plain (1 ∷ []) (16 ∷ 64 ∷ 65 ∷ [])) (refuse 13 0)
     -- "0 to 64 steps": "64 steps pass, 65 give 5"
@@ -69,15 +70,18 @@ unfolding fileOf checkOf groupsOf groupsLeave
 limited =
     refl & refl & refl & refl & refl & refl & refl & refl & refl & refl & refl & refl
     & refl & refl & refl & refl & refl & refl & refl & refl & refl & refl & refl & refl
-    & refl & refl & refl & refl & refl & refl & done
+    & refl & refl & refl & refl & refl & refl & refl & done
 
 -- the reader with document 01's own limits, at each of them and one past it: "mesh 257 gives 11; table 4,097 gives 13", and a file of 4,097 bytes 2
-pub earlier :
+abbrev pub Earlier : Type 0
+Earlier =
     (judgeBy original (plain (256 ∷ []) (4096 ∷ []))
     ≡ accept (record { mesh = 256 ∷ []; sizes = 4096 ∷ []; start = record { dims = [] ∷ []; unreduced = [] }; steps = [] }))
     × (judgeBy original (plain (257 ∷ []) (4096 ∷ [])) ≡ refuse 11 0)
     × (judgeBy original (plain (256 ∷ []) (4097 ∷ [])) ≡ refuse 13 0)
     × (judgeBy original (filledTo 4096) ≡ refuse 9 0)
     × (judgeBy original (filledTo 4097) ≡ refuse 2 0)
+
+pub earlier : Earlier
 unfolding fileOf judgeBy
 earlier = (refl, refl, refl, refl, refl)

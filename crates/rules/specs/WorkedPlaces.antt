@@ -19,6 +19,16 @@ list count places = record { count = count; axes = map (λ (a : ℕ). record { 0
 abbrev none : AxisList
 none = list 0 (0 ∷ 0 ∷ 0 ∷ 0 ∷ 0 ∷ 0 ∷ [])
 
+-- four dimensions split along one axis each and one axis unreduced: mesh 2x2x2x2x2, table 2x4x6x8
+abbrev four : List ℕ
+four = fileOf (replicate 5 2) (2 ∷ 4 ∷ 6 ∷ 8 ∷ []) ((4 ∷ []) ∷ (3 ∷ []) ∷ (2 ∷ []) ∷ (0 ∷ []) ∷ (1 ∷ []) ∷ []) []
+
+abbrev single : ℕ → AxisList
+single a = list 1 (a ∷ 0 ∷ 0 ∷ 0 ∷ 0 ∷ 0 ∷ [])
+
+abbrev crossed : Sharding
+crossed = record { dims = single 4 ∷ single 3 ∷ single 2 ∷ single 0 ∷ []; unreduced = single 1 }
+
 -- the last sharding of W1; that of W4; and no axes at all
 abbrev split : Sharding
 split = record { dims = list 1 (0 ∷ 0 ∷ 0 ∷ 0 ∷ 0 ∷ 0 ∷ []) ∷ none ∷ none ∷ none ∷ []; unreduced = none }
@@ -58,8 +68,23 @@ pub places :
       shard = 0 ∷ 0 ∷ 0 ∷ 0 ∷ [];
       first = 0 ∷ 0 ∷ 0 ∷ 0 ∷ [];
     })
+    -- a placement of a plan that is refused in a step
+    × (placedOf (placeOf (w4 ((2 ∷ 1 ∷ 1 ∷ []) ∷ [])) 0 0) ≡ record {
+      outcome = place.Refused (record { reason = NotTail; step = 1 });
+      sharding = nowhere;
+      shard = 0 ∷ 0 ∷ 0 ∷ 0 ∷ [];
+      first = 0 ∷ 0 ∷ 0 ∷ 0 ∷ [];
+    })
+    -- every dimension, and the unreduced axes
+    × (checkedOf (checkOf four) ≡ record {
+      outcome = check.Passed (record { room = 768; devices = 32; steps = 0; rank = 4 });
+      sharding = crossed;
+      shard = 1 ∷ 2 ∷ 3 ∷ 4 ∷ [];
+    })
+    × (placedOf (placeOf four 0 31)
+    ≡ record { outcome = place.Found 4; sharding = crossed; shard = 1 ∷ 2 ∷ 3 ∷ 4 ∷ []; first = 1 ∷ 2 ∷ 3 ∷ 4 ∷ [] })
 unfolding fileOf checkOf placeOf listFrom reasonOf
-places = (refl, refl, refl, refl, refl, refl)
+places = (refl, refl, refl, refl, refl, refl, refl, refl, refl)
 
 -- of a table of two dimensions the first two lists count, and of a list as many places as it counts
 counted : shardingOf 2 (record {

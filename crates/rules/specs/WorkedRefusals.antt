@@ -120,6 +120,8 @@ refusals =
     ∷ checked (cutAt 31) (refuse 7 0)
     ∷ checked (one whole (5 ∷ [])) (refuse 20 1)
     ∷ checked (but 31 0) (refuse 20 1)
+    ∷ checked (one whole (6 ∷ 1 ∷ 1 ∷ 0 ∷ [])) (refuse 20 1)
+    ∷ checked (one whole (255 ∷ [])) (refuse 20 1)
     ∷ checked (cutAt 33) (refuse 7 0)
     ∷ checked (cutAt 34) (refuse 7 0)
     ∷ checked (but 33 3) (refuse 8 0)
@@ -213,4 +215,4 @@ refused =
     & refl & refl & refl & refl & refl & refl & refl & refl & refl & refl & refl & refl
     & refl & refl & refl & refl & refl & refl & refl & refl & refl & refl & refl & refl
     & refl & refl & refl & refl & refl & refl & refl & refl & refl & refl & refl & refl
-    & refl & refl & refl & refl & refl & refl & done
+    & refl & refl & refl & refl & refl & refl & refl & refl & done

@@ -50,7 +50,7 @@ impl Device {
     }
 }
 
-// A list of axes: the first `count` places. Eight bytes in all, so that lists are cheap to hand on.
+// A list of axes: the first `count` places; what the others hold is free, and 0 in an answer of a call. Eight bytes in all, so that lists are cheap to hand on.
 pub struct AxisList {
     pub count: u16,
     pub axes: [Axis; Axis::MOST],
