@@ -258,7 +258,7 @@ pub enum RunOutcome {
 }
 
 impl AxisList {
-    // No axes.
+    // No axes; what its places hold is free.
     pub fn empty() -> AxisList
         ensures { λ r. ⌜ axesOf r ≡ [] ⌝ }
     {
@@ -291,7 +291,7 @@ impl AxisList {
         }
     }
 
-    // The list with one axis more at its end.
+    // The list with one axis more at its end; what stands past it is free.
     pub fn with(self, a: Axis) -> AxisList
         requires { ⌜ length (axesOf self) < mostAxes ⌝ }
         ensures { λ r. ⌜ axesOf r ≡ axesOf self ++ (a .0 ∷ []) ⌝ }
@@ -323,7 +323,7 @@ impl AxisList {
 }
 
 impl Sharding {
-    // All axes replicated.
+    // All axes replicated; what the places of its lists hold is free.
     pub fn replicated() -> Sharding
         ensures { λ r. ⌜ (dimsOf r ≡ replicate mostDims []) × (axesOf (r .unreduced) ≡ []) ⌝ }
     {
@@ -334,7 +334,7 @@ impl Sharding {
         }
     }
 
-    // The list of a dimension, no axes past the last.
+    // The list of a dimension, no axes past the last; what stands past its axes is free.
     pub fn list(self, d: Dim) -> AxisList
         ensures { λ r. ⌜ axesOf r ≡ getD (dimsOf self) (d .0) [] ⌝ }
     {
