@@ -1,3 +1,2 @@
 -- What the contracts of axis lists are written with.
-pub mod Mesh
 pub mod Marks

@@ -9,33 +9,11 @@ ghost use Rattle.rules.specs.Limits.{mostAxes};
 ghost use Rattle.rules.specs.Mesh.{span as spanOf};
 ghost use Rattle.rules.specs.Collectives.{cutTail};
 ghost use Rattle.rules.specs.PlanFile.{allBelow, increasingFrom, allIn, isTail};
-ghost use Rattle.rules.specs.Types.{axesOf};
-ghost use Rattle.axes.specs.Mesh.{meshOf, Sized};
+ghost use Rattle.rules.specs.Types.{axesOf, meshOf, Sized};
 ghost use Rattle.axes.specs.Marks.{marksWith};
 use rules::Axis;
 use rules::AxisList;
-
-// A mesh: the sizes of its axes are the first `n` places.
-pub struct Mesh {
-    pub n: usize,
-    pub sizes: [u16; Axis::MOST],
-}
-
-impl Mesh {
-    // The size of an axis, 1 past the last.
-    pub fn size(self, a: Axis) -> usize
-        ensures { λ r. ⌜ r ≡ getD (meshOf self) (a .0) 1 ⌝ }
-    {
-        let i = a.0 as usize;
-        if Axis::MOST <= i {
-            return 1;
-        }
-        if self.n <= i {
-            return 1;
-        }
-        self.sizes[i] as usize
-    }
-}
+use rules::Mesh;
 
 // The product of the sizes of a list's axes.
 pub fn span(list: AxisList, mesh: Mesh) -> usize

@@ -3,13 +3,10 @@
 use Prim.Native.Nat.{ℕ}
 use Rattle.rules.specs.Sharding.{Sharding, IsSharding}
 use Rattle.rules.specs.Refusals.{Judged, accept, refusedBy}
-use Rattle.rules.specs.Types.{shardingOf}
+use Rattle.rules.specs.Types.{shardingOf, meshOf, sizesOf, WithinPlaces}
 use Rattle.rules.specs.declared.Sharding as code
 use Rattle.rules.specs.declared.Table.{Table}
-use Rattle.axes.specs.declared.Mesh.{Mesh}
-use Rattle.axes.specs.Mesh.{meshOf}
-use Rattle.dims.specs.Dims.{sizesOf}
-use Rattle.start.specs.Start.{WithinPlaces}
+use Rattle.rules.specs.declared.Mesh.{Mesh}
 use Rattle.start.specs.declared.Verdict.{Verdict}
 use Rattle.start.specs.declared.Verdict.the-variants as verdict
 use Rattle.judge.specs.declared.After.{After}

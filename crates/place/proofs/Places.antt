@@ -12,7 +12,7 @@ use Rattle.rules.specs.Sharding.{firstIndexes}
 use Rattle.rules.specs.Limits.{mostWords}
 use Rattle.rules.specs.Refusals.{Judged, accept, refuse, refusedBy}
 use Rattle.rules.specs.PlanFile.{Plan, announced, announcedShape, StateAnswer, stateOf}
-use Rattle.rules.specs.Types.{shardingOf, dimsOf}
+use Rattle.rules.specs.Types.{shardingOf, dimsOf, meshOf, sizesOf}
 use Rattle.rules.specs.Calls.{PlaceAnswer, placeOf}
 use Rattle.rules.specs.declared.Refusal.{Refusal}
 use Rattle.rules.proofs.Positions.{pos-of-lt, position-lt}
@@ -23,8 +23,6 @@ use Rattle.rules.proofs.Accepted.{AcceptedPlan, accepted, state-inv}
 use Rattle.rules.proofs.Room.{State, state}
 use Rattle.reader.specs.Reading.{nextRefusal}
 use Rattle.reader.specs.declared.Next.the-variants as next
-use Rattle.axes.specs.Mesh.{meshOf}
-use Rattle.dims.specs.Dims.{sizesOf}
 use Rattle.mesh.specs.Fitting.{IsPlace}
 use Rattle.plan.specs.Parts.{stateAt, stateAnswer, StateTells, Shaped}
 use Rattle.plan.specs.declared.State as code

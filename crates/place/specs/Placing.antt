@@ -4,10 +4,9 @@ use mathlib.Core.List.{List, []}
 use lib.ListN.{getD, take}
 use Rattle.rules.specs.Mesh.{position, deviceCoords}
 use Rattle.rules.specs.Limits.{mostDims, mostWords}
-use Rattle.rules.specs.Types.{dimsOf}
+use Rattle.rules.specs.Types.{dimsOf, sizesOf}
 use Rattle.rules.specs.declared.Sharding as code
 use Rattle.rules.specs.declared.Table.{Table}
-use Rattle.dims.specs.Dims.{sizesOf}
 use Rattle.mesh.specs.Fitting.{IsPlace}
 
 -- a device of the mesh, and shard sizes whose blocks begin within the table

@@ -1,4 +1,4 @@
--- What the parts of the check (src/lib.rt) answer, in the rules' own judgements: the sizes, what stands before the steps, one step taken, so many
+-- What the parts of the check (src/lib.rt) answer, in the rules' own judgements: the sizes, what stands before the steps, so many
 -- steps in turn, the whole file, a state. A mesh is told by its n sizes, a table by the sizes up to its rank, a sharding by the lists up to the rank,
 -- a list by the axes up to its count; the places past these are free, and nothing reads them. Assumes nothing.
 use Prim.Native.Nat.{ℕ, _*_, _≤_}
@@ -7,26 +7,21 @@ use mathlib.Core.List.{List, []}
 use lib.ListN.{length, take}
 use Rattle.rules.specs.Mesh.{devices as devicesOf}
 use Rattle.rules.specs.Sharding.{Sharding, shardSizes}
-use Rattle.rules.specs.Collectives.{Step}
 use Rattle.rules.specs.Limits.{mostAxes, mostDevices, mostWords, mostDims, mostSteps}
 use Rattle.rules.specs.Refusals.{Judged, accept, _>>=_, refusedBy}
-use Rattle.rules.specs.PlanFile.{Read, MeshAndTable, meshAndTableAt, stepCount, stepAt, judgeStep, stepsAt, Front, judgeFront, Plan, judge, announced, largestShard, room, StateAnswer, stateOf}
-use Rattle.rules.specs.Types.{dimsOf, shardingOf, stepOf}
+use Rattle.rules.specs.PlanFile.{Read, MeshAndTable, meshAndTableAt, stepCount, stepsAt, Front, judgeFront, Plan, judge, announced, largestShard, room, StateAnswer, stateOf}
+use Rattle.rules.specs.Types.{dimsOf, shardingOf, meshOf, sizesOf, WithinPlaces}
 use Rattle.rules.specs.Calls.{CheckAnswer}
 use Rattle.rules.specs.declared.Sharding as code
 use Rattle.rules.specs.declared.Table.{Table}
-use Rattle.reader.specs.Reading.{reading, Tells, noLists, noStep, headerOf}
+use Rattle.reader.specs.Reading.{reading, Tells, noLists, headerOf}
 use Rattle.reader.specs.declared.Header.{Header}
 use Rattle.reader.specs.declared.Next.{Next}
 use Rattle.reader.specs.declared.Next.the-variants as next
-use Rattle.axes.specs.declared.Mesh.{Mesh}
-use Rattle.axes.specs.Mesh.{meshOf}
-use Rattle.dims.specs.Dims.{sizesOf}
-use Rattle.start.specs.Start.{WithinPlaces}
+use Rattle.rules.specs.declared.Mesh.{Mesh}
 use Rattle.judge.specs.Step.{Sharded}
 use Rattle.plan.specs.declared.Shape.{Shape}
 use Rattle.plan.specs.declared.Opening.{Opening}
-use Rattle.plan.specs.declared.Taken.{Taken}
 use Rattle.plan.specs.declared.Walk.{Walk}
 use Rattle.plan.specs.declared.Whole.{Whole}
 use Rattle.plan.specs.declared.State.{State}
@@ -73,28 +68,6 @@ pub record Opened (file : List ℕ) (r : Opening) : Type 0 where
   pub reads : openRead r ≡ judgeFront file
   pub counted : Counted (r .devices) (r .mesh) (r .table)
   pub steps-are : (f : Front) → judgeFront file ≡ accept f → r .steps ≡ stepCount file
-
--- ---- one step
-
--- a step that was read and judged, and the sharding after it
-pub record StepTaken : Type 0 where
-  pub step : Step
-  pub sharding : Sharding
-
-unfoldable pub takeStep : (mesh sizes : List ℕ) → ℕ → List ℕ → ℕ → Sharding → Judged (Read StepTaken)
-unfolding stepAt judgeStep
-takeStep mesh sizes k file at s = do
-  t ← stepAt (length mesh) (length sizes) k file at
-  a ← judgeStep mesh sizes k (t .value) s
-  accept (record { value = record { step = t .value; sharding = a }; next = t .next })
-
-abbrev pub takenRead : ℕ → Taken → Judged (Read StepTaken)
-takenRead rank r = reading (r .next) (record { step = stepOf rank (r .step); sharding = shardingOf rank (r .sharding) })
-
--- beside a refusal: no step, and the sharding s as it was
-abbrev pub TakenTells : ℕ → Sharding → Judged (Read StepTaken) → Taken → Type 0
-TakenTells rank s j r =
-    Tells (record { step = noStep; sharding = s }) j (r .next) (record { step = stepOf rank (r .step); sharding = shardingOf rank (r .sharding) })
 
 -- ---- steps in turn
 

@@ -2,44 +2,37 @@
 // Order and numbers are those of rules/specs/PlanFile.antt; specs/Parts.antt says what the parts answer.
 ghost use mathlib.Core.Path.{_≡_};
 ghost use mathlib.Core.List.{[]};
-ghost use Prim.Native.Nat.{ℕ, _≤_, _<_, max};
+ghost use Prim.Native.Nat.{ℕ, _≤_, _<_};
 ghost use lib.ListN.{take};
 ghost use Rattle.rules.specs.Lists.{product};
 ghost use Rattle.rules.specs.Limits.{mostSteps, mostDims};
-ghost use Rattle.rules.specs.Refusals.{accept, refuse, refusedBy};
+ghost use Rattle.rules.specs.Refusals.{accept, refusedBy};
 ghost use Rattle.rules.specs.PlanFile.{meshAndTableAt};
-ghost use Rattle.rules.specs.Sharding.{shardSizes};
-ghost use Rattle.rules.specs.Types.{axesOf, dimsOf, shardingOf};
+ghost use Rattle.rules.specs.Types.{axesOf, shardingOf, meshOf, sizesOf};
 ghost use Rattle.rules.specs.Calls.{checkedOf};
 ghost use Rattle.rules.specs.Promises.{CheckPromise};
 ghost use Rattle.reader.specs.Reading.{headerOf};
-ghost use Rattle.axes.specs.Mesh.{meshOf};
-ghost use Rattle.dims.specs.Dims.{sizesOf};
 ghost use Rattle.judge.specs.Step.{Sharded};
-ghost use Rattle.plan.specs.Parts.{Counted, NoShape, shapeRead, openRead, Opens, Opened, takeStep, TakenTells, walkAt, walkRead};
+ghost use Rattle.plan.specs.Parts.{Counted, NoShape, shapeRead, openRead, Opens, Opened, walkAt, walkRead};
 ghost use Rattle.plan.specs.Parts.{wholeOf, WholeTells, Keeps, Bounded, answerOf, stateAt, StateTells, Shaped};
-use axes::Mesh;
 use dims::lists_within;
 use dims::no_lists;
 use dims::shard_of;
 use dims::sizes_within;
-use dims::span_dims;
 use dims::words;
-use judge::judge_step;
 use reader::Header;
 use reader::HeaderRead;
 use reader::Next;
 use reader::read_header;
 use reader::read_sharding;
 use reader::read_sizes;
-use reader::read_step;
 use reader::u16_at;
 use rules::Axis;
 use rules::CheckOutcome;
 use rules::Checked;
 use rules::Device;
 use rules::Dim;
-use rules::Kind;
+use rules::Mesh;
 use rules::PlanFile;
 use rules::Reason;
 use rules::Refusal;
@@ -50,6 +43,9 @@ use rules::Totals;
 use start::Verdict;
 use start::judge_start;
 use start::refusal_of;
+use taking::larger;
+use taking::shard_words;
+use taking::take_step;
 
 // The sizes of mesh and table, and where the next byte is.
 struct Shape {
@@ -67,13 +63,6 @@ struct Opening {
     mesh: Mesh,
     table: Table,
     start: Sharding,
-}
-
-// A step that was read and judged, the sharding after it, and where the next byte is.
-pub struct Taken {
-    pub next: Next,
-    pub step: Step,
-    pub sharding: Sharding,
 }
 
 // The sharding after some steps, the one that was kept on the way, the most words that a shard had, and where the next byte is.
@@ -236,63 +225,6 @@ fn open(file: &[u8]) -> Opening
     open_with(file, header, shape, at)
 }
 
-impl Taken {
-    // Refused, with no step, and the sharding as it was.
-    fn refused(refusal: Refusal, sharding: Sharding) -> Taken
-        ensures { λ r. ⌜ ((rank : ℕ) → TakenTells rank (shardingOf rank sharding) (refusedBy refusal) r) ⌝ }
-    {
-        let lists = Sharding::replicated();
-        Taken {
-            next: Next::Refused(refusal),
-            step: Step {
-                kind: Kind::Unknown,
-                source: Dim(0),
-                target: Dim(0),
-                lists,
-            },
-            sharding,
-        }
-    }
-}
-
-// Step k, read and judged.
-pub fn take_step(
-    file: &[u8],
-    at: usize,
-    k: u16,
-    mesh: Mesh,
-    table: Table,
-    sharding: Sharding,
-) -> Taken
-    requires { ⌜ Sharded mesh table sharding ⌝ }
-    ensures { λ r. ⌜ TakenTells (table .rank) (shardingOf (table .rank) sharding)
-        (takeStep (meshOf mesh) (sizesOf table) k (now (file .entry)) at (shardingOf (table .rank) sharding)) r ⌝ }
-{
-    let read = read_step(file, at, mesh.n, table.rank, k);
-    let next = read.next;
-    let step = read.step;
-    let Next::At(end) = next else {
-        return Taken::refused(next.refusal(), sharding);
-    };
-    let judged = judge_step(step, k, sharding, mesh, table);
-    let verdict = judged.verdict;
-    let Verdict::Fine = verdict else {
-        return Taken::refused(refusal_of(verdict), sharding);
-    };
-    let after = judged.sharding;
-    Taken {
-        next: Next::At(end),
-        step,
-        sharding: after,
-    }
-}
-
-fn larger(a: usize, b: usize) -> usize
-    ensures { λ r. ⌜ r ≡ max a b ⌝ }
-{
-    if a < b { b } else { a }
-}
-
 impl Walk {
     fn refused(refusal: Refusal, sharding: Sharding) -> Walk
         ensures { λ r. ⌜ ((rank : ℕ) → walkRead rank r ≡ refusedBy refusal) ⌝ }
@@ -311,14 +243,6 @@ fn kept_until(state: usize, k: usize, earlier: Sharding, later: Sharding) -> Sha
     ensures { λ r. ⌜ (k < state → r ≡ later) × (state ≤ k → r ≡ earlier) ⌝ }
 {
     if k < state { later } else { earlier }
-}
-
-// The words of one shard of a table of so many words. The table's words are divided once, by the span of all axes that split it.
-fn shard_words(total: usize, mesh: Mesh, table: Table, sharding: Sharding) -> usize
-    requires { ⌜ Sharded mesh table sharding × (total ≡ product (sizesOf table)) ⌝ }
-    ensures { λ r. ⌜ r ≡ product (shardSizes (meshOf mesh) (sizesOf table) (take (table .rank) (dimsOf sharding))) ⌝ }
-{
-    total / span_dims(sharding, table.rank, mesh)
 }
 
 // So many steps in turn, from the start; the sharding after a state's steps is kept, or the last one where there are fewer.

@@ -5,17 +5,25 @@ use mathlib.Core.Path.{_≡_, refl, ap, sym, _∙_}
 use mathlib.Core.List.{List, [], _∷_, map, _++_}
 use native.Mathlib.Numerals.{add-one}
 use native.Mathlib.Omega.{arith}
-use lib.ListN.{set, length, length-map, length-take, getD, List·getD-map}
+use lib.ListN.{set, length, length-map, length-take, getD, take, List·getD-map, List·getD-eq-default}
 use lib.Seq.{take-suc-set, getD-take}
 use Rattle.rules.specs.Limits.{mostAxes}
 use Rattle.rules.specs.Types.{axesOf, listFrom}
 use Rattle.rules.specs.declared.Axis.{Axis}
 use Rattle.rules.specs.declared.AxisList.{AxisList}
+use Rattle.rules.proofs.Lists.{any-default}
 
 pub map-set : {A B : Type 0} (f : A → B) (l : List A) (i : ℕ) (y : A) → map f (set l i y) ≡ set (map f l) i (f y)
 map-set f [] i y = refl
 map-set f (x ∷ xs) zero y = refl
 map-set {B = B} f (x ∷ xs) (suc i) y = ap (λ (zs : List B). f x ∷ zs) (map-set f xs i y)
+
+-- the size of an axis, in its place and past the last
+pub size-in : (l : List ℕ) (n a : ℕ) → a < n → a < length l → getD l a 0 ≡ getD (take n l) a 1
+size-in l n a h k = any-default l a 0 1 k ∙ sym (getD-take n l a 1 h)
+
+pub size-past : (l : List ℕ) (n a : ℕ) → min n (length l) ≤ a → 1 ≡ getD (take n l) a 1
+size-past l n a h = sym (List·getD-eq-default (take n l) 1 (omega (arith, length-take n l)))
 
 module _ (l : AxisList) (full : length (l .axes) ≡ mostAxes) where
   pub axes-length : length (axesOf l) ≡ min (l .count) mostAxes

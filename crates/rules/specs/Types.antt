@@ -1,17 +1,37 @@
 -- What the types of the code (src/lib.rt) stand for in the rules, and the values of the code that an answer is made of. Assumes nothing.
-use Prim.Native.Nat.{ℕ}
+use Prim.Native.Nat.{ℕ, _≤_}
 use mathlib.Core.List.{List, [], map}
 use lib.ListN.{length, getD, take}
 use Rattle.rules.specs.Lists.{tab}
-use Rattle.rules.specs.Limits.{mostAxes, mostDims}
+use Rattle.rules.specs.Limits.{mostAxes, mostDevices, mostDims}
 use Rattle.rules.specs.Sharding.{Sharding}
 use Rattle.rules.specs.Collectives as rules
 use Rattle.rules.specs.declared.Axis.{Axis}
 use Rattle.rules.specs.declared.AxisList.{AxisList}
+use Rattle.rules.specs.declared.Mesh.{Mesh}
+use Rattle.rules.specs.declared.Table.{Table}
 use Rattle.rules.specs.declared.Sharding as code
 use Rattle.rules.specs.declared.Kind.{Kind}
 use Rattle.rules.specs.declared.Kind.the-variants.{AllSlice, AllGather, AllReduce, AllToAll, Unknown}
 use Rattle.rules.specs.declared.Step.{Step}
+
+-- the sizes of a mesh, and those of a table
+abbrev pub meshOf : Mesh → List ℕ
+meshOf m = take (m .n) (m .sizes)
+
+abbrev pub sizesOf : Table → List ℕ
+sizesOf t = take (t .rank) (t .sizes)
+
+-- each size is from 1 to the most devices; so is the size 1 that an axis past the last is read with
+pub record Sized (mesh : List ℕ) : Type 0 where
+  pub least : (a : ℕ) → 1 ≤ getD mesh a 1
+  pub most : (a : ℕ) → getD mesh a 1 ≤ mostDevices
+
+-- a mesh and a table within their places, and mesh sizes from 1 to the most devices; an accepted file gives it
+pub record WithinPlaces (mesh : Mesh) (table : Table) : Type 0 where
+  pub axes : mesh .n ≤ mostAxes
+  pub rank : table .rank ≤ mostDims
+  pub sized : Sized (meshOf mesh)
 
 -- the axes of a list, in order
 unfoldable pub axesOf : AxisList → List ℕ

@@ -6,7 +6,7 @@ ghost use Prim.Native.Nat.{ℕ, _+_, _<_, _≤_};
 ghost use lib.ListN.{length, getD, set, replicate};
 ghost use Rattle.rules.specs.Limits.{mostAxes, mostDevices, mostDims, mostWords, mostSteps, leastBytes, mostBytes};
 ghost use Rattle.rules.specs.Refusals.{numberOf};
-ghost use Rattle.rules.specs.Types.{axesOf, dimsOf, listFrom};
+ghost use Rattle.rules.specs.Types.{axesOf, meshOf, dimsOf, listFrom};
 
 // An axis number of a mesh.
 pub struct Axis(pub u8);
@@ -60,6 +60,28 @@ pub struct AxisList {
 pub struct Sharding {
     pub dims: [AxisList; Dim::MOST],
     pub unreduced: AxisList,
+}
+
+// A mesh: the sizes of its axes are the first `n` places.
+pub struct Mesh {
+    pub n: usize,
+    pub sizes: [u16; Axis::MOST],
+}
+
+impl Mesh {
+    // The size of an axis, 1 past the last.
+    pub fn size(self, a: Axis) -> usize
+        ensures { λ r. ⌜ r ≡ getD (meshOf self) (a .0) 1 ⌝ }
+    {
+        let i = a.0 as usize;
+        if Axis::MOST <= i {
+            return 1;
+        }
+        if self.n <= i {
+            return 1;
+        }
+        self.sizes[i] as usize
+    }
 }
 
 // The sizes of a table: the first `rank` places.

@@ -17,8 +17,8 @@ use Rattle.rules.specs.PlanFile.{Read, stepAt, judgeStep, stepsAt}
 use Rattle.rules.proofs.Judging.{accept-inj, bind-inv}
 use Rattle.rules.proofs.Steps.{facts, after-sharding, after-shape}
 use Rattle.rules.proofs.Accepted.{Within}
-use Rattle.plan.specs.Parts.{StepTaken, takeStep}
-use Rattle.plan.proofs.Takes.{step-taken}
+use Rattle.taking.specs.Taking.{StepTaken, takeStep}
+use Rattle.taking.proofs.Takes.{step-taken}
 use Rattle.step.specs.Stepping.{Stepping}
 use Rattle.step.proofs.Shards.{stepping}
 

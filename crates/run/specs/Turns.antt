@@ -11,16 +11,15 @@ use Rattle.rules.specs.Collectives.{Shards, stepped, Stands, withShards}
 use Rattle.rules.specs.Refusals.{accept}
 use Rattle.rules.specs.PlanFile.{Read, Plan, judge, room}
 use Rattle.rules.specs.Calls.{lastState}
-use Rattle.rules.specs.Types.{dimsOf, shardingOf, stepOf}
+use Rattle.rules.specs.Types.{dimsOf, shardingOf, stepOf, meshOf, sizesOf}
 use Rattle.rules.specs.declared.Kind.{Kind}
 use Rattle.rules.specs.declared.Sharding as code
 use Rattle.rules.specs.declared.Table.{Table}
-use Rattle.axes.specs.Mesh.{meshOf}
-use Rattle.axes.specs.declared.Mesh.{Mesh}
-use Rattle.dims.specs.Dims.{sizesOf}
+use Rattle.rules.specs.declared.Mesh.{Mesh}
 use Rattle.judge.specs.Step.{Sharded}
-use Rattle.plan.specs.Parts.{HoldsPlan, StepTaken, takeStep, takenRead}
-use Rattle.plan.specs.declared.Taken.{Taken}
+use Rattle.plan.specs.Parts.{HoldsPlan}
+use Rattle.taking.specs.Taking.{StepTaken, takeStep, takenRead}
+use Rattle.taking.specs.declared.Taken.{Taken}
 use Rattle.plan.specs.declared.Whole.{Whole}
 use Rattle.step.specs.Stepping.{Stepping, inPlace}
 

@@ -9,15 +9,13 @@ ghost use Rattle.rules.specs.Limits.{mostDevices, mostWords};
 ghost use Rattle.rules.specs.Promises.{RunPromise};
 ghost use Rattle.plan.specs.Parts.{Bounded, answerOf};
 ghost use Rattle.run.specs.Turns.{Turning, Turned, standsAfter, Runs, BeginsWithLast};
-use axes::Mesh;
 use dims::shard_of;
 use dims::words;
-use plan::Taken;
 use plan::Whole;
 use plan::judge_file;
-use plan::take_step;
 use reader::Next;
 use rules::Kind;
+use rules::Mesh;
 use rules::Reason;
 use rules::Refusal;
 use rules::RunOutcome;
@@ -25,6 +23,8 @@ use rules::Sharding;
 use rules::Table;
 use step::in_place;
 use step::step_from;
+use taking::Taken;
+use taking::take_step;
 
 // Zeros.
 fn clear(words: &mut [u32])

@@ -8,8 +8,7 @@ use lib.Seq.{take-all}
 use Prim.Native.Nat.{_+_, _*_}
 use Rattle.rules.specs.Lists.{flat}
 use Rattle.rules.specs.Mesh.{span as spanOf}
-use Rattle.rules.specs.Types.{axesOf, dimsOf}
-use Rattle.axes.specs.Mesh.{meshOf}
+use Rattle.rules.specs.Types.{axesOf, dimsOf, meshOf}
 use Rattle.dims.proofs.Dims.{dims-length, list-at, span-more, span-most, flat-front}
 use Rattle.dims.proofs.span_dims.Statement.{statement}
 use Rattle.dims.proofs.span_dims.Tie as tie

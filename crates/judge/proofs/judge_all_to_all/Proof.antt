@@ -8,9 +8,7 @@ use lib.Dec.{T}
 use lib.ListN.{length-map}
 use lib.Seq.{length-take-le}
 use Rattle.rules.specs.PlanFile.{allBelow, gatherOff, sliceOn}
-use Rattle.rules.specs.Types.{axesOf, shardingOf}
-use Rattle.axes.specs.Mesh.{meshOf}
-use Rattle.dims.specs.Dims.{sizesOf}
+use Rattle.rules.specs.Types.{axesOf, shardingOf, meshOf, sizesOf}
 use Rattle.dims.proofs.Dims.{dims-length}
 use Rattle.rules.proofs.Judging.{twoDims-facts}
 use Rattle.judge.proofs.Steps.{only-at, no-dims, gather-stops, gather-passes, target-room}

@@ -1,10 +1,8 @@
 use borrow.Author.Needs.{needs}
 use Rattle.rules.specs.PlanFile.{judgeKind}
-use Rattle.axes.specs.Mesh.{meshOf}
-use Rattle.dims.specs.Dims.{sizesOf}
 use Rattle.rules.proofs.Judging.{named-inv}
 use Rattle.rules.specs.Collectives.{stepAxes}
-use Rattle.rules.specs.Types.{stepOf}
+use Rattle.rules.specs.Types.{stepOf, meshOf, sizesOf}
 use Rattle.judge.proofs.judge_kind.Statement.{statement}
 use Rattle.judge.proofs.judge_kind.Tie as tie
 

@@ -7,10 +7,8 @@ use lib.ListN.{length, length-map, take}
 use lib.Seq.{length-take-le}
 use Rattle.rules.specs.Lists.{flat}
 use Rattle.rules.specs.PlanFile.{allBelow}
-use Rattle.rules.specs.Types.{dimsOf, shardingOf}
-use Rattle.axes.specs.Mesh.{meshOf}
+use Rattle.rules.specs.Types.{dimsOf, shardingOf, meshOf, sizesOf}
 use Rattle.axes.proofs.Naming.{length-with}
-use Rattle.dims.specs.Dims.{sizesOf}
 use Rattle.judge.proofs.Rooms.{fresh-room}
 use Rattle.judge.proofs.Steps.{both-before, fresh-stops, fresh-passes, not-replicated, replicated}
 use Rattle.judge.proofs.judge_slice.Statement.{statement}

@@ -3,10 +3,8 @@ use native.Mathlib.Omega.{arith}
 use mathlib.Core.Path.{refl, sym, ap, _∙_}
 use lib.ListN.{length-map}
 use lib.Seq.{length-take-le}
-use Rattle.rules.specs.Types.{stepOf, shardingOf}
+use Rattle.rules.specs.Types.{stepOf, shardingOf, meshOf, sizesOf}
 use Rattle.rules.proofs.Judging.{never}
-use Rattle.axes.specs.Mesh.{meshOf}
-use Rattle.dims.specs.Dims.{sizesOf}
 use Rattle.start.specs.Start.{meaning}
 use Rattle.start.proofs.Verdicts.{passed}
 use Rattle.judge.proofs.Steps.{named-stops, named-passes, stays}

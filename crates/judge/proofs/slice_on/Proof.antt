@@ -3,8 +3,7 @@ use native.Mathlib.Omega.{arith}
 use mathlib.Core.Path.{sym, ap, _∙_}
 use borrow.Author.Tests.{not-true, not-false}
 use Rattle.rules.specs.Refusals.{accept}
-use Rattle.rules.specs.Types.{dimsOf}
-use Rattle.axes.specs.Mesh.{meshOf}
+use Rattle.rules.specs.Types.{dimsOf, meshOf}
 use Rattle.judge.proofs.Steps.{shard-divides, not-divisible, slices}
 use Rattle.judge.proofs.slice_on.Statement.{statement}
 use Rattle.judge.proofs.slice_on.Tie as tie

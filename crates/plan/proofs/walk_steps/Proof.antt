@@ -2,9 +2,7 @@ use Prim.Native.Nat.{_-_, max}
 use borrow.Author.Needs.{needs}
 use mathlib.Core.Path.{sym, ap, _∙_}
 use native.Mathlib.Omega.{arith}
-use Rattle.rules.specs.Types.{shardingOf}
-use Rattle.axes.specs.Mesh.{meshOf}
-use Rattle.dims.specs.Dims.{sizesOf}
+use Rattle.rules.specs.Types.{shardingOf, meshOf, sizesOf}
 use Rattle.reader.proofs.Answers.{read-on, read-stopped}
 use Rattle.plan.proofs.Walks.{Walking, walking, halted, arrived, sound-after, onward}
 use Rattle.plan.proofs.walk_steps.Statement.{statement}

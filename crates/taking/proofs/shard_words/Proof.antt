@@ -7,14 +7,12 @@ use lib.ListN.{length, length-take, length-append, take}
 use Rattle.rules.specs.Lists.{flat, product}
 use Rattle.rules.specs.Mesh.{span}
 use Rattle.rules.specs.Sharding.{shardSizes}
-use Rattle.rules.specs.Types.{axesOf, dimsOf}
+use Rattle.rules.specs.Types.{axesOf, dimsOf, meshOf, sizesOf}
 use Rattle.rules.proofs.Sizes.{cut-divisible, cut-product}
-use Rattle.axes.specs.Mesh.{meshOf}
-use Rattle.dims.specs.Dims.{sizesOf}
 use Rattle.dims.proofs.Dims.{span-least}
 use Rattle.rules.proofs.Lists.{few-distinct}
-use Rattle.plan.proofs.shard_words.Statement.{statement}
-use Rattle.plan.proofs.shard_words.Tie as tie
+use Rattle.taking.proofs.shard_words.Statement.{statement}
+use Rattle.taking.proofs.shard_words.Tie as tie
 
 pub shard-words-spec : {M : Type 1} → statement M
 shard-words-spec = tie.close (tie.spec (λ c κs. let r = c .pre .0 in

@@ -1,9 +1,9 @@
 use borrow.Author.Needs.{needs}
 use native.Mathlib.Omega.{arith}
 use lib.ListN.{length-map}
-use Rattle.axes.proofs.Lists.{size-in, size-past}
-use Rattle.axes.proofs.Mesh.size.Statement.{statement}
-use Rattle.axes.proofs.Mesh.size.Tie as tie
+use Rattle.rules.proofs.Types.{size-in, size-past}
+use Rattle.rules.proofs.Mesh.size.Statement.{statement}
+use Rattle.rules.proofs.Mesh.size.Tie as tie
 
 pub size-spec : {M : Type 1} → statement M
 size-spec =

@@ -2,12 +2,11 @@ use borrow.Author.Needs.{needs}
 use native.Mathlib.Omega.{arith}
 use lib.ListN.{length-map}
 use lib.Seq.{length-take-le}
-use Rattle.axes.specs.Mesh.{meshOf}
-use Rattle.dims.specs.Dims.{sizesOf}
+use Rattle.rules.specs.Types.{meshOf, sizesOf}
 use Rattle.reader.proofs.Answers.{read-on, read-stopped, is-told, retold}
-use Rattle.plan.proofs.Takes.{fine, stopped, bytes-stop, judgement-stops, step-taken}
-use Rattle.plan.proofs.take_step.Statement.{statement}
-use Rattle.plan.proofs.take_step.Tie as tie
+use Rattle.taking.proofs.Takes.{fine, stopped, bytes-stop, judgement-stops, step-taken}
+use Rattle.taking.proofs.take_step.Statement.{statement}
+use Rattle.taking.proofs.take_step.Tie as tie
 
 enum-told : tie.Need-enum-told
 enum-told c = search needs

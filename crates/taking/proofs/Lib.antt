@@ -1,0 +1,2 @@
+-- Laws of a step taken.
+pub mod Takes

@@ -1,0 +1,2 @@
+-- What a step taken is.
+pub mod Taking
