@@ -10,14 +10,15 @@ use native.Mathlib.Omega.{arith}
 use lib.ListN.{length, getD}
 use lib.Dec.{T, ltb, leb, eqb, ltb→lt, leb→le, lit<, lit≤}
 use Rattle.rules.specs.Lists.{tab, pick, flat, product, mem, In, Distinct}
-use Rattle.rules.specs.Sharding.{Sharding, divisible, IsSharding}
+use Rattle.rules.specs.Sharding.{Sharding, varying, divisible, IsSharding}
 use Rattle.rules.specs.Collectives.{Step, after}
-use Rattle.rules.specs.Limits.{mostAxes, mostDevices, mostDims, mostWords, mostSteps, leastBytes, mostBytes}
+use Rattle.rules.specs.Limits.{present, mostAxes, mostDevices, mostDims, mostWords, mostSteps, leastBytes, mostBytes}
 use Rattle.rules.specs.Refusals.{accept, _>>=_, _>>_}
 use Rattle.rules.specs.PlanFile.{
   Read,
   u16At,
   edition,
+  editionKnown,
   axisCount,
   rankCount,
   stepCount,
@@ -33,10 +34,12 @@ use Rattle.rules.specs.PlanFile.{
   MeshAndTable,
   meshAndTableAt,
   meshAndTableAtBy,
+  carriesReplicated,
   shardingAt,
   judgeAxis,
   judgeAxes,
   judgeStart,
+  oneMeaning,
   stepAt,
   judgeStep,
   stepsAt,
@@ -114,12 +117,14 @@ start-sharding mesh sizes s e =
     let d : List ℕ = flat (s .dims) in
     let p = then-inv (judgeAxes (length mesh) false 0 [] d) _ tt e in
     let q = then-inv (judgeAxes (length mesh) true 0 d (s .unreduced)) _ tt (p .1) in
+    let r = then-inv (judgeAxes (length mesh) true 0 (varying s) (s .replicated)) _ tt (q .1) in
     let f : AxesFacts (length mesh) [] d = axes-facts (length mesh) false 0 [] d (p .0 .1) in
     let g : AxesFacts (length mesh) d (s .unreduced) = axes-facts (length mesh) true 0 d (s .unreduced) (q .0 .1) in
+    let h : AxesFacts (length mesh) (varying s) (s .replicated) = axes-facts (length mesh) true 0 (varying s) (s .replicated) (r .0 .1) in
     record {
-      of-mesh = λ a i. ⊎-elim (f .below a) (g .below a) (in-append a d (s .unreduced) i);
-      once = distinct-append d (s .unreduced) (f .once) (g .once) (g .off);
-      divides = need-true 0 (divisible mesh sizes (s .dims)) 17 (q .1);
+      of-mesh = λ a i. ⊎-elim (λ j. ⊎-elim (f .below a) (g .below a) (in-append a d (s .unreduced) j)) (h .below a) (in-append a (varying s) (s .replicated) i);
+      once = distinct-append (varying s) (s .replicated) (distinct-append d (s .unreduced) (f .once) (g .once) (g .off)) (h .once) (h .off);
+      divides = need-true 0 (divisible mesh sizes (s .dims)) 17 (r .1);
     }
 
 -- ---- steps
@@ -174,7 +179,7 @@ unfolding judgeHeaderBy
 header-facts file e =
     let a = need-inv 0 (leb leastBytes (length file)) 1 _ tt e in
     let b = need-inv 0 (leb (length file) mostBytes) 2 _ tt (a .1) in
-    let c = need-inv 0 (eqb (edition file) 1) 3 _ tt (b .1) in
+    let c = need-inv 0 (editionKnown present (edition file)) 3 _ tt (b .1) in
     let d = need-inv 0 (eqb (totalLength file) (length file)) 4 _ tt (c .1) in
     let n : T (leb 1 (axisCount file) && leb (axisCount file) mostAxes) × (_ ≡ accept tt) = need-inv 0 (leb 1 (axisCount file) && leb (axisCount file) mostAxes) 5 _ tt (d .1) in
     let r : T (leb 1 (rankCount file) && leb (rankCount file) mostDims) × (_ ≡ accept tt) = need-inv 0 (leb 1 (rankCount file) && leb (rankCount file) mostDims) 5 _ tt (n .1) in
@@ -243,12 +248,13 @@ front-accepted file f e =
     let h0 = then-inv (judgeHeader file) _ f e in
     let h : HeaderFacts file = header-facts file (h0 .0 .1) in
     let m = bind-inv (meshAndTableAt (axisCount file) (rankCount file) file) _ f (h0 .1) in
-    let s = bind-inv (shardingAt (axisCount file) (rankCount file) (shardingOffset file) file (m .0 .next)) _ f (m .2) in
+    let s = bind-inv (shardingAt (carriesReplicated (edition file)) (axisCount file) (rankCount file) (shardingOffset file) file (m .0 .next)) _ f (m .2) in
     let o = need-inv 0 (eqb (stepsOffset file) (s .0 .next)) 6 _ f (s .2) in
     let j = then-inv (judgeStart (m .0 .value .mesh) (m .0 .value .sizes) (s .0 .value)) _ f (o .1) in
     let g : MeshAndTableFacts (axisCount file) (rankCount file) (m .0 .value) =
     mesh-and-table-facts (axisCount file) (rankCount file) file (m .0) (m .1) in
-    subst (AcceptedFront file) (accept-inj (j .1)) (record {
+    let z = need-inv 0 (oneMeaning (edition file) (s .0 .value)) 18 _ f (j .1) in
+    subst (AcceptedFront file) (accept-inj (z .1)) (record {
       within = record {
         axes-some = omega (arith, g .axes-many);
         axes-few = omega (arith, g .axes-many);

@@ -52,6 +52,7 @@ pub record InPlaces (rank : ℕ) (s : Sharding) : Type 0 where
   pub rank-few : rank ≤ mostDims
   pub lists-few : (d : ℕ) → length (getD (s .dims) d []) ≤ mostAxes
   pub unreduced-few : length (s .unreduced) ≤ mostAxes
+  pub replicated-few : length (s .replicated) ≤ mostAxes
 
 list-of : (ls : List (List ℕ)) (d : ℕ) → length (getD ls d []) ≤ length (flat ls)
 list-of [] zero = omega arith
@@ -64,11 +65,12 @@ state-in-places : (file : List ℕ) (p : Plan) → judge file ≡ accept p → (
 state-in-places file p e k =
     let a : AcceptedPlan p = accepted file p e in
     let s : Sharding = announced p k in
-    let few : length (flat (s .dims)) + length (s .unreduced) ≤ mostAxes = simp length-append at (state a k .names-few) in
+    let few : length (flat (s .dims)) + length (s .unreduced) + length (s .replicated) ≤ mostAxes = simp length-append at (state a k .names-few) in
     record {
       rank-few = a .within .rank-few;
       lists-few = λ d. omega (arith, list-of (s .dims) d);
       unreduced-few = omega arith;
+      replicated-few = omega arith;
     }
 
 pub check-in-places : (file : List ℕ) (a : CheckAnswer) → checkOf file ≡ accept a → InPlaces (a .rank) (a .sharding)

@@ -12,6 +12,7 @@ use Rattle.rules.specs.Demands.{Words, Demand3}
 use Rattle.rules.specs.Ledger as table
 use Rattle.rules.specs.WorkedRefusals as files
 use Rattle.rules.specs.WorkedLimits as sizes
+use Rattle.rules.specs.WorkedEditions as later
 use Rattle.rules.specs.Promises.{RunPromise, RulesPromise}
 use Rattle.rules.specs.declared.Refusal.{Refusal}
 use Rattle.rules.specs.declared.RunOutcome.{RunOutcome}
@@ -119,6 +120,7 @@ rules-promise = record {
   refusal-numbers = refusing.refusal-numbers;
   readers-compared = readers.readers-compared;
   earlier-limits = readers.earlier-limits;
+  earlier-editions = readers.earlier-editions;
   locality = local.locality;
   group-by-position = group.groups-by-position;
   sum-of-words = sums.addWords-total;
@@ -127,4 +129,6 @@ rules-promise = record {
   refused = files.refused;
   limited = sizes.limited;
   earlier = sizes.earlier;
+  in-editions = later.in-editions;
+  first-edition = later.first-edition;
 }

@@ -1,8 +1,8 @@
--- Two readers of plan files, no limit of the one above that of the other: what either answers on a file that the other accepts (`readers-compared`).
--- The judgements differ in three tests; what follows the sizes is the same for every reader (`afterSizes`, `afterFront`). Assumes nothing.
+-- Two readers of plan files, of which the one takes nothing that the other does not: what either answers on a file that the other accepts
+-- (`readers-compared`). The judgements differ in four tests; what follows the sizes is the same for every reader (`afterSizes`, `afterFront`). Assumes nothing.
 use Prim.Native.Nat.{ℕ, zero, suc, _+_, _*_, _<_, _≤_}
 use mathlib.Core.Path.{_≡_, refl, sym, ap, _∙_, subst}
-use mathlib.Core.Bool.{Bool, true, false}
+use mathlib.Core.Bool.{Bool, true, false, _&&_}
 use mathlib.Core.List.{List, [], _∷_}
 use native.Mathlib.Nat.{mul-pos, mul-assoc, le-mul-of-pos-right}
 use native.Mathlib.Omega.{arith}
@@ -11,11 +11,13 @@ use lib.Dec.{T, ltb, leb, eqb, ltb→lt, leb→le, le→leb, lit<, lit≤}
 use borrow.Author.Tests.{lt-leb, leb-false}
 use Rattle.rules.specs.Lists.{tab, product}
 use Rattle.rules.specs.Mesh.{devices}
-use Rattle.rules.specs.Limits.{Reader, present, leastBytes}
+use Rattle.rules.specs.Limits.{Reader, present, leastBytes, mostBytes, mostDevices, mostWords, latestEdition}
 use Rattle.rules.specs.Refusals.{Judged, accept, refuse, _>>=_, _>>_, need}
 use Rattle.rules.specs.PlanFile.{
   Read,
   u16At,
+  edition,
+  editionKnown,
   axisCount,
   rankCount,
   stepCount,
@@ -28,16 +30,19 @@ use Rattle.rules.specs.PlanFile.{
   sizesAt,
   MeshAndTable,
   meshAndTableAtBy,
+  carriesReplicated,
   shardingAt,
   judgeStart,
+  oneMeaning,
   stepsAt,
   Front,
   judgeFrontBy,
   Plan,
   judgeBy,
 }
-use Rattle.rules.specs.Readers.{Narrower, withinLimits, KeepsPlans, MeetsLimits, ReadersCompared, original, EarlierLimits}
-use Rattle.rules.proofs.Judging.{accept-inj, need-inv, then-inv, bind-inv}
+use Rattle.rules.specs.Readers.{Narrower, takenBy, KeepsPlans, MeetsTests, ReadersCompared, original, EarlierLimits, upTo, EarlierEditions}
+use Rattle.rules.proofs.Judging.{accept-inj, need-inv, need-true, then-inv, bind-inv, then-assoc}
+use Rattle.rules.proofs.Lists.{T-and}
 use Rattle.rules.proofs.Accepted.{SizesFacts, sizes-facts}
 
 -- ---- a judgement that is a test more than another
@@ -79,27 +84,43 @@ tests-none {A} t a f b j e g = ap (λ (i : Judged A). _>>=_ i f) e ∙ go t
     go (accept x) = g
     go (refuse n k) = refl
 
+both-hold : (a b : Bool) → T a → T b → T (a && b)
+both-hold true true s t = tt
+
 pos-right : (a b : ℕ) → 0 < a * b → 0 < b
 pos-right a zero h = absurd (omega arith)
 pos-right a (suc b) h = omega arith
 
 -- ---- the header
 
+-- the tests of what a reader takes, of a header
+abbrev headerWithin : Reader → (file : List ℕ) → Judged (Unit {0})
+headerWithin r file = _>>_ (need (leb (length file) (r .bytes)) 2) (need (editionKnown r (edition file)) 3)
+
 module _ (r s : Reader) (file : List ℕ) where
-  header-meets : judgeHeaderBy s file ≡ accept tt → judgeHeaderBy r file ≡ need (leb (length file) (r .bytes)) 2
+  header-meets : judgeHeaderBy s file ≡ accept tt → judgeHeaderBy r file ≡ headerWithin r file
   unfolding judgeHeaderBy
   header-meets e =
       let a = need-inv 0 (leb leastBytes (length file)) 1 _ tt e in
       let b = need-inv 0 (leb (length file) (s .bytes)) 2 _ tt (a .1) in
-      passes (leb leastBytes (length file)) 1 _ (a .0) ∙ tests-last (leb (length file) (r .bytes)) 2 _ (b .1)
+      let c = need-inv 0 (editionKnown s (edition file)) 3 _ tt (b .1) in
+      passes (leb leastBytes (length file)) 1 _ (a .0)
+      ∙ ap (λ (j : Judged (Unit {0})). _>>_ (need (leb (length file) (r .bytes)) 2) j) (tests-last (editionKnown r (edition file)) 3 _ (c .1))
 
-  header-keeps : r .bytes ≤ s .bytes → judgeHeaderBy r file ≡ accept tt → judgeHeaderBy s file ≡ accept tt
+  known-by-both : r .editions ≤ s .editions → (e : ℕ) → T (editionKnown r e) → T (editionKnown s e)
+  known-by-both l e t =
+      let k : T (leb 1 e) × T (leb e (r .editions)) = T-and (leb 1 e) (leb e (r .editions)) t in
+      both-hold (leb 1 e) (leb e (s .editions)) (k .0) (le→leb e (s .editions) (omega (arith, leb→le e (r .editions) (k .1))))
+
+  header-keeps : r .bytes ≤ s .bytes → r .editions ≤ s .editions → judgeHeaderBy r file ≡ accept tt → judgeHeaderBy s file ≡ accept tt
   unfolding judgeHeaderBy
-  header-keeps l e =
+  header-keeps l m e =
       let a = need-inv 0 (leb leastBytes (length file)) 1 _ tt e in
       let b = need-inv 0 (leb (length file) (r .bytes)) 2 _ tt (a .1) in
+      let c = need-inv 0 (editionKnown r (edition file)) 3 _ tt (b .1) in
       passes (leb leastBytes (length file)) 1 _ (a .0)
-      ∙ passes (leb (length file) (s .bytes)) 2 _ (le→leb (length file) (s .bytes) (omega (arith, leb→le (length file) (r .bytes) (b .0)))) ∙ b .1
+      ∙ passes (leb (length file) (s .bytes)) 2 _ (le→leb (length file) (s .bytes) (omega (arith, leb→le (length file) (r .bytes) (b .0))))
+      ∙ passes (editionKnown s (edition file)) 3 _ (known-by-both m (edition file) (c .0)) ∙ c .1
 
 -- ---- sizes
 
@@ -208,18 +229,20 @@ module _ (r s : Reader) (n : Narrower r s) (count rank : ℕ) (file : List ℕ) 
 -- what follows the sizes, the same for every reader
 abbrev afterSizes : List ℕ → Read MeshAndTable → Judged Front
 afterSizes file m = do
-  s ← shardingAt (axisCount file) (rankCount file) (shardingOffset file) file (m .next)
+  s ← shardingAt (carriesReplicated (edition file)) (axisCount file) (rankCount file) (shardingOffset file) file (m .next)
   need (eqb (stepsOffset file) (s .next)) 6
   judgeStart (m .value .mesh) (m .value .sizes) (s .value)
+  need (oneMeaning (edition file) (s .value)) 18
   accept (record { mesh = m .value .mesh; sizes = m .value .sizes; start = s .value; next = s .next })
 
 sizes-same : (file : List ℕ) (m : Read MeshAndTable) (f : Front) → afterSizes file m ≡ accept f → (m .value .mesh ≡ f .mesh) × (m .value .sizes ≡ f .sizes)
 sizes-same file m f e =
-    let s = bind-inv (shardingAt (axisCount file) (rankCount file) (shardingOffset file) file (m .next)) _ f e in
+    let s = bind-inv (shardingAt (carriesReplicated (edition file)) (axisCount file) (rankCount file) (shardingOffset file) file (m .next)) _ f e in
     let o = need-inv 0 (eqb (stepsOffset file) (s .0 .next)) 6 _ f (s .2) in
-    let j = then-inv (judgeStart (m .value .mesh) (m .value .sizes) (s .0 .value)) _ f (o .1) in (
-      ap (λ (g : Front). g .mesh) (accept-inj (j .1)),
-      ap (λ (g : Front). g .sizes) (accept-inj (j .1)),
+    let j = then-inv (judgeStart (m .value .mesh) (m .value .sizes) (s .0 .value)) _ f (o .1) in
+    let z = need-inv 0 (oneMeaning (edition file) (s .0 .value)) 18 _ f (j .1) in (
+      ap (λ (g : Front). g .mesh) (accept-inj (z .1)),
+      ap (λ (g : Front). g .sizes) (accept-inj (z .1)),
     )
 
 -- what follows the front
@@ -240,7 +263,7 @@ front-same file f p e =
 module _ (r s : Reader) (n : Narrower r s) (file : List ℕ) where
   -- the tests that r makes and s does not, of a file with these sizes
   abbrev limits : (mesh sizes : List ℕ) → Judged (Unit {0})
-  limits mesh sizes = _>>_ (need (leb (length file) (r .bytes)) 2) (sizesWithin r mesh sizes)
+  limits mesh sizes = _>>_ (need (leb (length file) (r .bytes)) 2) (_>>_ (need (editionKnown r (edition file)) 3) (sizesWithin r mesh sizes))
 
   front-meets : (f : Front) → judgeFrontBy s file ≡ accept f → Tests (judgeFrontBy r file) (limits (f .mesh) (f .sizes)) f
   unfolding judgeFrontBy
@@ -250,11 +273,13 @@ module _ (r s : Reader) (n : Narrower r s) (file : List ℕ) where
       let q = sizes-same file (m .0) f (m .2) in
       subst (λ (mesh : List ℕ). Tests (judgeFrontBy r file) (limits mesh (f .sizes)) f) (q .0)
       (subst (λ (sizes : List ℕ). Tests (judgeFrontBy r file) (limits (m .0 .value .mesh) sizes) f) (q .1)
-      (tests-then (need (leb (length file) (r .bytes)) 2) (sizesWithin r (m .0 .value .mesh) (m .0 .value .sizes)) _ f (judgeHeaderBy r file)
+      (tests-then (headerWithin r file) (sizesWithin r (m .0 .value .mesh) (m .0 .value .sizes)) _ f (judgeHeaderBy r file)
       (header-meets r s file (h .0 .1))
       (tests-none (sizesWithin r (m .0 .value .mesh) (m .0 .value .sizes)) (m .0) (afterSizes file) f
       (meshAndTableAtBy r (axisCount file) (rankCount file) file)
-      (sections-meet r s n (axisCount file) (rankCount file) file (m .0) (m .1)) (m .2))))
+      (sections-meet r s n (axisCount file) (rankCount file) file (m .0) (m .1)) (m .2))
+      ∙ ap (λ (t : Judged (Unit {0})). _>>_ t (accept f))
+      (then-assoc (need (leb (length file) (r .bytes)) 2) (need (editionKnown r (edition file)) 3) (sizesWithin r (m .0 .value .mesh) (m .0 .value .sizes)))))
 
   front-keeps : (f : Front) → judgeFrontBy r file ≡ accept f → judgeFrontBy s file ≡ accept f
   unfolding judgeFrontBy
@@ -262,12 +287,12 @@ module _ (r s : Reader) (n : Narrower r s) (file : List ℕ) where
       let h = then-inv (judgeHeaderBy r file) _ f e in
       let m = bind-inv (meshAndTableAtBy r (axisCount file) (rankCount file) file) (afterSizes file) f (h .1) in
       ap (λ (j : Judged (Unit {0})). _>>_ j (_>>=_ (meshAndTableAtBy s (axisCount file) (rankCount file) file) (afterSizes file)))
-      (header-keeps r s file (n .bytes-few) (h .0 .1))
+      (header-keeps r s file (n .bytes-few) (n .editions-few) (h .0 .1))
       ∙ ap (λ (j : Judged (Read MeshAndTable)). _>>=_ j (afterSizes file)) (sections-keep r s n (axisCount file) (rankCount file) file (m .0) (m .1)) ∙ m .2
 
-meets-limits : (r s : Reader) → Narrower r s → MeetsLimits r s
+meets-tests : (r s : Reader) → Narrower r s → MeetsTests r s
 unfolding judgeBy
-meets-limits r s n file p e =
+meets-tests r s n file p e =
     let f = bind-inv (judgeFrontBy s file) (afterFront file) p e in
     let q = front-same file (f .0) p (f .2) in
     subst (λ (mesh : List ℕ). Tests (judgeBy r file) (limits r s n file mesh (p .sizes)) p) (q .0)
@@ -282,7 +307,7 @@ keeps-plans r s n file p e =
 
 -- TWO READERS
 pub readers-compared : ReadersCompared
-readers-compared r s n = (keeps-plans r s n, meets-limits r s n)
+readers-compared r s n = (keeps-plans r s n, meets-tests r s n)
 
 narrower : Narrower original present
 narrower = record {
@@ -291,7 +316,39 @@ narrower = record {
   devices-few = lit≤ tt;
   words-few = lit≤ tt;
   bytes-few = lit≤ tt;
+  editions-few = lit≤ tt;
 }
 
 pub earlier-limits : EarlierLimits
-earlier-limits = record { keeps = keeps-plans original present narrower; meets = meets-limits original present narrower }
+earlier-limits = record { keeps = keeps-plans original present narrower; meets = meets-tests original present narrower }
+
+-- readers of the editions up to one
+up-to : (latest : ℕ) → latest ≤ latestEdition → Narrower (upTo latest) present
+up-to latest l = record {
+  devices-some = lit≤ tt;
+  words-some = lit≤ tt;
+  devices-few = lit≤ tt;
+  words-few = lit≤ tt;
+  bytes-few = lit≤ tt;
+  editions-few = l;
+}
+
+-- where all other tests pass, the edition's is left
+edition-left : {A : Type 0} (bytes first known devices words : Bool) (m : Judged A) → T bytes → T first → T devices → T words
+    → _>>_ (_>>_ (need bytes 2) (_>>_ (need (first && known) 3) (_>>_ (need devices 11) (need words 13)))) m ≡ _>>_ (need known 3) m
+edition-left true true true true true m b f d w = refl
+edition-left true true false true true m b f d w = refl
+
+editions-met : (latest : ℕ) → latest ≤ latestEdition → (file : List ℕ) (p : Plan) → judgeBy present file ≡ accept p
+    → judgeBy (upTo latest) file ≡ _>>_ (need (leb (edition file) latest) 3) (accept p)
+editions-met latest l file p e =
+    let own = then-inv (takenBy present file p) (accept p) p (sym (meets-tests present present (up-to latestEdition (omega arith)) file p e) ∙ e) in
+    let b = need-inv 0 (leb (length file) mostBytes) 2 _ tt (own .0 .1) in
+    let k = need-inv 0 (editionKnown present (edition file)) 3 _ tt (b .1) in
+    let d = need-inv 0 (leb (devices (p .mesh)) mostDevices) 11 _ tt (k .1) in
+    meets-tests (upTo latest) present (up-to latest l) file p e
+    ∙ edition-left (leb (length file) mostBytes) (leb 1 (edition file)) (leb (edition file) latest) (leb (devices (p .mesh)) mostDevices) (leb (product (p .sizes)) mostWords) (accept p)
+    (b .0) (T-and (leb 1 (edition file)) (leb (edition file) latestEdition) (k .0) .0) (d .0) (need-true 0 (leb (product (p .sizes)) mostWords) 13 (d .1))
+
+pub earlier-editions : EarlierEditions
+earlier-editions = record { keeps = λ latest l. keeps-plans (upTo latest) present (up-to latest l); meets = editions-met }

@@ -20,6 +20,7 @@ use Rattle.rules.specs.declared.Reason.the-variants.{
   StartAxisRepeated,
   StartNotIncreasing,
   StartNotDivisible,
+  ReplicatedEmpty,
   UnknownKind,
   NoAxis,
   AxisTooLarge,
@@ -56,6 +57,7 @@ reason-number StartAxisTooLarge = refl
 reason-number StartAxisRepeated = refl
 reason-number StartNotIncreasing = refl
 reason-number StartNotDivisible = refl
+reason-number ReplicatedEmpty = refl
 reason-number UnknownKind = refl
 reason-number NoAxis = refl
 reason-number AxisTooLarge = refl

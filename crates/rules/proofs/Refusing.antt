@@ -10,13 +10,14 @@ use lib.ListN.{length, getD}
 use lib.Dec.{T, ltb, leb, eqb, le→leb, lit≤}
 use Rattle.rules.specs.Lists.{tab, both, flat, pick, mem, In}
 use Rattle.rules.specs.Mesh.{devices}
-use Rattle.rules.specs.Sharding.{Sharding, named, divisible, shardSizes}
+use Rattle.rules.specs.Sharding.{Sharding, varying, named, divisible, shardSizes}
 use Rattle.rules.specs.Collectives.{Step, allSlice, allGather, allReduce, allToAll, stepAxes, only}
-use Rattle.rules.specs.Limits.{mostDevices, mostWords, mostSteps, leastBytes, mostBytes}
+use Rattle.rules.specs.Limits.{present, mostDevices, mostWords, mostSteps, leastBytes, mostBytes}
 use Rattle.rules.specs.Refusals.{Judged, accept, refuse, _>>=_, _>>_, need, needAt}
 use Rattle.rules.specs.PlanFile.{
   u16At,
   edition,
+  editionKnown,
   axisCount,
   rankCount,
   stepCount,
@@ -35,10 +36,13 @@ use Rattle.rules.specs.PlanFile.{
   meshAndTableAtBy,
   listAt,
   listsAt,
+  carriesReplicated,
+  replicatedAt,
   shardingAt,
   judgeAxis,
   judgeAxes,
   judgeStart,
+  oneMeaning,
   kindOf,
   listsOf,
   stepAt,
@@ -143,7 +147,7 @@ module _ (P : ℕ → ℕ → Type 0) where
     header-refuses file =
         tests 0 (leb leastBytes (length file)) 1 _ (out 1 tt)
         (tests 0 (leb (length file) mostBytes) 2 _ (out 2 tt)
-        (tests 0 (eqb (edition file) 1) 3 _ (out 3 tt)
+        (tests 0 (editionKnown present (edition file)) 3 _ (out 3 tt)
         (tests 0 (eqb (totalLength file) (length file)) 4 _ (out 4 tt)
         (tests 0 (axesAllowed (axisCount file)) 5 _ (out 5 tt)
         (tests 0 (rankAllowed (rankCount file)) 5 _ (out 5 tt) (test 0 (leb (stepCount file) mostSteps) 5 (out 5 tt)))))))
@@ -174,28 +178,36 @@ module _ (P : ℕ → ℕ → Type 0) where
         bind _ _ (list-refuses n file at)
         (λ l. bind _ _ (lists-refuse n rank file (l .next)) (λ ls. accepts _))
 
-    sharding-refuses : (n rank offset : ℕ) (file : List ℕ) (at : ℕ) → Refuses (shardingAt n rank offset file at)
+    replicated-refuses : (carried : Bool) (n : ℕ) (file : List ℕ) (at : ℕ) → Refuses (replicatedAt carried n file at)
+    unfolding replicatedAt
+    replicated-refuses true n file at = list-refuses n file at
+    replicated-refuses false n file at = accepts _
+
+    sharding-refuses : (carried : Bool) (n rank offset : ℕ) (file : List ℕ) (at : ℕ) → Refuses (shardingAt carried n rank offset file at)
     unfolding shardingAt mem
-    sharding-refuses n rank offset file at =
+    sharding-refuses carried n rank offset file at =
         tests 0 (eqb offset at) 6 _ (out 6 tt)
         (bind _ _ (lists-refuse n rank file at)
-        (λ ds. bind _ _ (list-refuses n file (ds .next)) (λ u. accepts _)))
+        (λ ds. bind _ _ (list-refuses n file (ds .next))
+        (λ u. bind _ _ (replicated-refuses carried n file (u .next)) (λ v. accepts _))))
 
     start-refuses : (mesh sizes : List ℕ) (s : Sharding) → Refuses (judgeStart mesh sizes s)
     unfolding judgeStart mem
     start-refuses mesh sizes s =
         next _ _ (axes-refuse (length mesh) false 0 [] (flat (s .dims)) (out 14 tt) (out 15 tt) refl)
         (next _ _ (axes-refuse (length mesh) true 0 (flat (s .dims)) (s .unreduced) (out 14 tt) (out 15 tt) (out 16 tt))
-        (test 0 (divisible mesh sizes (s .dims)) 17 (out 17 tt)))
+        (next _ _ (axes-refuse (length mesh) true 0 (varying s) (s .replicated) (out 14 tt) (out 15 tt) (out 16 tt))
+        (test 0 (divisible mesh sizes (s .dims)) 17 (out 17 tt))))
 
     front-refuses : (file : List ℕ) → Refuses (judgeFront file)
     unfolding judgeFrontBy mem
     front-refuses file =
         next _ _ (header-refuses file)
         (bind _ _ (sections-refuse (axisCount file) (rankCount file) file)
-        (λ m. bind _ _ (sharding-refuses (axisCount file) (rankCount file) (shardingOffset file) file (m .next))
+        (λ m. bind _ _ (sharding-refuses (carriesReplicated (edition file)) (axisCount file) (rankCount file) (shardingOffset file) file (m .next))
         (λ s. tests 0 (eqb (stepsOffset file) (s .next)) 6 _ (out 6 tt)
-        (next _ _ (start-refuses (m .value .mesh) (m .value .sizes) (s .value)) (accepts _)))))
+        (next _ _ (start-refuses (m .value .mesh) (m .value .sizes) (s .value))
+        (tests 0 (oneMeaning (edition file) (s .value)) 18 _ (out 18 tt) (accepts _))))))
 
     -- ---- its steps
 
@@ -267,12 +279,12 @@ judge-refuses numbers all file =
     (steps-refuse P out (stepCount file) inside (f .mesh) (f .sizes) 1 (stepCount file) file (f .next) (f .start) (lit≤ tt) (omega arith))
     (λ ts. tests P 0 (eqb (ts .next) (length file)) 9 _ (out 9 tt) (accepts P _)))
 
--- of a file with one step: 18 is no number, 7 is of no step, 24 is of that step alone
+-- of a file with one step: 19 is no number, 7 is of no step, 24 is of that step alone
 unnumbered :
-    (¬ Numbered fileNumbers 1 18 0) × (¬ Numbered fileNumbers 1 7 1) × (¬ Numbered fileNumbers 1 24 0) × (¬ Numbered fileNumbers 1 24 2)
+    (¬ Numbered fileNumbers 1 19 0) × (¬ Numbered fileNumbers 1 7 1) × (¬ Numbered fileNumbers 1 24 0) × (¬ Numbered fileNumbers 1 24 2)
 unfolding mem
 unnumbered = (
-  ⊎-elim (λ h. in-mem 18 fileNumbers (h .0)) (λ h. in-mem 18 stepNumbers (h .0)),
+  ⊎-elim (λ h. in-mem 19 fileNumbers (h .0)) (λ h. in-mem 19 stepNumbers (h .0)),
   ⊎-elim (λ h. omega (arith, h .1)) (λ h. in-mem 7 stepNumbers (h .0)),
   ⊎-elim (λ h. in-mem 24 fileNumbers (h .0)) (λ h. omega (arith, h .1)),
   ⊎-elim (λ h. in-mem 24 fileNumbers (h .0)) (λ h. omega (arith, h .2)),

@@ -12,7 +12,7 @@ use lib.ListN.{length}
 use lib.Dec.{eqb, eqb-refl, eqb→eq, lit<}
 use Rattle.rules.specs.Lists.{each, pick, flat, without, In, Distinct, Below}
 use Rattle.rules.specs.Mesh.{span, position, member, members, Agree}
-use Rattle.rules.specs.Sharding.{Sharding, named, shardSizes, firstIndexes}
+use Rattle.rules.specs.Sharding.{Sharding, varying, shardSizes, firstIndexes}
 use Rattle.rules.specs.Spread.{StateOf, Faithful, addWords, from}
 use Rattle.rules.specs.Collectives.{
   sliced,
@@ -118,7 +118,7 @@ module _ {W : Type 0} {addAll : List W → W} where
     -- The lists are the tails of the dimensions' own: joined to what is left, they are these again.
     pub gather-faithful : {mesh : List ℕ} {s : Sharding} {shape : List ℕ} {table : List ℕ → W} {w : StateOf W} (Gs : List (List ℕ))
         → length (s .dims) ≡ length Gs → each _++_ (each cutTail (s .dims) Gs) Gs ≡ s .dims → Cut mesh Gs (grown mesh Gs shape) shape
-        → Distinct (named s) → ((a : ℕ) → In a (named s) → a < length mesh)
+        → Distinct (varying s) → ((a : ℕ) → In a (varying s) → a < length mesh)
         → Faithful addAll mesh s shape table w
         → Faithful addAll mesh (gathered Gs s) (grown mesh Gs shape) table (made addAll (single (gatherPlace mesh Gs shape)) w)
     unfolding gathered gatherPlace
@@ -156,7 +156,7 @@ module _ {W : Type 0} {addAll : List W → W} where
         → length (s .dims) ≡ length shape
         → each _++_ (each cutTail (s .dims) (only (length shape) source L)) (only (length shape) source L) ≡ s .dims
         → Ready mesh (allToAll source target L) shape → ((a : ℕ) → In a L → ¬ In a (s .unreduced))
-        → Distinct (named s) → ((a : ℕ) → In a (named s) → a < length mesh)
+        → Distinct (varying s) → ((a : ℕ) → In a (varying s) → a < length mesh)
         → Faithful addAll mesh s shape table w
         → Faithful addAll mesh (after (allToAll source target L) s) (shapeAfter mesh (allToAll source target L) shape) table
         (made addAll (sources mesh (allToAll source target L) shape) w)
@@ -181,7 +181,7 @@ module _ {W : Type 0} {addAll : List W → W} where
 -- devices that agree on what an all-reduce leaves get equal words, for every element type
 reduce-same : {W : Type 0} {addAll : List W → W} {mesh : List ℕ} {s : Sharding} {shape : List ℕ} {table : List ℕ → W} {w : StateOf W} (L : List ℕ)
     → Faithful addAll mesh s shape table w
-    → (x y i : List ℕ) → Below x mesh → Below y mesh → Below i shape → Agree (λ a. In a (named (reduced L s))) x y
+    → (x y i : List ℕ) → Below x mesh → Below y mesh → Below i shape → Agree (λ a. In a (varying (reduced L s))) x y
     → made addAll (reducePlaces mesh L) w x i ≡ made addAll (reducePlaces mesh L) w y i
 unfolding reduced
 reduce-same {addAll} {mesh} {s} {shape} {w} L F x y i bx by bi g =
@@ -235,7 +235,7 @@ module _ (mesh : List ℕ) (s : Sharding) (shape : List ℕ) (table : List ℕ �
       go false = lit< tt
 
   -- Whatever axes are unreduced, a table of words has a faithful spread. No size need be positive: a mesh without devices asks nothing.
-  pub spread-exists : Distinct (named s) → ((a : ℕ) → In a (s .unreduced) → a < length mesh)
+  pub spread-exists : Distinct (varying s) → ((a : ℕ) → In a (s .unreduced) → a < length mesh)
       → ((x i : List ℕ) → Below x mesh → Below i shape → block x i < 2 ^ 32)
       → (w : StateOf ℕ) × WordsIn mesh shape w × Faithful addWords mesh s shape table w
   spread-exists once of-mesh words =

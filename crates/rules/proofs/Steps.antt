@@ -8,8 +8,8 @@ use mathlib.Core.List.{List, [], _++_, append-nil}
 use native.Mathlib.Omega.{arith}
 use lib.ListN.{length, getD, replicate}
 use lib.Dec.{T}
-use Rattle.rules.specs.Lists.{each, both, flat, In, Distinct}
-use Rattle.rules.specs.Sharding.{Sharding, named, Replicated, divisible, shardSizes, IsSharding}
+use Rattle.rules.specs.Lists.{each, both, flat, without, In, Distinct}
+use Rattle.rules.specs.Sharding.{Sharding, varying, named, Unnamed, divisible, shardSizes, IsSharding}
 use Rattle.rules.specs.Collectives.{
   Step,
   allSlice,
@@ -71,7 +71,7 @@ gather-inv k Gs s r e =
 module _ (mesh sizes : List ℕ) where
   pub record SliceFacts (Ss : List (List ℕ)) (s : Sharding) : Type 0 where
     pub once : Distinct (flat Ss)
-    pub off : (a : ℕ) → In a (flat Ss) → Replicated a s
+    pub off : (a : ℕ) → In a (flat Ss) → Unnamed a s
     pub divides : T (divisible mesh (shardSizes mesh sizes (s .dims)) Ss)
 
   pub record GatherFacts (Gs : List (List ℕ)) (s : Sharding) : Type 0 where
@@ -142,6 +142,33 @@ module _ (mesh sizes : List ℕ) where
       let f : Facts t s × (after t s ≡ r) = kind-facts k t s r (p .1) in
       (record { axes = allBelow-lt (length mesh) (stepAxes t) (q .1); by-kind = f .0 }, f .1)
 
+-- ---- what a sharding names
+
+module _ (mesh sizes : List ℕ) where
+  -- the axes along which shards vary, apart from the explicitly replicated ones
+  pub record Varies (s : Sharding) : Type 0 where
+    pub of-mesh : (a : ℕ) → In a (varying s) → a < length mesh
+    pub once : Distinct (varying s)
+    pub off : (a : ℕ) → In a (varying s) → ¬ In a (s .replicated)
+
+  pub varies : (s : Sharding) → IsSharding mesh sizes s → Varies s
+  varies s h =
+      let p : Distinct (varying s) × Distinct (s .replicated) × ((a : ℕ) → In a (varying s) → ¬ In a (s .replicated)) =
+      distinct-split (varying s) (s .replicated) (h .once) in
+      record { of-mesh = λ a i. h .of-mesh a (in-left a (varying s) (s .replicated) i); once = p .0; off = p .2 }
+
+  -- other lists beside the same replicated list
+  beside : (dims : List (List ℕ)) (unreduced : List ℕ) (s : Sharding) → IsSharding mesh sizes s → T (divisible mesh sizes dims)
+      → Varies (record { dims = dims; unreduced = unreduced; replicated = s .replicated })
+      → IsSharding mesh sizes (record { dims = dims; unreduced = unreduced; replicated = s .replicated })
+  beside dims unreduced s h d v =
+      let l : List ℕ = flat dims ++ unreduced in
+      record {
+        of-mesh = λ a i. ⊎-elim (v .of-mesh a) (λ j. h .of-mesh a (in-right a (varying s) (s .replicated) j)) (in-append a l (s .replicated) i);
+        once = distinct-append l (s .replicated) (v .once) (distinct-split (varying s) (s .replicated) (h .once) .1) (λ a i j. v .off a j i);
+        divides = d;
+      }
+
 -- ---- the sharding after an accepted step is one, in the shape that the step itself leaves
 
 module _ (mesh sizes : List ℕ) (pos : (a : ℕ) → zero < getD mesh a 1) where
@@ -167,20 +194,24 @@ module _ (mesh sizes : List ℕ) (pos : (a : ℕ) → zero < getD mesh a 1) wher
   unfolding sliced
   slice-sharding Ss s h below f =
       let d : List (List ℕ) = each _++_ (s .dims) Ss in
+      let v : Varies mesh sizes s = varies mesh sizes s h in
       let p : Distinct (flat (s .dims)) × Distinct (s .unreduced) × ((a : ℕ) → In a (flat (s .dims)) → ¬ In a (s .unreduced)) =
-      distinct-split (flat (s .dims)) (s .unreduced) (h .once) in
-      let l : (a : ℕ) → In a (flat (s .dims)) → In a (named s) = λ a i. in-left a (flat (s .dims)) (s .unreduced) i in
-      let r : (a : ℕ) → In a (s .unreduced) → In a (named s) = λ a i. in-right a (flat (s .dims)) (s .unreduced) i in
+      distinct-split (flat (s .dims)) (s .unreduced) (v .once) in
+      let l : (a : ℕ) → In a (flat (s .dims)) → In a (varying s) = λ a i. in-left a (flat (s .dims)) (s .unreduced) i in
+      let r : (a : ℕ) → In a (s .unreduced) → In a (varying s) = λ a i. in-right a (flat (s .dims)) (s .unreduced) i in
+      let off : (a : ℕ) → In a (flat Ss) → ¬ In a (varying s) = λ a i j. f .off a i (in-left a (varying s) (s .replicated) j) in
       let c : Cut mesh Ss (shapeOf s) (shardSizes mesh (shapeOf s) Ss) = cut-divisible mesh (shapeOf s) Ss (f .divides) in
       let w : T (divisible mesh sizes d) × (shardSizes mesh (shapeOf s) Ss ≡ shardSizes mesh sizes d) =
       cut-is mesh pos (cut-joined mesh (sharding-cut s h) c) in
       record {
-        after-it = record {
-          of-mesh = λ a i. ⊎-elim (λ j. ⊎-elim (λ k. h .of-mesh a (l a k)) (below a) (of-joined a (s .dims) Ss j)) (λ j. h .of-mesh a (r a j)) (in-append a (flat d) (s .unreduced) i);
-          once = distinct-append (flat d) (s .unreduced) (distinct-joined (s .dims) Ss (p .0) (f .once) (λ a i j. f .off a i (l a j))) (p .1)
-              (λ a i j. ⊎-elim (λ k. p .2 a k i) (λ k. f .off a k (r a i)) (of-joined a (s .dims) Ss j));
-          divides = w .0;
-        };
+        after-it = beside mesh sizes d (s .unreduced) s h (w .0) (record {
+          of-mesh = λ a i. ⊎-elim (λ j. ⊎-elim (λ k. v .of-mesh a (l a k)) (below a) (of-joined a (s .dims) Ss j)) (λ j. v .of-mesh a (r a j)) (in-append a (flat d) (s .unreduced) i);
+          once = distinct-append (flat d) (s .unreduced) (distinct-joined (s .dims) Ss (p .0) (f .once) (λ a i j. off a i (l a j))) (p .1)
+              (λ a i j. ⊎-elim (λ k. p .2 a k i) (λ k. off a k (r a i)) (of-joined a (s .dims) Ss j));
+          off = λ a i j. ⊎-elim
+              (λ k. ⊎-elim (λ m. v .off a (l a m) j) (λ m. f .off a m (in-right a (varying s) (s .replicated) j)) (of-joined a (s .dims) Ss k))
+              (λ k. v .off a (r a k) j) (in-append a (flat d) (s .unreduced) i);
+        });
         one-each = cut-lengths mesh (sharding-cut s h) .1 ∙ sym (cut-lengths mesh c .0);
         pieces = c;
         announced = w .1;
@@ -203,20 +234,23 @@ module _ (mesh sizes : List ℕ) (pos : (a : ℕ) → zero < getD mesh a 1) wher
       let j : each _++_ d Gs ≡ s .dims = tails-joined (s .dims) Gs (f .tailed) in
       let n : length (s .dims) ≡ length Gs = both-length isTail (s .dims) Gs (f .tailed) in
       let m : length d ≡ length Gs = length-each cutTail (s .dims) Gs n in
+      let v : Varies mesh sizes s = varies mesh sizes s h in
       let p : Distinct (flat (s .dims)) × Distinct (s .unreduced) × ((a : ℕ) → In a (flat (s .dims)) → ¬ In a (s .unreduced)) =
-      distinct-split (flat (s .dims)) (s .unreduced) (h .once) in
+      distinct-split (flat (s .dims)) (s .unreduced) (v .once) in
       let q : Apart d Gs = split-joined d Gs m (subst (λ (z : List (List ℕ)). Distinct (flat z)) (sym j) (p .0)) in
       let l : (a : ℕ) → In a (flat d) → In a (flat (s .dims)) = λ a i. subst (λ (z : List (List ℕ)). In a (flat z)) j (joined-left a d Gs m i) in
       let r : (a : ℕ) → In a (flat Gs) → In a (flat (s .dims)) = λ a i. subst (λ (z : List (List ℕ)). In a (flat z)) j (joined-right a d Gs m i) in
       let c : Cut mesh Gs (grown mesh Gs (shapeOf s)) (shapeOf s) × Cut mesh d sizes (grown mesh Gs (shapeOf s)) =
       cut-grown mesh d Gs m (subst (λ (z : List (List ℕ)). Cut mesh z sizes (shapeOf s)) (sym j) (sharding-cut s h)) in
       let w : T (divisible mesh sizes d) × (grown mesh Gs (shapeOf s) ≡ shardSizes mesh sizes d) = cut-is mesh pos (c .1) in
+      let kept : (a : ℕ) → In a (flat d ++ s .unreduced) → In a (varying s) =
+      λ a i. ⊎-elim (λ k. in-left a (flat (s .dims)) (s .unreduced) (l a k)) (in-right a (flat (s .dims)) (s .unreduced)) (in-append a (flat d) (s .unreduced) i) in
       record {
-        after-it = record {
-          of-mesh = λ a i. h .of-mesh a (⊎-elim (λ k. in-left a (flat (s .dims)) (s .unreduced) (l a k)) (λ k. in-right a (flat (s .dims)) (s .unreduced) k) (in-append a (flat d) (s .unreduced) i));
+        after-it = beside mesh sizes d (s .unreduced) s h (w .0) (record {
+          of-mesh = λ a i. v .of-mesh a (kept a i);
           once = distinct-append (flat d) (s .unreduced) (q .left) (p .1) (λ a i k. p .2 a (l a k) i);
-          divides = w .0;
-        };
+          off = λ a i. v .off a (kept a i);
+        });
         joined = j;
         one-each = n;
         apart = q;
@@ -228,13 +262,16 @@ module _ (mesh sizes : List ℕ) (pos : (a : ℕ) → zero < getD mesh a 1) wher
   pub reduce-sharding : (L : List ℕ) (s : Sharding) → IsSharding mesh sizes s → IsSharding mesh sizes (reduced L s)
   unfolding reduced
   reduce-sharding L s h =
+      let v : Varies mesh sizes s = varies mesh sizes s h in
       let p : Distinct (flat (s .dims)) × Distinct (s .unreduced) × ((a : ℕ) → In a (flat (s .dims)) → ¬ In a (s .unreduced)) =
-      distinct-split (flat (s .dims)) (s .unreduced) (h .once) in
-      record {
-        of-mesh = λ a i. h .of-mesh a (⊎-elim (λ k. in-left a (flat (s .dims)) (s .unreduced) k) (λ k. in-right a (flat (s .dims)) (s .unreduced) (of-without a L (s .unreduced) k)) (in-append a (flat (s .dims)) _ i));
+      distinct-split (flat (s .dims)) (s .unreduced) (v .once) in
+      let kept : (a : ℕ) → In a (flat (s .dims) ++ without (s .unreduced) L) → In a (varying s) =
+      λ a i. ⊎-elim (in-left a (flat (s .dims)) (s .unreduced)) (λ k. in-right a (flat (s .dims)) (s .unreduced) (of-without a L (s .unreduced) k)) (in-append a (flat (s .dims)) _ i) in
+      beside mesh sizes (s .dims) (without (s .unreduced) L) s h (h .divides) (record {
+        of-mesh = λ a i. v .of-mesh a (kept a i);
         once = distinct-append (flat (s .dims)) _ (p .0) (distinct-without L (s .unreduced) (p .1)) (λ a i j. p .2 a j (of-without a L (s .unreduced) i));
-        divides = h .divides;
-      }
+        off = λ a i. v .off a (kept a i);
+      })
 
   -- an all-to-all: its gather, and then its slice
   pub record ToAll (source target : ℕ) (L : List ℕ) (s : Sharding) : Type 0 where
@@ -252,13 +289,18 @@ module _ (mesh sizes : List ℕ) (pos : (a : ℕ) → zero < getD mesh a 1) wher
       let eG : flat Gs ≡ L = flat-only n source L (f .source-lt) in
       let eS : flat Ss ≡ L = flat-only n target L (f .target-lt) in
       let into : (a : ℕ) → In a (flat Ss) → In a (flat Gs) = λ a i. subst (In a) (eS ∙ sym eG) i in
+      let v : Varies mesh sizes s = varies mesh sizes s h in
       let p : Distinct (flat (s .dims)) × Distinct (s .unreduced) × ((a : ℕ) → In a (flat (s .dims)) → ¬ In a (s .unreduced)) =
-      distinct-split (flat (s .dims)) (s .unreduced) (h .once) in
+      distinct-split (flat (s .dims)) (s .unreduced) (v .once) in
+      let cut : (a : ℕ) → In a (flat Ss) → In a (flat (s .dims)) = λ a i. g .cut-off a (into a i) in
       record {
         first = g;
         second = slice-sharding Ss (gathered Gs s) (g .after-it) (λ a i. below a (subst (In a) eS i)) (record {
           once = subst Distinct (eG ∙ sym eS) (g .apart .right);
-          off = λ a i j. ⊎-elim (λ k. g .apart .off a (into a i) k) (λ k. p .2 a (g .cut-off a (into a i)) k) (in-append a (flat (each cutTail (s .dims) Gs)) (s .unreduced) j);
+          off = λ a i j. ⊎-elim
+              (λ l. ⊎-elim (g .apart .off a (into a i)) (p .2 a (cut a i)) (in-append a (flat (each cutTail (s .dims) Gs)) (s .unreduced) l))
+              (v .off a (in-left a (flat (s .dims)) (s .unreduced) (cut a i)))
+              (in-append a (flat (each cutTail (s .dims) Gs) ++ s .unreduced) (s .replicated) j);
           divides = f .divides;
         });
       }

@@ -12,7 +12,7 @@ use lib.Seq.{take-at, take-append-seam, length-take-le}
 use lib.Dec.{T, ltb, leb, ltb→lt, nltb→le, leb→le, le→leb, lit<}
 use Rattle.rules.specs.Lists.{each, inTurn, flat, product, In, Below}
 use Rattle.rules.specs.Mesh.{devices}
-use Rattle.rules.specs.Sharding.{Sharding, shardSizes, IsSharding}
+use Rattle.rules.specs.Sharding.{Sharding, varying, shardSizes, IsSharding}
 use Rattle.rules.specs.Spread.{StateOf, Faithful, addWords, tabulate, held}
 use Rattle.rules.specs.Collectives.{
   Step,
@@ -35,7 +35,7 @@ use Rattle.rules.specs.PlanFile.{Plan, judge, judgeBy, announced, announ
 use Rattle.rules.specs.Calls.{shardsAfter, lastState, runnable, Ran, runLeaves, runOf}
 use Rattle.rules.specs.Ledger.{fileOf}
 use Rattle.rules.specs.Demands.{Words, Fits, SpreadAt, returned, startWords, WholePlan, Spreadable, Startable, RoomLimit}
-use Rattle.rules.proofs.Lists.{T?, T→true, in-right, distinct-split, length-tab, getD-tab}
+use Rattle.rules.proofs.Lists.{T?, T→true, in-left, in-right, distinct-split, length-tab, getD-tab}
 use Rattle.rules.proofs.Positions.{pos-of-lt, div-lt}
 use Rattle.rules.proofs.Buffers.{below-coords, held-tabulate, tabulate-held, length-tabulate}
 use Rattle.rules.proofs.Sources.{WordsIn, step-words}
@@ -47,6 +47,8 @@ use Rattle.rules.proofs.Steps.{
   Gathered,
   Sliced,
   flat-only,
+  Varies,
+  varies,
   shape-length,
   slice-sharding,
   gather-sharding,
@@ -71,21 +73,21 @@ module _ (mesh sizes : List ℕ) (pos : (a : ℕ) → zero < getD mesh a 1) wher
   unfolding after sources addWords
   step-spread (allSlice Ss) s table w h f ws F =
       let k : Sliced mesh sizes pos Ss s = slice-sharding mesh sizes pos Ss s h (f .axes) (f .by-kind) in
-      slice-faithful (λ a. refl) Ss (k .one-each) (k .pieces) (λ a i j. f .by-kind .off a i (in-right a (flat (s .dims)) (s .unreduced) j)) F
+      slice-faithful (λ a. refl) Ss (k .one-each) (k .pieces) (λ a i j. f .by-kind .off a i (in-left a (varying s) (s .replicated) (in-right a (flat (s .dims)) (s .unreduced) j))) F
   step-spread (allGather Gs) s table w h f ws F =
       let k : Gathered mesh sizes pos Gs s = gather-sharding mesh sizes pos Gs s h (f .by-kind) in
-      gather-faithful (λ a. refl) Gs (k .one-each) (k .joined) (k .wholes) (h .once) (h .of-mesh) F
+      gather-faithful (λ a. refl) Gs (k .one-each) (k .joined) (k .wholes) (varies mesh sizes s h .once) (varies mesh sizes s h .of-mesh) F
   step-spread (allReduce L) s table w h f ws F =
-      reduce-faithful L (f .by-kind .once) (distinct-split (flat (s .dims)) (s .unreduced) (h .once) .1) (f .by-kind .unreduced) ws F
+      reduce-faithful L (f .by-kind .once) (distinct-split (flat (s .dims)) (s .unreduced) (varies mesh sizes s h .once) .1) (f .by-kind .unreduced) ws F
   step-spread (allToAll source target L) s table w h f ws F =
       let k : ToAll mesh sizes pos source target L s = to-all-sharding mesh sizes pos source target L s h (f .axes) (f .by-kind) in
       let n : length (shapeOf s) ≡ length (s .dims) = shape-length mesh sizes pos s h in
       let off : (a : ℕ) → In a L → ¬ In a (s .unreduced) =
-      λ a i j. distinct-split (flat (s .dims)) (s .unreduced) (h .once) .2 a
+      λ a i j. distinct-split (flat (s .dims)) (s .unreduced) (varies mesh sizes s h .once) .2 a
       (k .first .cut-off a (subst (In a) (sym (flat-only (length (s .dims)) source L (f .by-kind .source-lt))) i)) j in
       all-to-all-faithful (λ a. refl) source target L (sym n)
       (subst (λ (r : ℕ). each _++_ (each cutTail (s .dims) (only r source L)) (only r source L) ≡ s .dims) (sym n) (k .first .joined))
-      (step-ready mesh sizes pos (allToAll source target L) s h f) off (h .once) (h .of-mesh) F
+      (step-ready mesh sizes pos (allToAll source target L) s h f) off (varies mesh sizes s h .once) (varies mesh sizes s h .of-mesh) F
 
   -- ---- steps in turn
 
@@ -283,9 +285,9 @@ spreadable file p e table words len l =
     let a : AcceptedPlan p = accepted file p e in
     let shape : List ℕ = announcedShape p 0 in
     let s : Sharding = p .start in
-    let h : IsSharding (p .mesh) (p .sizes) s = a .start-is in
+    let v : Varies (p .mesh) (p .sizes) s = varies (p .mesh) (p .sizes) s (a .start-is) in
     let w : (w : StateOf ℕ) × WordsIn (p .mesh) shape w × Faithful addWords (p .mesh) s shape table w =
-    spread-exists (p .mesh) s shape table (h .once) (λ b i. h .of-mesh b (in-right b (flat (s .dims)) (s .unreduced) i)) (λ x i bx bi. words _) in
+    spread-exists (p .mesh) s shape table (v .once) (λ b i. v .of-mesh b (in-right b (flat (s .dims)) (s .unreduced) i)) (λ x i bx bi. words _) in
     let front : List ℕ = tabulate (p .mesh) shape (w .0) in
     let rest : List ℕ = replicate (len - startWords p) 0 in (
       front ++ rest,
@@ -307,4 +309,4 @@ room-limit file p e = room-few (accepted file p e)
 -- 1,024 devices with all 65,536 words each have that room
 room-reached : (p : Plan) × (judge (fileOf (1024 ∷ []) (256 ∷ 256 ∷ []) ([] ∷ [] ∷ [] ∷ []) []) ≡ accept p) × (room p ≡ 67_108_864)
 unfolding fileOf judgeBy room
-room-reached = (record { mesh = 1024 ∷ []; sizes = 256 ∷ 256 ∷ []; start = record { dims = [] ∷ [] ∷ []; unreduced = [] }; steps = [] }, refl, refl)
+room-reached = (record { mesh = 1024 ∷ []; sizes = 256 ∷ 256 ∷ []; start = record { dims = [] ∷ [] ∷ []; unreduced = []; replicated = [] }; steps = [] }, refl, refl)

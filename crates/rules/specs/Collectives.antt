@@ -29,23 +29,23 @@ stepAxes (allToAll source target L) = L
 abbrev pub only : ℕ → ℕ → List ℕ → List (List ℕ)
 only rank dim L = set (replicate rank []) dim L
 
--- ---- the sharding after a step
+-- ---- the sharding after a step; document 02, Ask 3: "No step changes the list" of explicitly replicated axes
 
 -- "Each list is joined to the end of its dimension's list."
 unfoldable pub sliced : List (List ℕ) → Sharding → Sharding
-sliced Ss s = record { dims = each _++_ (s .dims) Ss; unreduced = s .unreduced }
+sliced Ss s = record { dims = each _++_ (s .dims) Ss; unreduced = s .unreduced; replicated = s .replicated }
 
 -- "Each must be the tail of that dimension's list, in the same order, and is cut off it."
 abbrev pub cutTail : List ℕ → List ℕ → List ℕ
 cutTail d G = take (length d - length G) d
 
 unfoldable pub gathered : List (List ℕ) → Sharding → Sharding
-gathered Gs s = record { dims = each cutTail (s .dims) Gs; unreduced = s .unreduced }
+gathered Gs s = record { dims = each cutTail (s .dims) Gs; unreduced = s .unreduced; replicated = s .replicated }
 
 -- "Each axis must be unreduced; it becomes replicated."
 unfoldable pub reduced : List ℕ → Sharding → Sharding
 unfolding without
-reduced L s = record { dims = s .dims; unreduced = without (s .unreduced) L }
+reduced L s = record { dims = s .dims; unreduced = without (s .unreduced) L; replicated = s .replicated }
 
 -- "It means: all-gather of that list off the source, then all-slice of it on the target."
 unfoldable pub after : Step → Sharding → Sharding

@@ -92,7 +92,7 @@ RoomLimit = (file : List ℕ) (p : Plan) → judge file ≡ accept p → room p 
 
 -- the numbers of a file's refusals outside its steps, and inside them
 abbrev pub fileNumbers : List ℕ
-fileNumbers = tab 17 (λ i. i + 1)
+fileNumbers = tab 18 (λ i. i + 1)
 
 abbrev pub stepNumbers : List ℕ
 stepNumbers = tab 9 (λ i. i + 20)

@@ -21,19 +21,25 @@ abbrev pub listBytes : List (List ℕ) → List ℕ
 listBytes [] = []
 listBytes (L ∷ Ls) = length L ∷ (L ++ listBytes Ls)
 
--- The bytes of the file that has the mesh, the table's sizes, the start's lists (one for each dimension, then the unreduced one) and the steps, each
--- step as its own bytes. The header follows from these, whatever they are: a file that breaks a rule is made like any other.
-unfoldable pub fileOf : (mesh sizes : List ℕ) → (lists steps : List (List ℕ)) → List ℕ
-fileOf mesh sizes lists steps =
+-- The bytes of the file of an edition that has the mesh, the table's sizes, the start's lists (one for each dimension, the unreduced one, and the
+-- replicated one where the edition carries it) and the steps, each step as its own bytes. The header follows from these, whatever they are: a file
+-- that breaks a rule is made like any other.
+unfoldable pub fileIn : (edition : ℕ) → (mesh sizes : List ℕ) → (lists steps : List (List ℕ)) → List ℕ
+fileIn edition mesh sizes lists steps =
     let tensorAt = 18 + 2 * length mesh in
     let shardingAt = tensorAt + 2 * length sizes in
     let stepsAt = shardingAt + length (listBytes lists) in
     let end = stepsAt + length (flat steps) in
-    u16Bytes (1 ∷ length mesh ∷ length sizes ∷ length steps ∷ 18 ∷ tensorAt ∷ shardingAt ∷ stepsAt ∷ end ∷ [])
+    u16Bytes (edition ∷ length mesh ∷ length sizes ∷ length steps ∷ 18 ∷ tensorAt ∷ shardingAt ∷ stepsAt ∷ end ∷ [])
     ++ u16Bytes mesh
     ++ u16Bytes sizes
     ++ listBytes lists
     ++ flat steps
+
+-- a file of edition 1
+unfoldable pub fileOf : (mesh sizes : List ℕ) → (lists steps : List (List ℕ)) → List ℕ
+unfolding fileIn
+fileOf mesh sizes lists steps = fileIn 1 mesh sizes lists steps
 
 -- W1, as 01 prints it
 abbrev pub w1 : List ℕ
@@ -89,14 +95,14 @@ passed room devices steps dims unreduced shard = accept (record {
   devices = devices;
   steps = steps;
   rank = length shard;
-  sharding = record { dims = dims; unreduced = unreduced };
+  sharding = record { dims = dims; unreduced = unreduced; replicated = [] };
   shard = shard;
 })
 
 abbrev pub found : (dims : List (List ℕ)) → (unreduced shard first : List ℕ) → Judged PlaceAnswer
 found dims unreduced shard first = accept (record {
   rank = length shard;
-  sharding = record { dims = dims; unreduced = unreduced };
+  sharding = record { dims = dims; unreduced = unreduced; replicated = [] };
   shard = shard;
   first = first;
 })

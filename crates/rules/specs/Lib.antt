@@ -13,6 +13,7 @@ pub mod Readers
 pub mod Demands
 pub mod Ledger
 pub mod WorkedRefusals
+pub mod WorkedEditions
 pub mod WorkedLimits
 pub mod WorkedAnswers
 pub mod WorkedPlaces

@@ -31,12 +31,17 @@ leastBytes = 18
 abbrev pub mostBytes : ℕ
 mostBytes = 8192
 
+-- the latest edition of plan files: "Refusal 3 now means neither 1 nor 2" (document 02, Ask 3)
+abbrev pub latestEdition : ℕ
+latestEdition = 2
+
 -- What a reader of plan files takes. Later readers take more (document 02); each is an instance of the one judgement (PlanFile).
 pub record Reader : Type 0 where
   pub devices : ℕ
   pub words : ℕ
   pub bytes : ℕ
+  pub editions : ℕ
 
 -- the present reader
 abbrev pub present : Reader
-present = record { devices = mostDevices; words = mostWords; bytes = mostBytes }
+present = record { devices = mostDevices; words = mostWords; bytes = mostBytes; editions = latestEdition }

@@ -2,13 +2,13 @@
 -- A file is the list of its bytes; `at` is where the next byte is read. What a reader takes is a parameter of the judgement (`..By`): `judge` is that of
 -- the present reader. Assumes nothing.
 use Prim.Native.Nat.{ℕ, zero, suc, _+_, _-_, _*_}
-use mathlib.Core.Bool.{Bool, true, false, not, _&&_}
+use mathlib.Core.Bool.{Bool, true, false, not, _&&_, _||_}
 use mathlib.Core.List.{List, [], _∷_}
 use lib.ListN.{length, getD, take, drop}
 use lib.Dec.{ltb, leb, eqb}
 use Rattle.rules.specs.Lists.{tab, both, flat, pick, inTurn, product, largest, mem}
 use Rattle.rules.specs.Mesh.{devices}
-use Rattle.rules.specs.Sharding.{Sharding, named, divisible, shardSizes}
+use Rattle.rules.specs.Sharding.{Sharding, varying, named, divisible, shardSizes}
 use Rattle.rules.specs.Collectives.{Step, allSlice, allGather, allReduce, allToAll, stepAxes, only, sliced, gathered, reduced, after}
 use Rattle.rules.specs.Limits.{mostAxes, mostDims, mostSteps, leastBytes, Reader, present}
 use Rattle.rules.specs.Refusals.{Judged, accept, refuse, _>>=_, _>>_, need, needAt}
@@ -26,7 +26,7 @@ pub record Read (A : Type 0) : Type 0 where
 unfoldable pub u16At : List ℕ → ℕ → ℕ
 u16At file at = getD file at 0 + getD file (at + 1) 0 * 256
 
--- "The header is nine of them: edition (1), n, rank, step count, offset of mesh sizes, of tensor sizes, of the starting sharding, of the steps,
+-- "The header is nine of them: edition, n, rank, step count, offset of mesh sizes, of tensor sizes, of the starting sharding, of the steps,
 -- total length."
 abbrev pub edition : List ℕ → ℕ
 edition file = u16At file 0
@@ -55,6 +55,10 @@ stepsOffset file = u16At file 14
 abbrev pub totalLength : List ℕ → ℕ
 totalLength file = u16At file 16
 
+-- 3: the edition is none of 1 to the latest that the reader knows
+abbrev pub editionKnown : Reader → ℕ → Bool
+editionKnown r e = leb 1 e && leb e (r .editions)
+
 -- 5: "n, rank or step count outside its limits"
 abbrev pub axesAllowed : ℕ → Bool
 axesAllowed n = leb 1 n && leb n mostAxes
@@ -68,7 +72,7 @@ unfolding u16At
 judgeHeaderBy r file = do
   need (leb leastBytes (length file)) 1
   need (leb (length file) (r .bytes)) 2
-  need (eqb (edition file) 1) 3
+  need (editionKnown r (edition file)) 3
   need (eqb (totalLength file) (length file)) 4
   need (axesAllowed (axisCount file)) 5
   need (rankAllowed (rankCount file)) 5
@@ -133,14 +137,24 @@ listsAt n (suc rank) file at = do
 
 -- ---- the starting sharding
 
--- "The sharding is one list per dimension, then the unreduced list."
-unfoldable pub shardingAt : (n rank offset : ℕ) → List ℕ → ℕ → Judged (Read Sharding)
-unfolding listsAt listAt
-shardingAt n rank offset file at = do
+-- "Edition 2 files carry it right after the unreduced list", the list of explicitly replicated axes; "Edition 1 reads as an empty list."
+abbrev pub carriesReplicated : (edition : ℕ) → Bool
+carriesReplicated e = leb 2 e
+
+unfoldable pub replicatedAt : (carried : Bool) → (n : ℕ) → List ℕ → ℕ → Judged (Read (List ℕ))
+unfolding listAt
+replicatedAt true n file at = listAt n file at
+replicatedAt false n file at = accept (record { value = []; next = at })
+
+-- "The sharding is one list per dimension, then the unreduced list.", then the replicated one
+unfoldable pub shardingAt : (carried : Bool) → (n rank offset : ℕ) → List ℕ → ℕ → Judged (Read Sharding)
+unfolding listsAt listAt replicatedAt
+shardingAt carried n rank offset file at = do
   need (eqb offset at) 6
   ds ← listsAt n rank file at
   u ← listAt n file (ds .next)
-  accept (record { value = record { dims = ds .value; unreduced = u .value }; next = u .next })
+  v ← replicatedAt carried n file (u .next)
+  accept (record { value = record { dims = ds .value; unreduced = u .value; replicated = v .value }; next = v .next })
 
 -- "14, 15, 16 (all three at one axis before the next)": an axis of an increasing list is at least `low`, one more than the axis before it.
 abbrev pub judgeAxis : (n low : ℕ) → (before : List ℕ) → ℕ → Judged (Unit {0})
@@ -157,13 +171,23 @@ judgeAxes n increasing low before (a ∷ axes) = do
   judgeAxis n low before a
   judgeAxes n increasing (pick increasing (a + 1) 0) (a ∷ before) axes
 
--- "then 17"
+-- "then 17". The replicated list is judged as the unreduced one is: "strictly increasing (16), naming no axis named before (15)".
 unfoldable pub judgeStart : List ℕ → List ℕ → Sharding → Judged (Unit {0})
 unfolding judgeAxes
 judgeStart mesh sizes s = do
   judgeAxes (length mesh) false 0 [] (flat (s .dims))
   judgeAxes (length mesh) true 0 (flat (s .dims)) (s .unreduced)
+  judgeAxes (length mesh) true 0 (varying s) (s .replicated)
   need (divisible mesh sizes (s .dims)) 17
+
+-- a list names an axis
+abbrev pub some : List ℕ → Bool
+some [] = false
+some (a ∷ L) = true
+
+-- 18: "an empty one in edition 2 is refused .., so that one meaning keeps one file"
+abbrev pub oneMeaning : (edition : ℕ) → Sharding → Bool
+oneMeaning e s = not (eqb e 2) || some (s .replicated)
 
 -- ---- a step
 
@@ -197,11 +221,6 @@ stepAt n rank k file at = do
   listsOf n rank k file (at + 1) (kindOf (getD file at 0))
 
 -- ---- the tests of a step, each over all that it names; a refusal is one number, so the order inside a test cannot be seen
-
--- 21: "a step names no axis"
-abbrev pub some : List ℕ → Bool
-some [] = false
-some (a ∷ L) = true
 
 -- 22: "an axis number is not below n"
 unfoldable pub allBelow : ℕ → List ℕ → Bool
@@ -270,7 +289,7 @@ judgeKind mesh sizes k (allToAll source target L) s = do
   g ← gatherOff k (only (length (s .dims)) source L) s
   sliceOn mesh sizes k (only (length (s .dims)) target L) g
 
--- "then 21, then 22 in file order": of the axes that step k names
+-- "then 21", "a step names no axis", "then 22 in file order": of the axes that step k names
 abbrev pub judgeNamed : (n k : ℕ) → List ℕ → Judged (Unit {0})
 judgeNamed n k axes = do
   needAt k (some axes) 21
@@ -307,9 +326,10 @@ unfolding u16At judgeHeaderBy meshAndTableAtBy shardingAt judgeStart
 judgeFrontBy r file = do
   judgeHeaderBy r file
   m ← meshAndTableAtBy r (axisCount file) (rankCount file) file
-  s ← shardingAt (axisCount file) (rankCount file) (shardingOffset file) file (m .next)
+  s ← shardingAt (carriesReplicated (edition file)) (axisCount file) (rankCount file) (shardingOffset file) file (m .next)
   need (eqb (stepsOffset file) (s .next)) 6
   judgeStart (m .value .mesh) (m .value .sizes) (s .value)
+  need (oneMeaning (edition file) (s .value)) 18
   accept (record { mesh = m .value .mesh; sizes = m .value .sizes; start = s .value; next = s .next })
 
 abbrev pub judgeFront : List ℕ → Judged Front

@@ -10,7 +10,7 @@ use Rattle.rules.specs.Mesh.{devices, Rearrangement}
 use Rattle.rules.specs.Refusals.{accept, refuse}
 use Rattle.rules.specs.PlanFile.{Plan, judge}
 use Rattle.rules.specs.Calls.{CheckAnswer, checkOf, checkedOf, placeOf, placedOf, groupsOf, groupsLeave, groupsMeaning, runOf, runMeaning}
-use Rattle.rules.specs.Readers.{ReadersCompared, EarlierLimits}
+use Rattle.rules.specs.Readers.{ReadersCompared, EarlierLimits, EarlierEditions}
 use Rattle.rules.specs.Demands.{
   Demand3,
   WholePlan,
@@ -25,6 +25,7 @@ use Rattle.rules.specs.Demands.{
 use Rattle.rules.specs.Ledger.{Holds, ledger, beside as besideIt}
 use Rattle.rules.specs.WorkedRefusals.{refusals}
 use Rattle.rules.specs.WorkedLimits.{limits, Earlier}
+use Rattle.rules.specs.WorkedEditions.{editions, FirstEdition}
 use Rattle.rules.specs.declared.Refusal.{Refusal}
 use Rattle.rules.specs.declared.Checked.{Checked}
 use Rattle.rules.specs.declared.Placed.{Placed}
@@ -75,8 +76,8 @@ pub record RunPromise (file work spare : List ℕ) (outcome : RunOutcome) (workA
 
 -- ---- what the rules promise of themselves
 
--- Demand 3 for every plan that passes, and that it speaks of something; the room's limit; the numbers of refusals; what readers with other limits answer; a step's locality; what a group
--- and a sum of words are; the ledger W1 to W10, and cases beside it; a file or a call for each refusal number; each limit from both sides.
+-- Demand 3 for every plan that passes, and that it speaks of something; the room's limit; the numbers of refusals; what readers that take less answer;
+-- a step's locality; what a group and a sum of words are; the ledger W1 to W10, and cases beside it; a file or a call for each refusal number; each limit from both sides.
 pub record RulesPromise : Type 1 where
   pub whole-plan : WholePlan
   pub spreadable : Spreadable
@@ -85,6 +86,7 @@ pub record RulesPromise : Type 1 where
   pub refusal-numbers : RefusalNumbers
   pub readers-compared : ReadersCompared
   pub earlier-limits : EarlierLimits
+  pub earlier-editions : EarlierEditions
   pub locality : Locality
   pub group-by-position : GroupByPosition
   pub sum-of-words : SumOfWords
@@ -93,3 +95,5 @@ pub record RulesPromise : Type 1 where
   pub refused : All Holds refusals
   pub limited : All Holds limits
   pub earlier : Earlier
+  pub in-editions : All Holds editions
+  pub first-edition : FirstEdition

@@ -24,6 +24,7 @@ use Rattle.rules.specs.declared.Reason.the-variants.{
   StartAxisRepeated,
   StartNotIncreasing,
   StartNotDivisible,
+  ReplicatedEmpty,
   UnknownKind,
   NoAxis,
   AxisTooLarge,
@@ -59,6 +60,7 @@ numberOf StartAxisTooLarge = 14
 numberOf StartAxisRepeated = 15
 numberOf StartNotIncreasing = 16
 numberOf StartNotDivisible = 17
+numberOf ReplicatedEmpty = 18
 numberOf UnknownKind = 20
 numberOf NoAxis = 21
 numberOf AxisTooLarge = 22
@@ -79,7 +81,7 @@ abbrev pub reasons : List Reason
 reasons =
     FileTooShort ∷ FileTooLong ∷ UnknownEdition ∷ WrongLength ∷ CountOutsideLimits ∷ WrongOffset ∷ SectionPastEnd ∷ ListTooLong ∷ BytesLeft
     ∷ MeshSizeZero ∷ TooManyDevices ∷ TensorSizeZero ∷ TooManyWords ∷ StartAxisTooLarge ∷ StartAxisRepeated ∷ StartNotIncreasing ∷ StartNotDivisible
-    ∷ UnknownKind ∷ NoAxis ∷ AxisTooLarge ∷ NotReplicated ∷ NotTail ∷ ShardNotDivisible ∷ NotIncreasing ∷ NotUnreduced ∷ WrongDims ∷ WorkTooShort
+    ∷ ReplicatedEmpty ∷ UnknownKind ∷ NoAxis ∷ AxisTooLarge ∷ NotReplicated ∷ NotTail ∷ ShardNotDivisible ∷ NotIncreasing ∷ NotUnreduced ∷ WrongDims ∷ WorkTooShort
     ∷ SpareTooShort ∷ NoSuchDevice ∷ OutputTooShort ∷ NoSuchState ∷ []
 
 abbrev pub numbered : ℕ → List Reason → Reason

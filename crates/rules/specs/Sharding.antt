@@ -8,17 +8,24 @@ use lib.Dec.{eqb, T}
 use Rattle.rules.specs.Lists.{each, both, flat, In, Distinct}
 use Rattle.rules.specs.Mesh.{span, position}
 
--- "A sharding gives each tensor dimension an ordered list of axes, outer to inner, and has a list of unreduced axes."
+-- "A sharding gives each tensor dimension an ordered list of axes, outer to inner, and has a list of unreduced axes." Document 02, Ask 3: "a sharding
+-- name[s] axes that must stay replicated. The sharding record gains this list".
 pub record Sharding : Type 0 where
   pub dims : List (List ℕ)
   pub unreduced : List ℕ
+  pub replicated : List ℕ
 
--- the axes that a sharding names; "An axis in none is replicated."
+-- The axes along which shards may differ: those that split a dimension, and the unreduced ones. "An axis in none is replicated.", and "these axes", the
+-- explicitly replicated ones, "count as replicated".
+abbrev pub varying : Sharding → List ℕ
+varying s = flat (s .dims) ++ s .unreduced
+
+-- all axes that a sharding names
 abbrev pub named : Sharding → List ℕ
-named s = flat (s .dims) ++ s .unreduced
+named s = varying s ++ s .replicated
 
-abbrev pub Replicated : ℕ → Sharding → Type 0
-Replicated a s = ¬ In a (named s)
+abbrev pub Unnamed : ℕ → Sharding → Type 0
+Unnamed a s = ¬ In a (named s)
 
 -- "Each dimension's size is divisible by the product of its axes' sizes; the quotient is the shard size."
 abbrev pub divisible : List ℕ → List ℕ → List (List ℕ) → Bool
@@ -31,7 +38,7 @@ shardSizes mesh sizes dims = each (λ n d. n / span mesh d) sizes dims
 abbrev pub firstIndexes : List ℕ → List (List ℕ) → List ℕ → List ℕ → List ℕ
 firstIndexes mesh dims shape x = each (λ n d. position mesh d x * n) shape dims
 
--- A sharding of a table of the given sizes on a mesh. "No axis appears twice in all of these."
+-- A sharding of a table of the given sizes on a mesh. "No axis appears twice in all of these."; the new list is "naming no axis named before".
 pub record IsSharding (mesh sizes : List ℕ) (s : Sharding) : Type 0 where
   pub of-mesh : (a : ℕ) → In a (named s) → a < length mesh
   pub once : Distinct (named s)

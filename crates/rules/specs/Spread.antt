@@ -6,7 +6,7 @@ use mathlib.Core.List.{List, [], _∷_, map}
 use lib.ListN.{getD}
 use Rattle.rules.specs.Lists.{tab, each, product, total, In, Below}
 use Rattle.rules.specs.Mesh.{number, coords, devices, Agree, members}
-use Rattle.rules.specs.Sharding.{Sharding, named, firstIndexes}
+use Rattle.rules.specs.Sharding.{Sharding, varying, firstIndexes}
 
 -- A state of a table that is spread over devices: the word of each device at each index of its shard.
 abbrev pub StateOf : Type 0 → Type 0
@@ -34,8 +34,8 @@ from first i = each _+_ first i
 
 -- "A buffer is a faithful spread of a table when (a) devices that differ only on replicated axes hold equal shards, and (b) for each device, the
 -- word-by-word sum, modulo 2^32, over all devices that agree with it outside the unreduced axes, is the table's block of that device."
--- The devices that agree with x outside the unreduced axes are x's group along them.
+-- Replicated are all axes but those along which shards vary. The devices that agree with x outside the unreduced axes are x's group along them.
 pub record Faithful {W : Type 0} (addAll : List W → W) (mesh : List ℕ) (s : Sharding) (shape : List ℕ) (table : List ℕ → W) (w : StateOf W) : Type 0 where
-  pub same : (x y i : List ℕ) → Below x mesh → Below y mesh → Below i shape → Agree (λ a. In a (named s)) x y → w x i ≡ w y i
+  pub same : (x y i : List ℕ) → Below x mesh → Below y mesh → Below i shape → Agree (λ a. In a (varying s)) x y → w x i ≡ w y i
   pub sums : (x i : List ℕ) → Below x mesh → Below i shape
       → addAll (map (λ y. w y i) (members mesh (s .unreduced) x)) ≡ table (from (firstIndexes mesh (s .dims) shape x) i)

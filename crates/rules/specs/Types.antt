@@ -10,6 +10,7 @@ use Rattle.rules.specs.declared.Axis.{Axis}
 use Rattle.rules.specs.declared.AxisList.{AxisList}
 use Rattle.rules.specs.declared.Mesh.{Mesh}
 use Rattle.rules.specs.declared.Table.{Table}
+use Rattle.rules.specs.declared.DimLists.{DimLists}
 use Rattle.rules.specs.declared.Sharding as code
 use Rattle.rules.specs.declared.Kind.{Kind}
 use Rattle.rules.specs.declared.Kind.the-variants.{AllSlice, AllGather, AllReduce, AllToAll, Unknown}
@@ -38,19 +39,19 @@ unfoldable pub axesOf : AxisList → List ℕ
 axesOf l = take (l .count) (map (λ (a : Axis). a .0) (l .axes))
 
 -- the lists of all places for a dimension, and the sharding of a table of a rank
-unfoldable pub dimsOf : code.Sharding → List (List ℕ)
+unfoldable pub dimsOf : DimLists → List (List ℕ)
 unfolding axesOf
-dimsOf s = map axesOf (s .dims)
+dimsOf l = map axesOf (l .0)
 
 abbrev pub shardingOf : ℕ → code.Sharding → Sharding
-shardingOf rank s = record { dims = take rank (dimsOf s); unreduced = axesOf (s .unreduced) }
+shardingOf rank s = record { dims = take rank (dimsOf (s .dims)); unreduced = axesOf (s .unreduced); replicated = axesOf (s .replicated) }
 
 -- a step of a plan for a table of a rank; one of an unknown kind, which no read answers, stands for a step that names no axis
 abbrev pub ofKind : Kind → ℕ → Step → rules.Step
 ofKind AllSlice rank t = rules.allSlice (take rank (dimsOf (t .lists)))
 ofKind AllGather rank t = rules.allGather (take rank (dimsOf (t .lists)))
-ofKind AllReduce rank t = rules.allReduce (axesOf (t .lists .unreduced))
-ofKind AllToAll rank t = rules.allToAll (t .source .0) (t .target .0) (axesOf (t .lists .unreduced))
+ofKind AllReduce rank t = rules.allReduce (axesOf (t .list))
+ofKind AllToAll rank t = rules.allToAll (t .source .0) (t .target .0) (axesOf (t .list))
 ofKind Unknown rank t = rules.allReduce []
 
 abbrev pub stepOf : ℕ → Step → rules.Step
@@ -66,9 +67,14 @@ fourPlaces z l = tab mostDims (λ d. getD l d z)
 unfoldable pub listFrom : List ℕ → AxisList
 listFrom l = record { count = length l; axes = tab mostAxes (λ i. record { 0 = getD l i 0 }) }
 
--- a sharding: a list for each of four dimensions, no axes past the rank; and none at all
+-- a list for each of four dimensions, no axes past the rank
+unfoldable pub listsFrom : List (List ℕ) → DimLists
+unfolding listFrom
+listsFrom l = record { 0 = map listFrom (fourPlaces [] l) }
+
+-- a sharding; and one that names no axis
 abbrev pub shardingFrom : Sharding → code.Sharding
-shardingFrom s = record { dims = map listFrom (fourPlaces [] (s .dims)); unreduced = listFrom (s .unreduced) }
+shardingFrom s = record { dims = listsFrom (s .dims); unreduced = listFrom (s .unreduced); replicated = listFrom (s .replicated) }
 
 abbrev pub noLists : Sharding
-noLists = record { dims = []; unreduced = [] }
+noLists = record { dims = []; unreduced = []; replicated = [] }

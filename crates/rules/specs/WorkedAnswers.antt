@@ -12,7 +12,7 @@ use Rattle.rules.specs.Calls.{groupsOf, groupsMeaning, runOf, runMeaning
 use Rattle.rules.specs.Ledger.{w1, nines}
 use Rattle.rules.specs.declared.Axis.{Axis}
 use Rattle.rules.specs.declared.AxisList.{AxisList}
-use Rattle.rules.specs.declared.Sharding.{Sharding}
+use Rattle.rules.specs.declared.DimLists.{DimLists}
 use Rattle.rules.specs.declared.Kind.{Kind}
 use Rattle.rules.specs.declared.Kind.the-variants.{AllSlice, AllGather, AllReduce, AllToAll}
 use Rattle.rules.specs.declared.Step.{Step}
@@ -30,11 +30,12 @@ axis a = record { 0 = a }
 abbrev pub axes : List ℕ → AxisList
 axes l = record { count = length l; axes = map axis (l ++ nines (mostAxes - length l)) }
 
-abbrev pub lists : (dims : List (List ℕ)) → (unreduced : List ℕ) → Sharding
-lists dims unreduced = record { dims = map axes (dims ++ replicate (mostDims - length dims) (nines 1)); unreduced = axes unreduced }
+abbrev pub lists : List (List ℕ) → DimLists
+lists dims = record { 0 = map axes (dims ++ replicate (mostDims - length dims) (nines 1)) }
 
-abbrev pub step : Kind → (source target : ℕ) → Sharding → Step
-step kind source target lists = record { kind = kind; source = record { 0 = source }; target = record { 0 = target }; lists = lists }
+abbrev pub step : Kind → (source target : ℕ) → (dims : List (List ℕ)) → (list : List ℕ) → Step
+step kind source target dims list =
+    record { kind = kind; source = record { 0 = source }; target = record { 0 = target }; lists = lists dims; list = axes list }
 
 abbrev pub refusal : Reason → ℕ → Refusal
 refusal reason step = record { reason = reason; step = step }
@@ -49,9 +50,9 @@ pub meanings :
     × (runMeaning run.Finished ≡ runOf w1 (nines 32) (nines 32) .outcome)
     × (runMeaning (run.Refused (refusal WorkTooShort 0)) ≡ runOf w1 (nines 31) (nines 32) .outcome)
     -- the steps: an all-slice, and those of W5, W7 and W8
-    × (stepOf 1 (step AllSlice 9 9 (lists ((0 ∷ []) ∷ []) (nines 1))) ≡ allSlice ((0 ∷ []) ∷ []))
-    × (stepOf 1 (step AllGather 9 9 (lists ((1 ∷ 0 ∷ []) ∷ []) (nines 1))) ≡ allGather ((1 ∷ 0 ∷ []) ∷ []))
-    × (stepOf 1 (step AllReduce 9 9 (lists [] (0 ∷ []))) ≡ allReduce (0 ∷ []))
-    × (stepOf 2 (step AllToAll 0 1 (lists [] (0 ∷ []))) ≡ allToAll 0 1 (0 ∷ []))
+    × (stepOf 1 (step AllSlice 9 9 ((0 ∷ []) ∷ []) (nines 1)) ≡ allSlice ((0 ∷ []) ∷ []))
+    × (stepOf 1 (step AllGather 9 9 ((1 ∷ 0 ∷ []) ∷ []) (nines 1)) ≡ allGather ((1 ∷ 0 ∷ []) ∷ []))
+    × (stepOf 1 (step AllReduce 9 9 [] (0 ∷ [])) ≡ allReduce (0 ∷ []))
+    × (stepOf 2 (step AllToAll 0 1 [] (0 ∷ [])) ≡ allToAll 0 1 (0 ∷ []))
 unfolding groupsOf runOf dimsOf
 meanings = (refl, refl, refl, refl, refl, refl, refl, refl)

@@ -3,7 +3,7 @@ use Prim.Native.Nat.{ℕ}
 use mathlib.Core.Path.{_≡_, refl}
 use mathlib.Core.List.{List, [], _∷_, map}
 use lib.ListN.{replicate}
-use Rattle.rules.specs.Types.{dimsOf, shardingOf, listFrom}
+use Rattle.rules.specs.Types.{dimsOf, shardingOf, listFrom, listsFrom}
 use Rattle.rules.specs.Refusals.{reasonOf}
 use Rattle.rules.specs.Calls.{checkOf, checkedOf, placeOf, placedOf}
 use Rattle.rules.specs.Ledger.{fileOf, w1, w4}
@@ -19,25 +19,25 @@ list count places = record { count = count; axes = map (λ (a : ℕ). record { 0
 abbrev none : AxisList
 none = list 0 (0 ∷ 0 ∷ 0 ∷ 0 ∷ 0 ∷ 0 ∷ [])
 
+abbrev single : ℕ → AxisList
+single a = list 1 (a ∷ 0 ∷ 0 ∷ 0 ∷ 0 ∷ 0 ∷ [])
+
 -- four dimensions split along one axis each and one axis unreduced: mesh 2x2x2x2x2, table 2x4x6x8
 abbrev four : List ℕ
 four = fileOf (replicate 5 2) (2 ∷ 4 ∷ 6 ∷ 8 ∷ []) ((4 ∷ []) ∷ (3 ∷ []) ∷ (2 ∷ []) ∷ (0 ∷ []) ∷ (1 ∷ []) ∷ []) []
 
-abbrev single : ℕ → AxisList
-single a = list 1 (a ∷ 0 ∷ 0 ∷ 0 ∷ 0 ∷ 0 ∷ [])
-
 abbrev crossed : Sharding
-crossed = record { dims = single 4 ∷ single 3 ∷ single 2 ∷ single 0 ∷ []; unreduced = single 1 }
+crossed = record { dims = record { 0 = single 4 ∷ single 3 ∷ single 2 ∷ single 0 ∷ [] }; unreduced = single 1; replicated = none }
 
 -- the last sharding of W1; that of W4; and no axes at all
 abbrev split : Sharding
-split = record { dims = list 1 (0 ∷ 0 ∷ 0 ∷ 0 ∷ 0 ∷ 0 ∷ []) ∷ none ∷ none ∷ none ∷ []; unreduced = none }
+split = record { dims = record { 0 = single 0 ∷ none ∷ none ∷ none ∷ [] }; unreduced = none; replicated = none }
 
 abbrev turned : Sharding
-turned = record { dims = list 2 (1 ∷ 0 ∷ 0 ∷ 0 ∷ 0 ∷ 0 ∷ []) ∷ none ∷ none ∷ none ∷ []; unreduced = none }
+turned = record { dims = record { 0 = list 2 (1 ∷ 0 ∷ 0 ∷ 0 ∷ 0 ∷ 0 ∷ []) ∷ none ∷ none ∷ none ∷ [] }; unreduced = none; replicated = none }
 
 abbrev nowhere : Sharding
-nowhere = record { dims = none ∷ none ∷ none ∷ none ∷ []; unreduced = none }
+nowhere = record { dims = record { 0 = none ∷ none ∷ none ∷ none ∷ [] }; unreduced = none; replicated = none }
 
 pub places :
     -- the check: W1, and W6 with gather [1]
@@ -52,8 +52,9 @@ pub places :
     × (checkedOf (checkOf (fileOf (2 ∷ 2 ∷ 2 ∷ 2 ∷ []) (4 ∷ 2 ∷ []) ((3 ∷ 0 ∷ []) ∷ (2 ∷ []) ∷ (1 ∷ []) ∷ []) [])) ≡ record {
       outcome = check.Passed (record { room = 16; devices = 16; steps = 0; rank = 2 });
       sharding = record {
-        dims = list 2 (3 ∷ 0 ∷ 0 ∷ 0 ∷ 0 ∷ 0 ∷ []) ∷ list 1 (2 ∷ 0 ∷ 0 ∷ 0 ∷ 0 ∷ 0 ∷ []) ∷ none ∷ none ∷ [];
-        unreduced = list 1 (1 ∷ 0 ∷ 0 ∷ 0 ∷ 0 ∷ 0 ∷ []);
+        dims = record { 0 = list 2 (3 ∷ 0 ∷ 0 ∷ 0 ∷ 0 ∷ 0 ∷ []) ∷ single 2 ∷ none ∷ none ∷ [] };
+        unreduced = single 1;
+        replicated = none;
       };
       shard = 1 ∷ 1 ∷ 0 ∷ 0 ∷ [];
     })
@@ -83,13 +84,14 @@ pub places :
     })
     × (placedOf (placeOf four 0 31)
     ≡ record { outcome = place.Found 4; sharding = crossed; shard = 1 ∷ 2 ∷ 3 ∷ 4 ∷ []; first = 1 ∷ 2 ∷ 3 ∷ 4 ∷ [] })
-unfolding fileOf checkOf placeOf listFrom reasonOf
+unfolding fileOf checkOf placeOf listFrom listsFrom reasonOf
 places = (refl, refl, refl, refl, refl, refl, refl, refl, refl)
 
 -- of a table of two dimensions the first two lists count, and of a list as many places as it counts
 counted : shardingOf 2 (record {
-  dims = list 2 (3 ∷ 1 ∷ 9 ∷ 9 ∷ 9 ∷ 9 ∷ []) ∷ list 0 (replicate 6 9) ∷ list 1 (replicate 6 9) ∷ list 6 (replicate 6 9) ∷ [];
+  dims = record { 0 = list 2 (3 ∷ 1 ∷ 9 ∷ 9 ∷ 9 ∷ 9 ∷ []) ∷ list 0 (replicate 6 9) ∷ list 1 (replicate 6 9) ∷ list 6 (replicate 6 9) ∷ [] };
   unreduced = list 1 (2 ∷ 9 ∷ 9 ∷ 9 ∷ 9 ∷ 9 ∷ []);
-}) ≡ record { dims = (3 ∷ 1 ∷ []) ∷ [] ∷ []; unreduced = 2 ∷ [] }
+  replicated = list 2 (0 ∷ 4 ∷ 9 ∷ 9 ∷ 9 ∷ 9 ∷ []);
+}) ≡ record { dims = (3 ∷ 1 ∷ []) ∷ [] ∷ []; unreduced = 2 ∷ []; replicated = 0 ∷ 4 ∷ [] }
 unfolding dimsOf
 counted = refl

@@ -56,10 +56,14 @@ pub struct AxisList {
     pub axes: [Axis; Axis::MOST],
 }
 
-// A sharding: a list for each dimension, and the unreduced axes.
+// A list of axes for each dimension.
+pub struct DimLists(pub [AxisList; Dim::MOST]);
+
+// A sharding: the lists that split the dimensions, the unreduced axes, and the axes that must stay replicated.
 pub struct Sharding {
-    pub dims: [AxisList; Dim::MOST],
+    pub dims: DimLists,
     pub unreduced: AxisList,
+    pub replicated: AxisList,
 }
 
 // A mesh: the sizes of its axes are the first `n` places.
@@ -110,12 +114,13 @@ pub enum Kind {
     Unknown,
 }
 
-// A step: all-slice and all-gather have their lists in lists.dims, all-reduce and all-to-all their one list in lists.unreduced.
+// A step: all-slice and all-gather have lists by dimension, all-reduce and all-to-all have one list.
 pub struct Step {
     pub kind: Kind,
     pub source: Dim,
     pub target: Dim,
-    pub lists: Sharding,
+    pub lists: DimLists,
+    pub list: AxisList,
 }
 
 impl Step {
@@ -170,6 +175,7 @@ pub enum Reason {
     StartAxisRepeated,
     StartNotIncreasing,
     StartNotDivisible,
+    ReplicatedEmpty,
     UnknownKind,
     NoAxis,
     AxisTooLarge,
@@ -209,6 +215,7 @@ impl Reason {
             Reason::StartAxisRepeated => 15,
             Reason::StartNotIncreasing => 16,
             Reason::StartNotDivisible => 17,
+            Reason::ReplicatedEmpty => 18,
             Reason::UnknownKind => 20,
             Reason::NoAxis => 21,
             Reason::AxisTooLarge => 22,
@@ -344,39 +351,51 @@ impl AxisList {
     }
 }
 
-impl Sharding {
-    // All axes replicated; what the places of its lists hold is free.
-    pub fn replicated() -> Sharding
-        ensures { λ r. ⌜ (dimsOf r ≡ replicate mostDims []) × (axesOf (r .unreduced) ≡ []) ⌝ }
+impl DimLists {
+    // No axes in any list; what the places of its lists hold is free.
+    pub fn empty() -> DimLists
+        ensures { λ r. ⌜ dimsOf r ≡ replicate mostDims [] ⌝ }
     {
         let none = AxisList::empty();
-        Sharding {
-            dims: [none; Dim::MOST],
-            unreduced: none,
-        }
+        DimLists([none; Dim::MOST])
     }
 
     // The list of a dimension, no axes past the last; what stands past its axes is free.
-    pub fn list(self, d: Dim) -> AxisList
+    pub fn at(self, d: Dim) -> AxisList
         ensures { λ r. ⌜ axesOf r ≡ getD (dimsOf self) (d .0) [] ⌝ }
     {
         let i = d.0 as usize;
         if i < Dim::MOST {
-            self.dims[i]
+            self.0[i]
         } else {
             AxisList::empty()
         }
     }
 
-    // The sharding with another list for a dimension, unchanged past the last.
-    pub fn with_list(self, d: Dim, l: AxisList) -> Sharding
-        ensures { λ r. ⌜ (dimsOf r ≡ set (dimsOf self) (d .0) (axesOf l)) × (r .unreduced ≡ self .unreduced) ⌝ }
+    // The lists with another one for a dimension, unchanged past the last.
+    pub fn with(self, d: Dim, l: AxisList) -> DimLists
+        ensures { λ r. ⌜ dimsOf r ≡ set (dimsOf self) (d .0) (axesOf l) ⌝ }
     {
         let i = d.0 as usize;
         let mut next = self;
         if i < Dim::MOST {
-            next.dims[i] = l;
+            next.0[i] = l;
         }
         next
+    }
+}
+
+impl Sharding {
+    // No axes in any list: all are replicated, and none has to be. What the places of its lists hold is free.
+    pub fn none() -> Sharding
+        ensures { λ r. ⌜ (dimsOf (r .dims) ≡ replicate mostDims []) × (axesOf (r .unreduced) ≡ []) × (axesOf (r .replicated) ≡ []) ⌝ }
+    {
+        let dims = DimLists::empty();
+        let none = AxisList::empty();
+        Sharding {
+            dims,
+            unreduced: none,
+            replicated: none,
+        }
     }
 }

@@ -97,6 +97,9 @@ enum-told-30 c = search needs
 enum-told-31 : tie.Need-enum-told-31
 enum-told-31 c = search needs
 
+enum-told-32 : tie.Need-enum-told-32
+enum-told-32 c = search needs
+
 returns : tie.Need-returns
 returns c = simp (c .enum-told .given .1)
 
@@ -190,6 +193,9 @@ returns-30 c = simp (c .enum-told30 .given .1)
 returns-31 : tie.Need-returns-31
 returns-31 c = simp (c .enum-told31 .given .1)
 
+returns-32 : tie.Need-returns-32
+returns-32 c = simp (c .enum-told32 .given .1)
+
 pub number-spec : {M : Type 1} → statement M
 number-spec =
     tie.close
@@ -225,6 +231,7 @@ number-spec =
     enum-told-29
     enum-told-30
     enum-told-31
+    enum-told-32
     returns
     returns-2
     returns-3
@@ -255,4 +262,5 @@ number-spec =
     returns-28
     returns-29
     returns-30
-    returns-31)
+    returns-31
+    returns-32)

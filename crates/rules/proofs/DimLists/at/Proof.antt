@@ -4,10 +4,10 @@ use mathlib.Core.List.{[]}
 use native.Mathlib.Omega.{arith}
 use lib.ListN.{length-map, List·getD-map, List·getD-eq-default}
 use Rattle.rules.specs.Types.{axesOf, dimsOf}
-use Rattle.rules.proofs.Sharding.list.Statement.{statement}
-use Rattle.rules.proofs.Sharding.list.Tie as tie
-use Rattle.rules.proofs.Sharding.list.Reads as reads
-use Rattle.rules.proofs.Sharding.list.Lts as lts
+use Rattle.rules.proofs.DimLists.at.Statement.{statement}
+use Rattle.rules.proofs.DimLists.at.Tie as tie
+use Rattle.rules.proofs.DimLists.at.Reads as reads
+use Rattle.rules.proofs.DimLists.at.Lts as lts
 use Rattle.rules.proofs.AxisList.empty.Reads as empty-reads
 
 cast-i : tie.Need-cast-i
@@ -24,11 +24,11 @@ empty-requires c κs = search needs
 
 returns : tie.Need-returns
 unfolding dimsOf axesOf
-returns c = let a = c .before .before .before .args in sym (List·getD-map axesOf (a .t1 .dims) (a .d .0) (record { count = 0; axes = [] }))
+returns c = let a = c .before .before .before .args in sym (List·getD-map axesOf (a .t1 .0) (a .d .0) (record { count = 0; axes = [] }))
 
 returns-2 : tie.Need-returns-2
 unfolding dimsOf
 returns-2 c = let a = c .before .before .before in c .empty .ensures ∙ sym (List·getD-eq-default (dimsOf (a .args .t1)) [] (simp length-map (omega (arith, simp length-map at (a .good .0 .1 .1 .0 .1 .0 .1)))))
 
-pub list-spec : {M : Type 1} → statement M
-list-spec = tie.close (tie.spec cast-i mul-result element-copy-out-result empty-requires returns returns-2)
+pub at-spec : {M : Type 1} → statement M
+at-spec = tie.close (tie.spec cast-i mul-result element-copy-out-result empty-requires returns returns-2)
