@@ -1,12 +1,13 @@
 -- What an accepted step satisfies, a record for each kind (`facts`), and that the sharding after it is one again (`after-sharding`), with the
 -- sizes that its kind asks for (`Accepted-shapes`). Assumes nothing.
-use Prim.Native.Nat.{ℕ, zero, suc, _+_, _<_}
+use Prim.Native.Nat.{ℕ, zero, suc, _+_, _≤_, _<_}
 use mathlib.Core.Path.{_≡_, refl, sym, ap, _∙_, subst}
 use mathlib.Core.Logic.{_⊎_, ⊎-elim, _≢_}
 use mathlib.Core.Bool.{Bool}
 use mathlib.Core.List.{List, [], _++_, append-nil}
 use native.Mathlib.Omega.{arith}
-use lib.ListN.{length, getD, replicate}
+use lib.ListN.{length, getD, set, take, replicate}
+use lib.Seq.{take-set-lt}
 use lib.Dec.{T}
 use Rattle.rules.specs.Lists.{each, both, flat, without, In, Distinct}
 use Rattle.rules.specs.Sharding.{Sharding, varying, named, Unnamed, divisible, shardSizes, IsSharding}
@@ -26,9 +27,11 @@ use Rattle.rules.specs.Collectives.{
   grown,
   shapeAfter,
 }
+use Rattle.rules.specs.Limits.{mostDims}
 use Rattle.rules.specs.Refusals.{Judged, accept}
 use Rattle.rules.specs.PlanFile.{some, allBelow, fresh, isTail, increasingFrom, allIn, twoDims, gatherOff, sliceOn, judgeKind, judgeNamed, judgeStep}
 use Rattle.rules.proofs.Lists.{
+  take-replicate,
   length-each,
   in-left,
   in-right,
@@ -58,6 +61,12 @@ pub flat-only : (r i : ℕ) (L : List ℕ) → i < r → flat (only r i L) ≡ L
 flat-only zero i L h = absurd (omega arith)
 flat-only (suc r) zero L h = ap (λ (l : List ℕ). L ++ l) (flat-empty r) ∙ append-nil L
 flat-only (suc r) (suc i) L h = flat-only r i L (omega arith)
+
+-- the lists of the code with one list at a dimension
+pub only-at : (rank dim : ℕ) (L : List ℕ) (none ds : List (List ℕ)) → rank ≤ mostDims → dim < rank → none ≡ replicate mostDims []
+    → ds ≡ set none dim L
+    → take rank ds ≡ only rank dim L
+only-at rank dim L none ds h k e f = rw (f, e, take-set-lt rank (replicate mostDims []) dim L k, take-replicate {A = List ℕ} [] rank mostDims h) refl
 
 -- a gather off the lists
 pub gather-inv : (k : ℕ) (Gs : List (List ℕ)) (s r : Sharding) → gatherOff k Gs s ≡ accept r → T (both isTail (s .dims) Gs) × (gathered Gs s ≡ r)

@@ -20,8 +20,7 @@ use Rattle.rules.specs.declared.Sharding as code
 use Rattle.rules.specs.declared.Step as code-step
 use Rattle.rules.proofs.Lists.{take-replicate}
 use Rattle.rules.proofs.Shapes.{cut-lengths}
-use Rattle.rules.proofs.Steps.{AcceptedStep, facts, sharding-cut, shape-length}
-use Rattle.judge.proofs.Steps.{only-at}
+use Rattle.rules.proofs.Steps.{only-at, AcceptedStep, facts, sharding-cut, shape-length}
 use Rattle.rules.proofs.Moves as bridge
 use Rattle.mesh.proofs.Sizes.{size-pos}
 use Rattle.moves.specs.Moves.{Moving, movedShape, movedBuffer, lists}
