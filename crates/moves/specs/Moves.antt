@@ -13,7 +13,7 @@ use Rattle.rules.specs.Spread.{from}
 use Rattle.rules.specs.Collectives.{grown, moved}
 use Rattle.rules.specs.Limits.{mostAxes, mostDims, mostWords}
 use Rattle.rules.specs.Types.{dimsOf}
-use Rattle.rules.specs.declared.Sharding.{Sharding}
+use Rattle.rules.specs.declared.DimLists.{DimLists}
 use Rattle.digits.specs.Digits.{mostRoom, meshStrides, push, cleared, axisDigits, meshDigits, HasStrides, Front}
 
 -- ---- the step
@@ -23,8 +23,8 @@ abbrev pub movedShape : (mesh shape : List ℕ) → (Gs Ss : List (List ℕ)) �
 movedShape mesh shape Gs Ss = grown mesh Gs (shardSizes mesh shape Ss)
 
 -- the lists of a step of the code, one for each dimension of a shape
-abbrev pub lists : List ℕ → Sharding → List (List ℕ)
-lists shape s = take (length shape) (dimsOf s)
+abbrev pub lists : List ℕ → DimLists → List (List ℕ)
+lists shape l = take (length shape) (dimsOf l)
 
 -- the buffer that the step leaves, of elements of any type: the new state, of shards of `words` words, and what was behind it; z is read outside the
 -- old buffer, which no code does

@@ -91,8 +91,8 @@ fn shape_digits(
     added: &mut [usize],
     mesh: &[u16],
     shape: &[u16],
-    gathers: rules::Sharding,
-    slices: rules::Sharding,
+    gathers: rules::DimLists,
+    slices: rules::DimLists,
 ) -> usize
     requires { ⌜ Dimensions (now digits) (now strides) (now added) (now mesh) (now shape) (lists (now shape) gathers) (lists (now shape) slices) ⌝ }
     ensures { λ r. ⌜ DimensionsAt (now (mesh .entry)) (now (shape .entry)) (lists (now (shape .entry)) gathers)
@@ -107,8 +107,8 @@ fn shape_digits(
     while 0 < j {
         j -= 1;
         let dim = rules::Dim(j as u8);
-        let gathered = gathers.list(dim);
-        let sliced = slices.list(dim);
+        let gathered = gathers.at(dim);
+        let sliced = slices.at(dim);
         let n = shape[j] as usize;
         count = dim_digits(
             digits,
@@ -135,8 +135,8 @@ fn make_digits(
     added: &mut [usize],
     mesh: &[u16],
     shape: &[u16],
-    gathers: rules::Sharding,
-    slices: rules::Sharding,
+    gathers: rules::DimLists,
+    slices: rules::DimLists,
     words: usize,
 ) -> usize
     requires { ⌜ Setting (now digits) (now strides) (now added) (now mesh) (now shape) (lists (now shape) gathers) (lists (now shape) slices) words ⌝ }
@@ -160,8 +160,8 @@ fn move_with(
     added: &mut [usize],
     mesh: &[u16],
     shape: &[u16],
-    gathers: rules::Sharding,
-    slices: rules::Sharding,
+    gathers: rules::DimLists,
+    slices: rules::DimLists,
     words: usize,
 )
     requires { ⌜ Setting (now digits) (now strides) (now added) (now mesh) (now shape) (lists (now shape) gathers) (lists (now shape) slices) words ⌝ }
@@ -180,8 +180,8 @@ pub fn move_into(
     new: &mut [u32],
     mesh: &[u16],
     shape: &[u16],
-    gathers: rules::Sharding,
-    slices: rules::Sharding,
+    gathers: rules::DimLists,
+    slices: rules::DimLists,
     words: usize,
 )
     requires { ⌜ Moving (now mesh) (now shape) (lists (now shape) gathers) (lists (now shape) slices) ⌝ }

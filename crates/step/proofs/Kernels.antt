@@ -9,14 +9,13 @@ use native.Mathlib.Nat.{le-trans}
 use lib.ListN.{length, getD, take, drop, set, replicate}
 use Rattle.rules.specs.Lists.{pick, product}
 use Rattle.rules.specs.Mesh.{devices}
-use Rattle.rules.specs.Sharding.{Sharding}
 use Rattle.rules.specs.Spread.{tabulate, held, addWords}
 use Rattle.rules.specs.Collectives.{Step, allReduce, only, shapeAfter, sources, reducePlaces, made, moved}
 use Rattle.rules.specs.Limits.{mostDims}
 use Rattle.rules.specs.Types.{axesOf, dimsOf, ofKind, stepOf}
 use Rattle.rules.specs.declared.Kind.{Kind}
 use Rattle.rules.specs.declared.Kind.the-variants.{AllToAll}
-use Rattle.rules.specs.declared.Sharding as code
+use Rattle.rules.specs.declared.DimLists.{DimLists}
 use Rattle.rules.specs.declared.Step as code-step
 use Rattle.rules.proofs.Lists.{take-replicate}
 use Rattle.rules.proofs.Shapes.{cut-lengths}
@@ -41,7 +40,7 @@ module _ {mesh shape : List ℕ} {t : Step} {words old new : ℕ} (h : Stepping 
   dims-many : length shape ≡ length (h .before .dims)
   dims-many = ap length (sym (h .shape-is)) ∙ shape-length mesh (h .sizes) (sizes-pos h) (h .before) (h .sharding)
 
-  module _ (m : bridge.Moving t) (off on : code.Sharding)
+  module _ (m : bridge.Moving t) (off on : DimLists)
       (p : lists shape off ≡ bridge.gathers t (length shape)) (q : lists shape on ≡ bridge.slices t (length shape)) where
     asked : bridge.Moves mesh (h .sizes) (bridge.gathers t (length shape)) (bridge.slices t (length shape)) shape (shapeAfter mesh t shape)
     asked = subst
@@ -85,7 +84,7 @@ module _ {mesh shape : List ℕ} (step : code-step.Step) {words old new : ℕ} (
       let c = sharding-cut mesh (h .sizes) (sizes-pos h) (h .before) (h .sharding) in
       omega (arith, dims-many h, cut-lengths mesh c .0, h .rank-few)
 
-  pub nowhere : (none : code.Sharding) → dimsOf none ≡ replicate mostDims [] → lists shape none ≡ replicate (length shape) []
+  pub nowhere : (none : DimLists) → dimsOf none ≡ replicate mostDims [] → lists shape none ≡ replicate (length shape) []
   nowhere none z = ap (λ (l : List (List ℕ)). take (length shape) l) z ∙ take-replicate {A = List ℕ} [] (length shape) mostDims ranked
 
   module _ {k : Kind} (e : step .kind ≡ k) where
@@ -103,7 +102,7 @@ module _ {mesh shape : List ℕ} (step : code-step.Step) {words old new : ℕ} (
         let p : b ≡ inPlace (step .kind) = q ∙ ap inPlace (sym e) in
         transport (λ i. Left (p i) (ofKind (sym e i) (length shape) step) olds news here there)
 
-    module _ (m : bridge.Moving (ofKind k (length shape) step)) (off on : code.Sharding)
+    module _ (m : bridge.Moving (ofKind k (length shape) step)) (off on : DimLists)
         (p : lists shape off ≡ bridge.gathers (ofKind k (length shape) step) (length shape))
         (q : lists shape on ≡ bridge.slices (ofKind k (length shape) step) (length shape)) where
       pub move-requires : Moving mesh shape (lists shape off) (lists shape on)
@@ -143,15 +142,15 @@ module _ {mesh shape : List ℕ} (step : code-step.Step) {words old new : ℕ} (
           )
 
   -- one list at a dimension
-  module _ (e : step .kind ≡ AllToAll) (none : code.Sharding) (z : dimsOf none ≡ replicate mostDims []) (ds : code.Sharding) where
-    pub at-source : dimsOf ds ≡ set (dimsOf none) (step .source .0) (axesOf (step .lists .unreduced))
-        → lists shape ds ≡ only (length shape) (step .source .0) (axesOf (step .lists .unreduced))
+  module _ (e : step .kind ≡ AllToAll) (none : DimLists) (z : dimsOf none ≡ replicate mostDims []) (ds : DimLists) where
+    pub at-source : dimsOf ds ≡ set (dimsOf none) (step .source .0) (axesOf (step .list))
+        → lists shape ds ≡ only (length shape) (step .source .0) (axesOf (step .list))
     at-source q =
         let f = step-fine (of e) .by-kind .source-lt in
         only-at (length shape) (step .source .0) _ (dimsOf none) (dimsOf ds) ranked (omega (arith, dims-many (of e), f)) z q
 
-    pub at-target : dimsOf ds ≡ set (dimsOf none) (step .target .0) (axesOf (step .lists .unreduced))
-        → lists shape ds ≡ only (length shape) (step .target .0) (axesOf (step .lists .unreduced))
+    pub at-target : dimsOf ds ≡ set (dimsOf none) (step .target .0) (axesOf (step .list))
+        → lists shape ds ≡ only (length shape) (step .target .0) (axesOf (step .list))
     at-target q =
         let f = step-fine (of e) .by-kind .target-lt in
         only-at (length shape) (step .target .0) _ (dimsOf none) (dimsOf ds) ranked (omega (arith, dims-many (of e), f)) z q

@@ -8,8 +8,8 @@ ghost use Rattle.rules.specs.Types.{stepOf};
 ghost use Rattle.step.specs.Stepping.{Stepping, steppedBuffer, inPlace};
 use moves::move_into;
 use rules::AxisList;
+use rules::DimLists;
 use rules::Kind;
-use rules::Sharding;
 use rules::Step;
 use sums::reduce_in;
 
@@ -44,15 +44,15 @@ pub fn step_from(
 {
     let kind = step.kind;
     let lists = step.lists;
-    let list = lists.unreduced;
-    let none = Sharding::replicated();
+    let list = step.list;
+    let none = DimLists::empty();
     match kind {
         Kind::AllSlice => move_into(here, there, mesh, shape, none, lists, words),
         Kind::AllGather => move_into(here, there, mesh, shape, lists, none, words),
         Kind::AllReduce => reduce_in(here, mesh, shape, list),
         Kind::AllToAll => {
-            let off = none.with_list(step.source, list);
-            let on = none.with_list(step.target, list);
+            let off = none.with(step.source, list);
+            let on = none.with(step.target, list);
             move_into(here, there, mesh, shape, off, on, words)
         }
         Kind::Unknown => reduce_in(here, mesh, shape, AxisList::empty()),

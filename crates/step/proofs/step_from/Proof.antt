@@ -16,12 +16,12 @@ step-from-spec =
     enum-told
     (λ c κs. let s = c .before .before .before .before .before .before .before .before .before .before .before in
     let e = c .before .before .enum-told .given .1 in
-    let z = c .before .before .before .before .replicated .ensures .0 in
+    let z = c .before .before .before .before .empty .ensures in
     move-requires (s .args .step) (s .pre) e tt _ _ (nowhere (s .args .step) (s .pre) _ z) refl)
     (λ c. search needs)
     (λ c κs. let s = c .before .before .before .before .before .before .before .before .before .before .before in
     let e = c .before .before .enum-told2 .given .1 in
-    let z = c .before .before .before .before .replicated .ensures .0 in
+    let z = c .before .before .before .before .empty .ensures in
     move-requires (s .args .step) (s .pre) e tt _ _ refl (nowhere (s .args .step) (s .pre) _ z))
     (λ c. search needs)
     (λ c κs. let s = c .before .before .before .before .before .before .before .before .before .before in
@@ -31,25 +31,25 @@ step-from-spec =
     (λ c κs. search needs)
     (λ c κs. let s = c .before .before .before .before .before .before .before .before .before .before .before .before .before in
     let e = c .before .before .before .before .enum-told4 .given .1 in
-    let z = c .before .before .before .before .before .before .replicated .ensures .0 in
-    let p = at-source (s .args .step) (s .pre) e _ z _ (c .before .before .before .with-list .ensures .0) in
-    let q = at-target (s .args .step) (s .pre) e _ z _ (c .before .before .with-list2 .ensures .0) in
+    let z = c .before .before .before .before .before .before .empty .ensures in
+    let p = at-source (s .args .step) (s .pre) e _ z _ (c .before .before .before .with .ensures) in
+    let q = at-target (s .args .step) (s .pre) e _ z _ (c .before .before .with2 .ensures) in
     move-requires (s .args .step) (s .pre) e tt _ _ p q)
     (λ c. search needs)
     (λ c κs. search needs)
     (λ c κs. let s = c .before .before .before .before .before .before .before .before .before .before .before in
-    reduce-requires (s .args .step) (s .pre) (c .before .before .enum-told5 .given .1) _ (ap allReduce (sym (c .empty .ensures))))
+    reduce-requires (s .args .step) (s .pre) (c .before .before .enum-told5 .given .1) _ (ap allReduce (sym (c .empty2 .ensures))))
     (λ c. search needs)
     (λ c. search needs)
     (λ c. let s = c .before .before .before .before .before .before .before .before .before .before .before .before .before .before in
     let e = c .before .before .before .before .before .enum-told .given .1 in
-    let z = c .before .before .before .before .before .before .before .replicated .ensures .0 in
+    let z = c .before .before .before .before .before .before .before .empty .ensures in
     moved-so (s .args .step) (s .pre) e tt _ _ (nowhere (s .args .step) (s .pre) _ z) refl refl _ _ _ (c .before .before .move-into .ensures))
     (λ c. search needs)
     (λ c. search needs)
     (λ c. let s = c .before .before .before .before .before .before .before .before .before .before .before .before .before .before in
     let e = c .before .before .before .before .before .enum-told2 .given .1 in
-    let z = c .before .before .before .before .before .before .before .replicated .ensures .0 in
+    let z = c .before .before .before .before .before .before .before .empty .ensures in
     moved-so (s .args .step) (s .pre) e tt _ _ refl (nowhere (s .args .step) (s .pre) _ z) refl _ _ _ (c .before .before .move-into2 .ensures))
     (λ c. search needs)
     (λ c. let s = c .before .before .before .before .before .before .before .before .before .before .before .before .before in
@@ -58,10 +58,10 @@ step-from-spec =
     (λ c. search needs)
     (λ c. let s = c .before .before .before .before .before .before .before .before .before .before .before .before .before .before .before .before in
     let e = c .before .before .before .before .before .before .before .enum-told4 .given .1 in
-    let z = c .before .before .before .before .before .before .before .before .before .replicated .ensures .0 in
-    let p = at-source (s .args .step) (s .pre) e _ z _ (c .before .before .before .before .before .before .with-list .ensures .0) in
-    let q = at-target (s .args .step) (s .pre) e _ z _ (c .before .before .before .before .before .with-list2 .ensures .0) in
+    let z = c .before .before .before .before .before .before .before .before .before .empty .ensures in
+    let p = at-source (s .args .step) (s .pre) e _ z _ (c .before .before .before .before .before .before .with .ensures) in
+    let q = at-target (s .args .step) (s .pre) e _ z _ (c .before .before .before .before .before .with2 .ensures) in
     moved-so (s .args .step) (s .pre) e tt _ _ p q refl _ _ _ (c .before .before .move-into3 .ensures))
     (λ c. search needs)
     (λ c. let s = c .before .before .before .before .before .before .before .before .before .before .before .before .before .before in
-    reduced-so (s .args .step) (s .pre) (c .before .before .before .before .before .enum-told5 .given .1) _ (ap allReduce (sym (c .before .before .before .empty .ensures))) refl _ _ _ (c .before .before .reduce-in2 .ensures)))
+    reduced-so (s .args .step) (s .pre) (c .before .before .before .before .before .enum-told5 .given .1) _ (ap allReduce (sym (c .before .before .before .empty2 .ensures))) refl _ _ _ (c .before .before .reduce-in2 .ensures)))
