@@ -1,5 +1,5 @@
--- What the kernels ask for follows from an accepted step, and what they leave is what the rules make, in the buffer that the kind says.
--- Assumes nothing.
+-- What the kernels ask for follows from an accepted step, and what they leave is what the rules make, in the buffer that the kind says. The elements
+-- are of any type W: addAll is the sum of a group's elements, the sum of one is that element (`one`), and z is read outside a buffer. Assumes nothing.
 use Prim.Native.Nat.{ℕ, _*_, _≤_, _<_}
 use mathlib.Core.Path.{_≡_, refl, sym, ap, _∙_, subst, transport}
 use mathlib.Core.Bool.{Bool, true, false}
@@ -26,7 +26,8 @@ use Rattle.moves.specs.Moves.{Moving, movedShape, movedBuffer, lists}
 use Rattle.sums.specs.Sums.{Reducing, reducedBuffer}
 use Rattle.step.specs.Stepping.{Stepping, steppedBuffer, inPlace}
 
-one-word : (a : ℕ) → addWords (a ∷ []) ≡ a
+-- the sum of one word is that word
+pub one-word : (a : ℕ) → addWords (a ∷ []) ≡ a
 unfolding addWords
 one-word a = refl
 
@@ -48,7 +49,7 @@ module _ {mesh shape : List ℕ} {t : Step} {words old new : ℕ} (h : Stepping 
         (h .shape-is)
         (bridge.step-moves mesh (h .sizes) (sizes-pos h) t (h .before) m (h .sharding) step-fine (h .words-pos))
 
-    pub move-asks : Moving mesh shape (lists shape off) (lists shape on)
+    move-asks : Moving mesh shape (lists shape off) (lists shape on)
     move-asks = rw (p, q) (
         let a = asked in
         record {
@@ -66,15 +67,16 @@ module _ {mesh shape : List ℕ} {t : Step} {words old new : ℕ} (h : Stepping 
           sliced-once = a .slices-once;
         })
 
-    pub move-words : words ≡ product (movedShape mesh shape (lists shape off) (lists shape on))
+    move-words : words ≡ product (movedShape mesh shape (lists shape off) (lists shape on))
     move-words = rw (p, q) (h .words-are ∙ ap product (sym (asked .shape-is)))
 
-    pub move-leaves : (olds news : List ℕ) → movedBuffer 0 mesh shape (lists shape off) (lists shape on) words olds news ≡ steppedBuffer addWords 0 mesh shape t words olds news
-    move-leaves olds news =
-        let r : List ℕ → Type 0 = λ l. moved 0 mesh (bridge.gathers t (length l)) (bridge.slices t (length l)) l olds
-        ≡ tabulate mesh (shapeAfter mesh t l) (made addWords (sources mesh t l) (held 0 mesh l olds)) in
-        let e = subst r (h .shape-is) (bridge.step-moved mesh (h .sizes) (sizes-pos h) addWords one-word 0 t (h .before) olds m (h .sharding) step-fine) in
-        rw (p, q) (ap (λ (l : List ℕ). l ++ drop (devices mesh * words) news) e)
+    move-leaves : {W : Type 0} (addAll : List W → W) (one : (a : W) → addAll (a ∷ []) ≡ a) (z : W) (olds news : List W)
+        → movedBuffer z mesh shape (lists shape off) (lists shape on) words olds news ≡ steppedBuffer addAll z mesh shape t words olds news
+    move-leaves {W} addAll one z olds news =
+        let r : List ℕ → Type 0 = λ l. moved z mesh (bridge.gathers t (length l)) (bridge.slices t (length l)) l olds
+        ≡ tabulate mesh (shapeAfter mesh t l) (made addAll (sources mesh t l) (held z mesh l olds)) in
+        let e = subst r (h .shape-is) (bridge.step-moved mesh (h .sizes) (sizes-pos h) addAll one z t (h .before) olds m (h .sharding) step-fine) in
+        rw (p, q) (ap (λ (l : List W). l ++ drop (devices mesh * words) news) e)
 
 -- ---- by the kinds of the code
 
@@ -92,15 +94,15 @@ module _ {mesh shape : List ℕ} (step : code-step.Step) {words old new : ℕ} (
     of = subst (λ (x : Kind). Stepping mesh shape (ofKind x (length shape) step) words old new) e h
 
     -- what the step leaves in the buffer of the old state, and in the other one: the new state stands where its kind says
-    abbrev Left : Bool → Step → (olds news here there : List ℕ) → Type 0
-    Left b t olds news here there =
-        (here ≡ pick b (steppedBuffer addWords 0 mesh shape t words olds olds) olds) × (there ≡ pick b news (steppedBuffer addWords 0 mesh shape t words olds news))
+    abbrev Left : {W : Type 0} → (List W → W) → W → Bool → Step → (olds news here there : List W) → Type 0
+    Left addAll z b t olds news here there =
+        (here ≡ pick b (steppedBuffer addAll z mesh shape t words olds olds) olds) × (there ≡ pick b news (steppedBuffer addAll z mesh shape t words olds news))
 
-    stands : {b : Bool} → b ≡ inPlace k → (olds news here there : List ℕ) → Left b (ofKind k (length shape) step) olds news here there
-        → Left (inPlace (step .kind)) (stepOf (length shape) step) olds news here there
-    stands {b} q olds news here there =
+    stands : {W : Type 0} (addAll : List W → W) (z : W) {b : Bool} → b ≡ inPlace k → (olds news here there : List W)
+        → Left addAll z b (ofKind k (length shape) step) olds news here there → Left addAll z (inPlace (step .kind)) (stepOf (length shape) step) olds news here there
+    stands addAll z {b} q olds news here there =
         let p : b ≡ inPlace (step .kind) = q ∙ ap inPlace (sym e) in
-        transport (λ i. Left (p i) (ofKind (sym e i) (length shape) step) olds news here there)
+        transport (λ i. Left addAll z (p i) (ofKind (sym e i) (length shape) step) olds news here there)
 
     module _ (m : bridge.Moving (ofKind k (length shape) step)) (off on : DimLists)
         (p : lists shape off ≡ bridge.gathers (ofKind k (length shape) step) (length shape))
@@ -110,9 +112,10 @@ module _ {mesh shape : List ℕ} (step : code-step.Step) {words old new : ℕ} (
           × ((devices mesh * product shape ≤ old) × (devices mesh * words ≤ new)))
       move-requires = (move-asks of m off on p q, (move-words of m off on p q, (h .old-room, h .new-room)))
 
-      pub moved-so : false ≡ inPlace k → (olds news there : List ℕ) → there ≡ movedBuffer 0 mesh shape (lists shape off) (lists shape on) words olds news
-          → Left (inPlace (step .kind)) (stepOf (length shape) step) olds news olds there
-      moved-so b olds news there l = stands b olds news olds there (refl, l ∙ move-leaves of m off on p q olds news)
+      pub moved-so : {W : Type 0} (addAll : List W → W) (one : (a : W) → addAll (a ∷ []) ≡ a) (z : W) → false ≡ inPlace k → (olds news there : List W)
+          → there ≡ movedBuffer z mesh shape (lists shape off) (lists shape on) words olds news
+          → Left addAll z (inPlace (step .kind)) (stepOf (length shape) step) olds news olds there
+      moved-so addAll one z b olds news there l = stands addAll z b olds news olds there (refl, l ∙ move-leaves of m off on p q addAll one z olds news)
 
     module _ (L : List ℕ) (r : ofKind k (length shape) step ≡ allReduce L) where
       reducing : Stepping mesh shape (allReduce L) words old new
@@ -130,14 +133,14 @@ module _ {mesh shape : List ℕ} (step : code-step.Step) {words old new : ℕ} (
             room = h .old-room;
           }
 
-      pub reduced-so : true ≡ inPlace k → (olds news here : List ℕ) → here ≡ reducedBuffer addWords 0 mesh shape L olds
-          → Left (inPlace (step .kind)) (stepOf (length shape) step) olds news here news
+      pub reduced-so : {W : Type 0} (addAll : List W → W) (z : W) → true ≡ inPlace k → (olds news here : List W)
+          → here ≡ reducedBuffer addAll z mesh shape L olds → Left addAll z (inPlace (step .kind)) (stepOf (length shape) step) olds news here news
       unfolding sources
-      reduced-so b olds news here l =
-          stands b olds news here news (
-            l ∙ ap (λ (n : ℕ). tabulate mesh shape (made addWords (reducePlaces mesh L) (held 0 mesh shape olds)) ++ drop (devices mesh * n) olds)
+      reduced-so addAll z b olds news here l =
+          stands addAll z b olds news here news (
+            l ∙ ap (λ (n : ℕ). tabulate mesh shape (made addAll (reducePlaces mesh L) (held z mesh shape olds)) ++ drop (devices mesh * n) olds)
                 (sym (reducing .words-are))
-                ∙ ap (λ (t : Step). steppedBuffer addWords 0 mesh shape t words olds olds) (sym r),
+                ∙ ap (λ (t : Step). steppedBuffer addAll z mesh shape t words olds olds) (sym r),
             refl,
           )
 

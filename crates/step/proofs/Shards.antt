@@ -7,7 +7,6 @@ use lib.ListN.{drop}
 use Rattle.rules.specs.Lists.{product}
 use Rattle.rules.specs.Mesh.{devices}
 use Rattle.rules.specs.Sharding.{Sharding, shardSizes, IsSharding}
-use Rattle.rules.specs.Spread.{addWords}
 use Rattle.rules.specs.Collectives.{Step, after, shapeAfter, Shards, stepped, Stands, withShards}
 use Rattle.rules.specs.Refusals.{accept}
 use Rattle.rules.specs.PlanFile.{judgeStep}
@@ -46,11 +45,11 @@ stepping {mesh} {sizes} k {t} {s} w h e o n =
     }
 
 module _ {mesh shape : List ℕ} {t : Step} {words old new : ℕ} (h : Stepping mesh shape t words old new) where
-  pub leaves-shards : (v : Shards ℕ) → v .shape ≡ shape → (olds news : List ℕ) → Stands mesh v olds
-      → steppedBuffer addWords 0 mesh shape t words olds news ≡ withShards mesh (stepped addWords mesh t v) news
+  pub leaves-shards : {W : Type 0} (addAll : List W → W) (z : W) (v : Shards W) → v .shape ≡ shape → (olds news : List W) → Stands mesh v olds
+      → steppedBuffer addAll z mesh shape t words olds news ≡ withShards mesh (stepped addAll mesh t v) news
   unfolding stepped
-  leaves-shards v q olds news st =
+  leaves-shards {W} addAll z v q olds news st =
       let r : Ready mesh t (v .shape) = subst (Ready mesh t) (h .shape-is ∙ sym q) (step-ready mesh (h .sizes) (sizes-pos h) t (h .before) (h .sharding)
       (facts mesh (h .sizes) (h .number) t (h .before) (h .next) (h .judged) .0)) in
-      (λ i. steppedBuffer addWords 0 mesh (sym q i) t (h .words-are i) olds news)
-      ∙ ap₂ (λ (b : List ℕ) (shape : List ℕ). b ++ drop (devices mesh * product (shapeAfter mesh t shape)) news) (step-stands mesh addWords 0 t v olds r st) (sym q)
+      (λ i. steppedBuffer addAll z mesh (sym q i) t (h .words-are i) olds news)
+      ∙ ap₂ (λ (b : List W) (shape : List ℕ). b ++ drop (devices mesh * product (shapeAfter mesh t shape)) news) (step-stands mesh addAll z t v olds r st) (sym q)

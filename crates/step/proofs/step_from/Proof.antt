@@ -1,7 +1,8 @@
 use borrow.Author.Needs.{needs}
 use mathlib.Core.Path.{refl, sym, ap}
+use Rattle.rules.specs.Spread.{addWords}
 use Rattle.rules.specs.Collectives.{allReduce}
-use Rattle.step.proofs.Kernels.{nowhere, move-requires, moved-so, reduce-requires, reduced-so, at-source, at-target}
+use Rattle.step.proofs.Kernels.{one-word, nowhere, move-requires, moved-so, reduce-requires, reduced-so, at-source, at-target}
 use Rattle.step.proofs.step_from.Statement.{statement}
 use Rattle.step.proofs.step_from.Tie as tie
 
@@ -44,16 +45,16 @@ step-from-spec =
     (λ c. let s = c .before .before .before .before .before .before .before .before .before .before .before .before .before .before in
     let e = c .before .before .before .before .before .enum-told .given .1 in
     let z = c .before .before .before .before .before .before .before .empty .ensures in
-    moved-so (s .args .step) (s .pre) e tt _ _ (nowhere (s .args .step) (s .pre) _ z) refl refl _ _ _ (c .before .before .move-into .ensures))
+    moved-so (s .args .step) (s .pre) e tt _ _ (nowhere (s .args .step) (s .pre) _ z) refl addWords one-word 0 refl _ _ _ (c .before .before .move-into .ensures))
     (λ c. search needs)
     (λ c. search needs)
     (λ c. let s = c .before .before .before .before .before .before .before .before .before .before .before .before .before .before in
     let e = c .before .before .before .before .before .enum-told2 .given .1 in
     let z = c .before .before .before .before .before .before .before .empty .ensures in
-    moved-so (s .args .step) (s .pre) e tt _ _ refl (nowhere (s .args .step) (s .pre) _ z) refl _ _ _ (c .before .before .move-into2 .ensures))
+    moved-so (s .args .step) (s .pre) e tt _ _ refl (nowhere (s .args .step) (s .pre) _ z) addWords one-word 0 refl _ _ _ (c .before .before .move-into2 .ensures))
     (λ c. search needs)
     (λ c. let s = c .before .before .before .before .before .before .before .before .before .before .before .before .before in
-    reduced-so (s .args .step) (s .pre) (c .before .before .before .before .enum-told3 .given .1) _ refl refl _ _ _ (c .before .before .reduce-in .ensures))
+    reduced-so (s .args .step) (s .pre) (c .before .before .before .before .enum-told3 .given .1) _ refl addWords 0 refl _ _ _ (c .before .before .reduce-in .ensures))
     (λ c. search needs)
     (λ c. search needs)
     (λ c. let s = c .before .before .before .before .before .before .before .before .before .before .before .before .before .before .before .before in
@@ -61,7 +62,7 @@ step-from-spec =
     let z = c .before .before .before .before .before .before .before .before .before .empty .ensures in
     let p = at-source (s .args .step) (s .pre) e _ z _ (c .before .before .before .before .before .before .with .ensures) in
     let q = at-target (s .args .step) (s .pre) e _ z _ (c .before .before .before .before .before .with2 .ensures) in
-    moved-so (s .args .step) (s .pre) e tt _ _ p q refl _ _ _ (c .before .before .move-into3 .ensures))
+    moved-so (s .args .step) (s .pre) e tt _ _ p q addWords one-word 0 refl _ _ _ (c .before .before .move-into3 .ensures))
     (λ c. search needs)
     (λ c. let s = c .before .before .before .before .before .before .before .before .before .before .before .before .before .before in
-    reduced-so (s .args .step) (s .pre) (c .before .before .before .before .before .enum-told5 .given .1) _ (ap allReduce (sym (c .before .before .before .empty2 .ensures))) refl _ _ _ (c .before .before .reduce-in2 .ensures)))
+    reduced-so (s .args .step) (s .pre) (c .before .before .before .before .before .enum-told5 .given .1) _ (ap allReduce (sym (c .before .before .before .empty2 .ensures))) addWords 0 refl _ _ _ (c .before .before .reduce-in2 .ensures)))
