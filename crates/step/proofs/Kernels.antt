@@ -133,15 +133,16 @@ module _ {mesh shape : List ℕ} (step : code-step.Step) {words old new : ℕ} (
             room = h .old-room;
           }
 
-      pub reduced-so : {W : Type 0} (addAll : List W → W) (z : W) → true ≡ inPlace k → (olds news here : List W)
-          → here ≡ reducedBuffer addAll z mesh shape L olds → Left addAll z (inPlace (step .kind)) (stepOf (length shape) step) olds news here news
+      pub reduced-so : {W : Type 0} (addAll : List W → W) (z : W) → true ≡ inPlace k → (olds news here there : List W)
+          → (here ≡ reducedBuffer addAll z mesh shape L olds) × (there ≡ news)
+          → Left addAll z (inPlace (step .kind)) (stepOf (length shape) step) olds news here there
       unfolding sources
-      reduced-so addAll z b olds news here l =
-          stands addAll z b olds news here news (
-            l ∙ ap (λ (n : ℕ). tabulate mesh shape (made addAll (reducePlaces mesh L) (held z mesh shape olds)) ++ drop (devices mesh * n) olds)
+      reduced-so addAll z b olds news here there l =
+          stands addAll z b olds news here there (
+            l .0 ∙ ap (λ (n : ℕ). tabulate mesh shape (made addAll (reducePlaces mesh L) (held z mesh shape olds)) ++ drop (devices mesh * n) olds)
                 (sym (reducing .words-are))
                 ∙ ap (λ (t : Step). steppedBuffer addAll z mesh shape t words olds olds) (sym r),
-            refl,
+            l .1,
           )
 
   -- one list at a dimension

@@ -4,7 +4,8 @@ ghost use mathlib.Core.Path.{_≡_};
 ghost use lib.ListN.{length};
 ghost use Rattle.rules.specs.Lists.{pick};
 ghost use Rattle.rules.specs.Spread.{addWords};
-ghost use Rattle.rules.specs.Types.{stepOf};
+ghost use Rattle.rules.specs.Types.{axesOf, stepOf};
+ghost use Rattle.sums.specs.Sums.{Reducing, reducedBuffer};
 ghost use Rattle.step.specs.Stepping.{Stepping, steppedBuffer, inPlace};
 use moves::move_into;
 use rules::AxisList;
@@ -24,6 +25,15 @@ pub fn in_place(kind: Kind) -> bool
         Kind::AllToAll => false,
         Kind::Unknown => true,
     }
+}
+
+// All-reduce in the buffer of the old state. The other buffer, lent as it is to every step, stays.
+fn reduce_here(here: &mut [u32], there: &mut [u32], mesh: &[u16], shape: &[u16], axes: AxisList)
+    requires { ⌜ Reducing (now mesh) (now shape) (axesOf axes) (length (now here)) ⌝ }
+    ensures { λ _. ⌜ now (here .exit) ≡ reducedBuffer addWords 0 (now (mesh .entry)) (now (shape .entry)) (axesOf axes) (now (here .entry)) ⌝ }
+    ensures { λ _. ⌜ now (there .exit) ≡ now (there .entry) ⌝ }
+{
+    reduce_in(here, mesh, shape, axes);
 }
 
 // From the state at the front of here, the new one, of shards of the given words: at the front of here where the step is done in place, else at the
@@ -49,12 +59,12 @@ pub fn step_from(
     match kind {
         Kind::AllSlice => move_into(here, there, mesh, shape, none, lists, words),
         Kind::AllGather => move_into(here, there, mesh, shape, lists, none, words),
-        Kind::AllReduce => reduce_in(here, mesh, shape, list),
+        Kind::AllReduce => reduce_here(here, there, mesh, shape, list),
         Kind::AllToAll => {
             let off = none.with(step.source, list);
             let on = none.with(step.target, list);
             move_into(here, there, mesh, shape, off, on, words)
         }
-        Kind::Unknown => reduce_in(here, mesh, shape, AxisList::empty()),
+        Kind::Unknown => reduce_here(here, there, mesh, shape, AxisList::empty()),
     }
 }

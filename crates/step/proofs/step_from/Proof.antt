@@ -25,8 +25,8 @@ step-from-spec =
     let z = c .before .before .before .before .empty .ensures in
     move-requires (s .args .step) (s .pre) e tt _ _ refl (nowhere (s .args .step) (s .pre) _ z))
     (λ c. search needs)
-    (λ c κs. let s = c .before .before .before .before .before .before .before .before .before .before in
-    reduce-requires (s .args .step) (s .pre) (c .before .enum-told3 .given .1) _ refl)
+    (λ c κs. let s = c .before .before .before .before .before .before .before .before .before .before .before in
+    reduce-requires (s .args .step) (s .pre) (c .before .before .enum-told3 .given .1) _ refl)
     (λ c. search needs)
     (λ c κs. search needs)
     (λ c κs. search needs)
@@ -38,8 +38,8 @@ step-from-spec =
     move-requires (s .args .step) (s .pre) e tt _ _ p q)
     (λ c. search needs)
     (λ c κs. search needs)
-    (λ c κs. let s = c .before .before .before .before .before .before .before .before .before .before .before in
-    reduce-requires (s .args .step) (s .pre) (c .before .before .enum-told5 .given .1) _ (ap allReduce (sym (c .empty2 .ensures))))
+    (λ c κs. let s = c .before .before .before .before .before .before .before .before .before .before .before .before in
+    reduce-requires (s .args .step) (s .pre) (c .before .before .before .enum-told5 .given .1) _ (ap allReduce (sym (c .empty2 .ensures))))
     (λ c. search needs)
     (λ c. search needs)
     (λ c. let s = c .before .before .before .before .before .before .before .before .before .before .before .before .before .before in
@@ -53,8 +53,9 @@ step-from-spec =
     let z = c .before .before .before .before .before .before .before .empty .ensures in
     moved-so (s .args .step) (s .pre) e tt _ _ refl (nowhere (s .args .step) (s .pre) _ z) addWords one-word 0 refl _ _ _ (c .before .before .move-into2 .ensures))
     (λ c. search needs)
-    (λ c. let s = c .before .before .before .before .before .before .before .before .before .before .before .before .before in
-    reduced-so (s .args .step) (s .pre) (c .before .before .before .before .enum-told3 .given .1) _ refl addWords 0 refl _ _ _ (c .before .before .reduce-in .ensures))
+    (λ c. search needs)
+    (λ c. let s = c .before .before .before .before .before .before .before .before .before .before .before .before .before .before .before .before in
+    reduced-so (s .args .step) (s .pre) (c .before .before .before .before .before .before .before .enum-told3 .given .1) _ refl addWords 0 refl _ _ _ _ (c .before .before .before .before .reduce-here .ensures))
     (λ c. search needs)
     (λ c. search needs)
     (λ c. let s = c .before .before .before .before .before .before .before .before .before .before .before .before .before .before .before .before in
@@ -64,5 +65,6 @@ step-from-spec =
     let q = at-target (s .args .step) (s .pre) e _ z _ (c .before .before .before .before .before .with2 .ensures) in
     moved-so (s .args .step) (s .pre) e tt _ _ p q addWords one-word 0 refl _ _ _ (c .before .before .move-into3 .ensures))
     (λ c. search needs)
-    (λ c. let s = c .before .before .before .before .before .before .before .before .before .before .before .before .before .before in
-    reduced-so (s .args .step) (s .pre) (c .before .before .before .before .before .enum-told5 .given .1) _ (ap allReduce (sym (c .before .before .before .empty2 .ensures))) addWords 0 refl _ _ _ (c .before .before .reduce-in2 .ensures)))
+    (λ c. search needs)
+    (λ c. let s = c .before .before .before .before .before .before .before .before .before .before .before .before .before .before .before .before .before in
+    reduced-so (s .args .step) (s .pre) (c .before .before .before .before .before .before .before .before .enum-told5 .given .1) _ (ap allReduce (sym (c .before .before .before .before .before .empty2 .ensures))) addWords 0 refl _ _ _ _ (c .before .before .before .before .reduce-here2 .ensures)))
