@@ -3,9 +3,13 @@
 use Prim.Native.Nat.{ℕ, _+_}
 use mathlib.Core.Path.{_≡_, refl}
 use mathlib.Core.List.{List, [], _∷_}
+use native.Mathlib.Omega.{arith}
 use lib.ListN.{length, set, take}
-use Rattle.rules.specs.Lists.{tab, All, done, _&_}
+use lib.Dec.{lit<}
+use Rattle.rules.specs.Lists.{tab, All, done, _&_, none, more}
+use Rattle.rules.specs.Mesh.{number}
 use Rattle.rules.specs.Sharding.{Sharding}
+use Rattle.rules.specs.Spread.{Faithful, addWords}
 use Rattle.rules.specs.Refusals.{Judged, accept, refuse}
 use Rattle.rules.specs.PlanFile.{judgeBy}
 use Rattle.rules.specs.Calls.{CheckAnswer, checkOf, PlaceAnswer, placeOf, runOf}
@@ -123,3 +127,12 @@ FirstEdition =
 pub first-edition : FirstEdition
 unfolding fileIn fileOf judgeBy
 first-edition = (refl, refl)
+
+-- ---- "For demand 3 these axes count as replicated."
+
+-- Mesh 2, one word a device, each device its own number: no faithful spread of any table where axis 0 is replicated, named as such or not.
+pub unequal : (replicated : List ℕ) (table : List ℕ → ℕ)
+    → ¬ Faithful addWords (2 ∷ []) (shardingOf [] [] replicated) (1 ∷ []) table (λ x i. number (2 ∷ []) x)
+unequal replicated table f =
+    let e : _≡_ {A = ℕ} 0 1 = f .same (0 ∷ []) (1 ∷ []) (0 ∷ []) (more (lit< tt) none) (more (lit< tt) none) (more (lit< tt) none) (λ a i. absurd i) in
+    omega (arith, e)
