@@ -5,7 +5,6 @@ ghost use mathlib.Core.List.{List, [], _∷_, _++_};
 ghost use Prim.Native.Nat.{ℕ, _+_, _<_, _≤_};
 ghost use lib.ListN.{length, getD, set, replicate};
 ghost use Rattle.rules.specs.Limits.{mostAxes, mostDevices, mostDims, mostWords, mostSteps, leastBytes, mostBytes};
-ghost use Rattle.rules.specs.Refusals.{numberOf};
 ghost use Rattle.rules.specs.Types.{axesOf, meshOf, dimsOf, listFrom};
 
 // An axis number of a mesh.
@@ -190,48 +189,6 @@ pub enum Reason {
     NoSuchDevice,
     OutputTooShort,
     NoSuchState,
-}
-
-impl Reason {
-    // The refusal number.
-    pub fn number(self) -> u8
-        ensures { λ n. ⌜ n ≡ numberOf self ⌝ }
-    {
-        match self {
-            Reason::FileTooShort => 1,
-            Reason::FileTooLong => 2,
-            Reason::UnknownEdition => 3,
-            Reason::WrongLength => 4,
-            Reason::CountOutsideLimits => 5,
-            Reason::WrongOffset => 6,
-            Reason::SectionPastEnd => 7,
-            Reason::ListTooLong => 8,
-            Reason::BytesLeft => 9,
-            Reason::MeshSizeZero => 10,
-            Reason::TooManyDevices => 11,
-            Reason::TensorSizeZero => 12,
-            Reason::TooManyWords => 13,
-            Reason::StartAxisTooLarge => 14,
-            Reason::StartAxisRepeated => 15,
-            Reason::StartNotIncreasing => 16,
-            Reason::StartNotDivisible => 17,
-            Reason::ReplicatedEmpty => 18,
-            Reason::UnknownKind => 20,
-            Reason::NoAxis => 21,
-            Reason::AxisTooLarge => 22,
-            Reason::NotReplicated => 23,
-            Reason::NotTail => 24,
-            Reason::ShardNotDivisible => 25,
-            Reason::NotIncreasing => 26,
-            Reason::NotUnreduced => 27,
-            Reason::WrongDims => 28,
-            Reason::WorkTooShort => 30,
-            Reason::SpareTooShort => 31,
-            Reason::NoSuchDevice => 32,
-            Reason::OutputTooShort => 33,
-            Reason::NoSuchState => 34,
-        }
-    }
 }
 
 // A refusal: a reason, and the step that it is given in, counted from 1; 0 outside the steps.

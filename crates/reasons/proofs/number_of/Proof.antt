@@ -1,8 +1,8 @@
 use borrow.Author.Needs.{needs}
-use Rattle.rules.proofs.Reason.number.Statement.{statement}
-use Rattle.rules.proofs.Reason.number.Tie as tie
-use Rattle.rules.proofs.Reason.number.Reads as reads
-use Rattle.rules.proofs.Reason.number.Lts as lts
+use Rattle.reasons.proofs.number_of.Statement.{statement}
+use Rattle.reasons.proofs.number_of.Tie as tie
+use Rattle.reasons.proofs.number_of.Reads as reads
+use Rattle.reasons.proofs.number_of.Lts as lts
 
 enum-told : tie.Need-enum-told
 enum-told c = search needs
@@ -196,8 +196,8 @@ returns-31 c = simp (c .enum-told31 .given .1)
 returns-32 : tie.Need-returns-32
 returns-32 c = simp (c .enum-told32 .given .1)
 
-pub number-spec : {M : Type 1} → statement M
-number-spec =
+pub number-of-spec : {M : Type 1} → statement M
+number-of-spec =
     tie.close
     (tie.spec
     enum-told
