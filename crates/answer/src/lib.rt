@@ -11,6 +11,7 @@ use ishkrela::Refusal;
 use ishkrela::check;
 use libc::STDOUT_FILENO;
 use plan::state_after;
+use reasons::number_of;
 use rules::Table;
 
 fn print_number(n: u64) {
@@ -22,7 +23,7 @@ pub fn print_refusal(refusal: Refusal) -> u8
     ensures { λ r. ⌜ r ≡ numberOf (refusal .reason) ⌝ }
 {
     let reason = refusal.reason;
-    let number = reason.number();
+    let number = number_of(reason);
     io::write_all(STDOUT_FILENO, b"no ");
     print_number(number as u64);
     io::write_all(STDOUT_FILENO, b" ");

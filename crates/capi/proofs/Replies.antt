@@ -1,4 +1,4 @@
--- Laws of the boundary: the five lists, all and one by one, their places, and the library's answers in numbers (`check-told`, `place-told`).
+-- Laws of the boundary: the six lists, all and one by one, their places, and the library's answers in numbers (`check-told`, `place-told`).
 -- Assumes nothing.
 use Prim.Native.Nat.{ℕ, zero, suc, _+_, _*_, _/_, _%_, _<_, _≤_}
 use mathlib.Core.Path.{_≡_, refl, sym, ap, subst, _∙_}
@@ -10,7 +10,7 @@ use Rattle.rules.specs.Lists.{tab}
 use Rattle.rules.specs.Limits.{mostAxes, mostDims}
 use Rattle.rules.specs.Sharding.{Sharding}
 use Rattle.rules.specs.Refusals.{Judged, accept, refuse}
-use Rattle.rules.specs.Types.{axesOf, dimsOf, shardingOf, fourPlaces, listFrom, shardingFrom}
+use Rattle.rules.specs.Types.{axesOf, dimsOf, shardingOf, fourPlaces, listFrom, listsFrom, shardingFrom}
 use Rattle.rules.specs.Calls.{CheckAnswer, checkOf, checkedOf, PlaceAnswer, placeOf, placedOf}
 use Rattle.rules.specs.Promises.{CheckPromise, PlacePromise}
 use Rattle.rules.specs.declared.Checked.{Checked}
@@ -22,12 +22,15 @@ use Rattle.rules.specs.declared.PlaceOutcome.the-variants as place
 use Rattle.rules.proofs.Lists.{tab-cong}
 use Rattle.rules.proofs.Types.{list-axes}
 use Rattle.rules.proofs.Answers.{InPlaces, check-in-places, check-listed, place-in-places, place-listed}
-use Rattle.capi.specs.Boundary.{places, fiveLists, listOf, fiveCounts, axisIn, thirtyAxes, checkReply, placeReply, checkedReply, placedReply}
+use Rattle.capi.specs.Boundary.{places, listsOf, listOf, axisIn, shardingReply, checkReply, placeReply, checkedReply, placedReply}
 
--- ---- the five lists
+-- ---- the six lists
 
-pub list-last : (s : Sharding) (d : ℕ) → d ≡ mostDims → s .unreduced ≡ listOf s d
-list-last s d e = rw e refl
+pub list-unreduced : (s : Sharding) (d : ℕ) → d ≡ mostDims → s .unreduced ≡ listOf s d
+list-unreduced s d e = rw e refl
+
+pub list-replicated : (s : Sharding) (d : ℕ) → d ≡ mostDims + 1 → s .replicated ≡ listOf s d
+list-replicated s d e = rw e refl
 
 pub list-dim : (s : Sharding) (d : ℕ) → d < mostDims → getD (s .dims) d [] ≡ listOf s d
 list-dim s zero h = refl
@@ -36,25 +39,25 @@ list-dim s (suc (suc zero)) h = refl
 list-dim s (suc (suc (suc zero))) h = refl
 list-dim s (suc (suc (suc (suc d)))) h = absurd (omega (arith, h))
 
--- the six places of a list among the thirty
+-- the six places of a list among all
 pub six-places : (s : Sharding) (d : ℕ) (l : List ℕ) → l ≡ listOf s d
     → tab mostAxes (λ i. getD l i 0) ≡ tab mostAxes (λ i. axisIn s (d * mostAxes + i))
 six-places s d l e =
     tab-cong mostAxes (λ i. getD l i 0) (λ i. axisIn s (d * mostAxes + i)) (λ i h. rw (digits-div d h, digits-mod d h, e))
 
--- the five lists of an answer of the library, where each has a place for its axes
+-- the lists of an answer of the library, where each has a place for its axes
 module _ {rank : ℕ} {s : Sharding} (f : InPlaces rank s) where
-  five-lists : fiveLists (shardingOf mostDims (shardingFrom s)) ≡ fiveLists s
-  unfolding dimsOf
-  five-lists =
+  lists-of : listsOf (shardingOf mostDims (shardingFrom s)) ≡ listsOf s
+  unfolding dimsOf listsFrom
+  lists-of =
       let list : (d : ℕ) → axesOf (listFrom (getD (s .dims) d [])) ≡ getD (s .dims) d [] = λ d. list-axes (getD (s .dims) d []) (f .lists-few d) in
-      (λ i. list 0 i ∷ list 1 i ∷ list 2 i ∷ list 3 i ∷ list-axes (s .unreduced) (f .unreduced-few) i ∷ [])
+      (λ i. list 0 i ∷ list 1 i ∷ list 2 i ∷ list 3 i ∷ list-axes (s .unreduced) (f .unreduced-few) i ∷ list-axes (s .replicated) (f .replicated-few) i ∷ [])
 
-  counts-of : fiveCounts (shardingOf mostDims (shardingFrom s)) ≡ fiveCounts s
-  counts-of = ap (λ (ls : List (List ℕ)). map (λ (l : List ℕ). length l) ls) five-lists
-
-  axes-of : thirtyAxes (shardingOf mostDims (shardingFrom s)) ≡ thirtyAxes s
-  axes-of = ap (λ (ls : List (List ℕ)). tab places (λ i. getD (getD ls (i / mostAxes) []) (i % mostAxes) 0)) five-lists
+  sharding-of : shardingReply (shardingOf mostDims (shardingFrom s)) ≡ shardingReply s
+  sharding-of =
+      let counts : List (List ℕ) → List ℕ = λ ls. map (λ (l : List ℕ). length l) ls in
+      let axes : List (List ℕ) → List ℕ = λ ls. tab places (λ i. getD (getD ls (i / mostAxes) []) (i % mostAxes) 0) in
+      (λ i. record { counts = counts (lists-of i); axes = axes (lists-of i) })
 
 -- ---- the library's answers, in numbers
 
@@ -79,8 +82,7 @@ module _ (file : List ℕ) where
           steps = a .steps;
           rank = a .rank;
           shard = fourPlaces 0 (a .shard);
-          counts = counts-of f i;
-          axes = axes-of f i;
+          sharding = sharding-of f i;
         }),
         f .rank-few,
       )
@@ -104,8 +106,7 @@ module _ (file : List ℕ) (state device : ℕ) where
           rank = a .rank;
           shard = fourPlaces 0 (a .shard);
           first = fourPlaces 0 (a .first);
-          counts = counts-of f i;
-          axes = axes-of f i;
+          sharding = sharding-of f i;
         }),
         f .rank-few,
       )

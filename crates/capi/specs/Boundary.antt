@@ -15,6 +15,7 @@ use Rattle.rules.specs.declared.CheckOutcome.the-variants as check
 use Rattle.rules.specs.declared.Placed.{Placed}
 use Rattle.rules.specs.declared.PlaceOutcome.{PlaceOutcome}
 use Rattle.rules.specs.declared.PlaceOutcome.the-variants as place
+use Rattle.capi.specs.declared.ShardingReply.{ShardingReply}
 use Rattle.capi.specs.declared.CheckReply.{CheckReply}
 use Rattle.capi.specs.declared.PlaceReply.{PlaceReply}
 
@@ -25,28 +26,35 @@ refusalCode (refuse n k) = n + 256 * k
 
 -- how many lists a sharding has, and the places of their axes
 abbrev pub lists : ℕ
-lists = mostDims + 1
+lists = mostDims + 2
 
 abbrev pub places : ℕ
 places = lists * mostAxes
 
--- five lists: those of dimensions 0 to 3, no axes past the rank, then the unreduced axes
-abbrev pub fiveLists : Sharding → List (List ℕ)
-fiveLists s = fourPlaces [] (s .dims) ++ s .unreduced ∷ []
+-- six lists: those of dimensions 0 to 3, no axes past the rank, then the unreduced axes, then the replicated ones
+abbrev pub listsOf : Sharding → List (List ℕ)
+listsOf s = fourPlaces [] (s .dims) ++ s .unreduced ∷ s .replicated ∷ []
 
 abbrev pub listOf : Sharding → ℕ → List ℕ
-listOf s d = getD (fiveLists s) d []
+listOf s d = getD (listsOf s) d []
 
 -- how many axes each list has
-abbrev pub fiveCounts : Sharding → List ℕ
-fiveCounts s = map length (fiveLists s)
+abbrev pub listCounts : Sharding → List ℕ
+listCounts s = map length (listsOf s)
 
 -- the axes of each list, in six places; places not used are 0
 abbrev pub axisIn : Sharding → ℕ → ℕ
 axisIn s i = getD (listOf s (i / mostAxes)) (i % mostAxes) 0
 
-abbrev pub thirtyAxes : Sharding → List ℕ
-thirtyAxes s = tab places (axisIn s)
+abbrev pub listAxes : Sharding → List ℕ
+listAxes s = tab places (axisIn s)
+
+-- a sharding; and none, beside a refusal
+abbrev pub shardingReply : Sharding → ShardingReply
+shardingReply s = record { counts = listCounts s; axes = listAxes s }
+
+abbrev pub noSharding : ShardingReply
+noSharding = record { counts = replicate lists 0; axes = replicate places 0 }
 
 -- the check's answer; every field but the refusal is 0 where there is one
 abbrev pub checkReply : Judged CheckAnswer → CheckReply
@@ -57,8 +65,7 @@ checkReply (accept a) = record {
   steps = a .steps;
   rank = a .rank;
   shard = fourPlaces 0 (a .shard);
-  counts = fiveCounts (a .sharding);
-  axes = thirtyAxes (a .sharding);
+  sharding = shardingReply (a .sharding);
 }
 checkReply (refuse n k) = record {
   refusal = n + 256 * k;
@@ -67,8 +74,7 @@ checkReply (refuse n k) = record {
   steps = 0;
   rank = 0;
   shard = replicate mostDims 0;
-  counts = replicate lists 0;
-  axes = replicate places 0;
+  sharding = noSharding;
 }
 
 -- the placement's answer, in the same way
@@ -78,16 +84,14 @@ placeReply (accept a) = record {
   rank = a .rank;
   shard = fourPlaces 0 (a .shard);
   first = fourPlaces 0 (a .first);
-  counts = fiveCounts (a .sharding);
-  axes = thirtyAxes (a .sharding);
+  sharding = shardingReply (a .sharding);
 }
 placeReply (refuse n k) = record {
   refusal = n + 256 * k;
   rank = 0;
   shard = replicate mostDims 0;
   first = replicate mostDims 0;
-  counts = replicate lists 0;
-  axes = replicate places 0;
+  sharding = noSharding;
 }
 
 -- ---- the same numbers, from the library's own answers
@@ -100,8 +104,7 @@ checkedReply (check.Passed t) c = record {
   steps = t .steps;
   rank = t .rank;
   shard = c .shard;
-  counts = fiveCounts (shardingOf mostDims (c .sharding));
-  axes = thirtyAxes (shardingOf mostDims (c .sharding));
+  sharding = shardingReply (shardingOf mostDims (c .sharding));
 }
 checkedReply (check.Refused r) c = checkReply (refusedBy r)
 
@@ -111,7 +114,6 @@ placedReply (place.Found rank) c = record {
   rank = rank;
   shard = c .shard;
   first = c .first;
-  counts = fiveCounts (shardingOf mostDims (c .sharding));
-  axes = thirtyAxes (shardingOf mostDims (c .sharding));
+  sharding = shardingReply (shardingOf mostDims (c .sharding));
 }
 placedReply (place.Refused r) c = placeReply (refusedBy r)

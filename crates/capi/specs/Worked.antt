@@ -1,28 +1,27 @@
--- Answers for C that the prover computes, every place of them: a check with lists at three of the five places, the placement of W4,
+-- Answers for C that the prover computes, every place of them: a check with lists at four of the six places, the placement of W4,
 -- and refusals with and without a step. Assumes nothing.
 use Prim.Native.Nat.{ℕ}
 use mathlib.Core.Path.{_≡_, refl}
 use mathlib.Core.List.{List, [], _∷_, _++_}
 use lib.ListN.{replicate}
 use Rattle.rules.specs.Calls.{checkOf, placeOf, groupsOf}
-use Rattle.rules.specs.Ledger.{fileOf, w4}
+use Rattle.rules.specs.Ledger.{fileIn, fileOf, w4}
 use Rattle.capi.specs.Boundary.{refusalCode, checkReply, placeReply}
 
 abbrev zeros : ℕ → List ℕ
 zeros n = replicate n 0
 
--- mesh 2x2x2x2, table 4x2, sharding [[3, 0], [2]], unreduced [1], no steps
-split : checkReply (checkOf (fileOf (2 ∷ 2 ∷ 2 ∷ 2 ∷ []) (4 ∷ 2 ∷ []) ((3 ∷ 0 ∷ []) ∷ (2 ∷ []) ∷ (1 ∷ []) ∷ []) [])) ≡ record {
+-- mesh 2x2x2x2x2, table 4x2, sharding [[3, 0], [2]], unreduced [1], replicated [4], no steps
+split : checkReply (checkOf (fileIn 2 (replicate 5 2) (4 ∷ 2 ∷ []) ((3 ∷ 0 ∷ []) ∷ (2 ∷ []) ∷ (1 ∷ []) ∷ (4 ∷ []) ∷ []) [])) ≡ record {
   refusal = 0;
-  room = 16;
-  devices = 16;
+  room = 32;
+  devices = 32;
   steps = 0;
   rank = 2;
   shard = 1 ∷ 1 ∷ 0 ∷ 0 ∷ [];
-  counts = 2 ∷ 1 ∷ 0 ∷ 0 ∷ 1 ∷ [];
-  axes = (3 ∷ zeros 5) ++ (2 ∷ zeros 17) ++ (1 ∷ zeros 5);
+  sharding = record { counts = 2 ∷ 1 ∷ 0 ∷ 0 ∷ 1 ∷ 1 ∷ []; axes = (3 ∷ zeros 5) ++ (2 ∷ zeros 17) ++ (1 ∷ zeros 5) ++ (4 ∷ zeros 5) };
 }
-unfolding fileOf checkOf
+unfolding fileIn checkOf
 split = refl
 
 -- W4: device 1 starts at 2
@@ -31,8 +30,7 @@ starts : placeReply (placeOf (w4 []) 0 1) ≡ record {
   rank = 1;
   shard = 1 ∷ 0 ∷ 0 ∷ 0 ∷ [];
   first = 2 ∷ 0 ∷ 0 ∷ 0 ∷ [];
-  counts = 2 ∷ 0 ∷ 0 ∷ 0 ∷ 0 ∷ [];
-  axes = 1 ∷ zeros 29;
+  sharding = record { counts = 2 ∷ zeros 5; axes = 1 ∷ zeros 35 };
 }
 unfolding fileOf placeOf
 starts = refl
@@ -45,8 +43,7 @@ not-tail : checkReply (checkOf (w4 ((2 ∷ 1 ∷ 1 ∷ []) ∷ []))) ≡ record 
   steps = 0;
   rank = 0;
   shard = zeros 4;
-  counts = zeros 5;
-  axes = zeros 30;
+  sharding = record { counts = zeros 6; axes = zeros 36 };
 }
 unfolding fileOf checkOf
 not-tail = refl

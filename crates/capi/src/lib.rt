@@ -1,14 +1,14 @@
 // The library's calls for C, Rust and Python; include/ishkrela.h declares them.
 // What they answer is defined in specs/Boundary.antt, from the definitions of the library's calls (rules/specs/Calls.antt).
 ghost use mathlib.Core.Path.{_≡_};
-ghost use Prim.Native.Nat.{_≤_, _+_, _*_};
+ghost use Prim.Native.Nat.{_≤_, _<_, _+_, _*_};
 ghost use lib.ListN.{length, getD};
 ghost use Rattle.rules.specs.Lists.{tab};
 ghost use Rattle.rules.specs.Limits.{mostAxes, mostDims};
 ghost use Rattle.rules.specs.Refusals.{numberOf, refusedBy};
 ghost use Rattle.rules.specs.Types.{axesOf, shardingOf};
 ghost use Rattle.rules.specs.Calls.{checkOf, placeOf, groupsOf, groupsLeave, runOf};
-ghost use Rattle.capi.specs.Boundary.{refusalCode, listOf, fiveCounts, thirtyAxes, checkReply, placeReply, checkedReply, placedReply};
+ghost use Rattle.capi.specs.Boundary.{refusalCode, lists, listOf, listCounts, listAxes, shardingReply, noSharding, checkReply, placeReply, checkedReply, placedReply};
 use ishkrela::Axis;
 use ishkrela::AxisList;
 use ishkrela::CheckOutcome;
@@ -22,12 +22,20 @@ use ishkrela::Refusal;
 use ishkrela::RunOutcome;
 use ishkrela::Sharding;
 use ishkrela::Totals;
+use reasons::number_of;
 
-// A list for each dimension, and the unreduced axes.
-const LISTS: usize = Dim::MOST + 1;
+// A list for each dimension, the unreduced axes, and the replicated ones.
+const LISTS: usize = Dim::MOST + 2;
 
 // The places of their axes.
 const PLACES: usize = LISTS * Axis::MOST;
+
+// C's ishkrela_sharding: how many axes each list has, and the axes of each in six places.
+#[repr(C)]
+pub struct ShardingReply {
+    pub counts: [u8; LISTS],
+    pub axes: [u8; PLACES],
+}
 
 // C's ishkrela_checked: the numbers that stand for the check's answer.
 #[repr(C)]
@@ -38,8 +46,7 @@ pub struct CheckReply {
     pub steps: u16,
     pub rank: u16,
     pub shard: [u16; Dim::MOST],
-    pub counts: [u8; LISTS],
-    pub axes: [u8; PLACES],
+    pub sharding: ShardingReply,
 }
 
 // C's ishkrela_placed: the numbers that stand for the placement's answer.
@@ -49,8 +56,7 @@ pub struct PlaceReply {
     pub rank: u16,
     pub shard: [u16; Dim::MOST],
     pub first: [u16; Dim::MOST],
-    pub counts: [u8; LISTS],
-    pub axes: [u8; PLACES],
+    pub sharding: ShardingReply,
 }
 
 // The refusal as one number.
@@ -58,31 +64,35 @@ fn code_of(refusal: Refusal) -> u32
     ensures { λ r. ⌜ r ≡ numberOf (refusal .reason) + 256 * refusal .step ⌝ }
 {
     let reason = refusal.reason;
-    let number = reason.number();
+    let number = number_of(reason);
     number as u32 + 256 * (refusal.step as u32)
 }
 
-// One of the five lists: that of a dimension, the unreduced axes last.
+// One of the six lists: that of a dimension, then the unreduced axes, then the replicated ones.
 fn list_of(sharding: Sharding, d: usize) -> AxisList
-    requires { ⌜ d ≤ mostDims ⌝ }
+    requires { ⌜ d < lists ⌝ }
     ensures { λ r. ⌜ axesOf r ≡ listOf (shardingOf mostDims sharding) d ⌝ }
 {
     if d == Dim::MOST {
         return sharding.unreduced;
     }
-    sharding.list(Dim(d as u8))
+    if d == Dim::MOST + 1 {
+        return sharding.replicated;
+    }
+    let dims = sharding.dims;
+    dims.at(Dim(d as u8))
 }
 
 fn count_of(sharding: Sharding, d: usize) -> u8
-    requires { ⌜ d ≤ mostDims ⌝ }
+    requires { ⌜ d < lists ⌝ }
     ensures { λ r. ⌜ r ≡ length (listOf (shardingOf mostDims sharding) d) ⌝ }
 {
     let list = list_of(sharding, d);
     list.len() as u8
 }
 
-fn five_counts(sharding: Sharding) -> [u8; LISTS]
-    ensures { λ r. ⌜ r ≡ fiveCounts (shardingOf mostDims sharding) ⌝ }
+fn list_counts(sharding: Sharding) -> [u8; LISTS]
+    ensures { λ r. ⌜ r ≡ listCounts (shardingOf mostDims sharding) ⌝ }
 {
     [
         count_of(sharding, 0),
@@ -90,6 +100,7 @@ fn five_counts(sharding: Sharding) -> [u8; LISTS]
         count_of(sharding, 2),
         count_of(sharding, 3),
         count_of(sharding, 4),
+        count_of(sharding, 5),
     ]
 }
 
@@ -106,8 +117,8 @@ fn put_axes(places: &mut [u8], list: AxisList)
     }
 }
 
-fn thirty_axes(sharding: Sharding) -> [u8; PLACES]
-    ensures { λ r. ⌜ r ≡ thirtyAxes (shardingOf mostDims sharding) ⌝ }
+fn list_axes(sharding: Sharding) -> [u8; PLACES]
+    ensures { λ r. ⌜ r ≡ listAxes (shardingOf mostDims sharding) ⌝ }
 {
     let mut axes = [0u8; PLACES];
     let mut d: usize = 0;
@@ -120,9 +131,29 @@ fn thirty_axes(sharding: Sharding) -> [u8; PLACES]
     axes
 }
 
+// A sharding in numbers.
+fn sharding_reply(sharding: Sharding) -> ShardingReply
+    ensures { λ r. ⌜ r ≡ shardingReply (shardingOf mostDims sharding) ⌝ }
+{
+    let counts = list_counts(sharding);
+    let axes = list_axes(sharding);
+    ShardingReply { counts, axes }
+}
+
+// No axes, beside a refusal.
+fn no_sharding() -> ShardingReply
+    ensures { λ r. ⌜ r ≡ noSharding ⌝ }
+{
+    ShardingReply {
+        counts: [0; LISTS],
+        axes: [0; PLACES],
+    }
+}
+
 fn check_refused(refusal: Refusal) -> CheckReply
     ensures { λ r. ⌜ r ≡ checkReply (refusedBy refusal) ⌝ }
 {
+    let sharding = no_sharding();
     CheckReply {
         refusal: code_of(refusal),
         room: 0,
@@ -130,8 +161,7 @@ fn check_refused(refusal: Refusal) -> CheckReply
         steps: 0,
         rank: 0,
         shard: [0; Dim::MOST],
-        counts: [0; LISTS],
-        axes: [0; PLACES],
+        sharding,
     }
 }
 
@@ -139,10 +169,8 @@ fn check_passed(totals: Totals, checked: Checked) -> CheckReply
     requires { ⌜ totals .rank ≤ mostDims ⌝ }
     ensures { λ r. ⌜ r ≡ checkedReply (CheckOutcome.Passed totals) checked ⌝ }
 {
-    let sharding = checked.sharding;
+    let sharding = sharding_reply(checked.sharding);
     let shard = checked.shard;
-    let counts = five_counts(sharding);
-    let axes = thirty_axes(sharding);
     CheckReply {
         refusal: 0,
         room: totals.room,
@@ -150,8 +178,7 @@ fn check_passed(totals: Totals, checked: Checked) -> CheckReply
         steps: totals.steps,
         rank: totals.rank as u16,
         shard,
-        counts,
-        axes,
+        sharding,
     }
 }
 
@@ -171,13 +198,13 @@ pub extern "C" fn ishkrela_check(file: &[u8]) -> CheckReply
 fn place_refused(refusal: Refusal) -> PlaceReply
     ensures { λ r. ⌜ r ≡ placeReply (refusedBy refusal) ⌝ }
 {
+    let sharding = no_sharding();
     PlaceReply {
         refusal: code_of(refusal),
         rank: 0,
         shard: [0; Dim::MOST],
         first: [0; Dim::MOST],
-        counts: [0; LISTS],
-        axes: [0; PLACES],
+        sharding,
     }
 }
 
@@ -185,18 +212,15 @@ fn place_found(rank: usize, placed: Placed) -> PlaceReply
     requires { ⌜ rank ≤ mostDims ⌝ }
     ensures { λ r. ⌜ r ≡ placedReply (PlaceOutcome.Found rank) placed ⌝ }
 {
-    let sharding = placed.sharding;
+    let sharding = sharding_reply(placed.sharding);
     let shard = placed.shard;
     let first = placed.first;
-    let counts = five_counts(sharding);
-    let axes = thirty_axes(sharding);
     PlaceReply {
         refusal: 0,
         rank: rank as u16,
         shard,
         first,
-        counts,
-        axes,
+        sharding,
     }
 }
 

@@ -12,8 +12,8 @@ use Rattle.rules.proofs.Fronts.{front-part, part-cut, part-length, next-part}
 use Rattle.groups.proofs.Lists.{Filling}
 use Rattle.capi.specs.Boundary.{lists, places, axisIn}
 use Rattle.capi.proofs.Replies.{six-places}
-use Rattle.capi.proofs.thirty_axes.Statement.{statement}
-use Rattle.capi.proofs.thirty_axes.Tie as tie
+use Rattle.capi.proofs.list_axes.Statement.{statement}
+use Rattle.capi.proofs.list_axes.Tie as tie
 
 abbrev Inv-loop : tie.InvT-loop
 Inv-loop sharding axes₀ d₀ axes d = Filling (axisIn (shardingOf mostDims sharding)) axes₀ axes (d * mostAxes) × (length axes₀ ≡ places) × (d ≤ lists)
@@ -21,8 +21,8 @@ Inv-loop sharding axes₀ d₀ axes d = Filling (axisIn (shardingOf mostDims sha
 abbrev μ-loop : tie.MeasureT-loop
 μ-loop sharding axes₀ d₀ axes d = lists - d
 
-pub thirty-axes-spec : {M : Type 1} → statement M
-thirty-axes-spec =
+pub list-axes-spec : {M : Type 1} → statement M
+list-axes-spec =
     tie.close
     (tie.spec
     Inv-loop
