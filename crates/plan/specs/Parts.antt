@@ -1,4 +1,4 @@
--- What the parts of the check (src/lib.rt) answer, in the rules' own judgements: the sizes, what stands before the steps, so many
+-- What the parts of the check (src/lib.rt) answer, in the rules' own judgements: what stands before the steps, so many
 -- steps in turn, the whole file, a state. A mesh is told by its n sizes, a table by the sizes up to its rank, a sharding by the lists up to the rank,
 -- a list by the axes up to its count; the places past these are free, and nothing reads them. Assumes nothing.
 use Prim.Native.Nat.{ℕ, _*_, _≤_}
@@ -9,39 +9,20 @@ use Rattle.rules.specs.Mesh.{devices as devicesOf}
 use Rattle.rules.specs.Sharding.{Sharding, shardSizes}
 use Rattle.rules.specs.Limits.{mostAxes, mostDevices, mostWords, mostDims, mostSteps}
 use Rattle.rules.specs.Refusals.{Judged, accept, _>>=_, refusedBy}
-use Rattle.rules.specs.PlanFile.{Read, MeshAndTable, meshAndTableAt, stepCount, stepsAt, Front, judgeFront, Plan, judge, announced, largestShard, room, StateAnswer, stateOf}
+use Rattle.rules.specs.PlanFile.{Read, meshAndTableAt, stepCount, stepsAt, Front, judgeFront, Plan, judge, announced, largestShard, room, StateAnswer, stateOf}
 use Rattle.rules.specs.Types.{dimsOf, shardingOf, meshOf, sizesOf, WithinPlaces}
 use Rattle.rules.specs.Calls.{CheckAnswer}
 use Rattle.rules.specs.declared.Sharding as code
-use Rattle.rules.specs.declared.Table.{Table}
-use Rattle.reader.specs.Reading.{reading, Tells, noLists, headerOf}
+use Rattle.reader.specs.Reading.{reading, Tells, noLists, headerOf, Counted}
 use Rattle.reader.specs.declared.Header.{Header}
 use Rattle.reader.specs.declared.Next.{Next}
+use Rattle.reader.specs.declared.Shape.{Shape}
 use Rattle.reader.specs.declared.Next.the-variants as next
-use Rattle.rules.specs.declared.Mesh.{Mesh}
 use Rattle.judge.specs.Step.{Sharded}
-use Rattle.plan.specs.declared.Shape.{Shape}
 use Rattle.plan.specs.declared.Opening.{Opening}
 use Rattle.plan.specs.declared.Walk.{Walk}
 use Rattle.plan.specs.declared.Whole.{Whole}
 use Rattle.plan.specs.declared.State.{State}
-
--- D is the product of the mesh sizes; a mesh and a table have as many sizes as they say
-pub record Counted (devices : ℕ) (mesh : Mesh) (table : Table) : Type 0 where
-  pub devices-are : devices ≡ devicesOf (meshOf mesh)
-  pub n-is : mesh .n ≡ length (meshOf mesh)
-  pub rank-is : table .rank ≡ length (sizesOf table)
-
--- beside a refusal: no axes, no dimensions
-pub record NoShape (devices : ℕ) (mesh : Mesh) (table : Table) : Type 0 where
-  pub devices-are : devices ≡ 1
-  pub n-is : mesh .n ≡ 0
-  pub rank-is : table .rank ≡ 0
-
--- ---- the sizes of mesh and tensor
-
-abbrev pub shapeRead : Shape → Judged (Read MeshAndTable)
-shapeRead r = reading (r .next) (record { mesh = meshOf (r .mesh); sizes = sizesOf (r .table) })
 
 -- ---- what stands before the steps
 

@@ -3,17 +3,14 @@
 ghost use mathlib.Core.Path.{_≡_};
 ghost use mathlib.Core.List.{[]};
 ghost use Prim.Native.Nat.{ℕ, _≤_, _<_};
-ghost use lib.ListN.{take};
-ghost use Rattle.rules.specs.Lists.{product};
-ghost use Rattle.rules.specs.Limits.{mostSteps, mostDims};
+ghost use Rattle.rules.specs.Limits.{mostSteps};
 ghost use Rattle.rules.specs.Refusals.{accept, refusedBy};
-ghost use Rattle.rules.specs.PlanFile.{meshAndTableAt};
 ghost use Rattle.rules.specs.Types.{axesOf, shardingOf, meshOf, sizesOf};
 ghost use Rattle.rules.specs.Calls.{checkedOf};
 ghost use Rattle.rules.specs.Promises.{CheckPromise};
-ghost use Rattle.reader.specs.Reading.{headerOf};
+ghost use Rattle.reader.specs.Reading.{NoShape};
 ghost use Rattle.judge.specs.Step.{Sharded};
-ghost use Rattle.plan.specs.Parts.{Counted, NoShape, shapeRead, openRead, Opens, Opened, walkAt, walkRead};
+ghost use Rattle.plan.specs.Parts.{openRead, Opens, Opened, walkAt, walkRead};
 ghost use Rattle.plan.specs.Parts.{wholeOf, WholeTells, Keeps, Bounded, answerOf, stateAt, StateTells, Shaped};
 use dims::lists_within;
 use dims::no_lists;
@@ -23,17 +20,14 @@ use dims::words;
 use reader::Header;
 use reader::HeaderRead;
 use reader::Next;
+use reader::Shape;
 use reader::read_header;
+use reader::read_shape;
 use reader::read_sharding;
-use reader::read_sizes;
-use reader::u16_at;
-use rules::Axis;
 use rules::CheckOutcome;
 use rules::Checked;
-use rules::Device;
 use rules::Dim;
 use rules::Mesh;
-use rules::PlanFile;
 use rules::Reason;
 use rules::Refusal;
 use rules::Sharding;
@@ -46,14 +40,6 @@ use start::refusal_of;
 use taking::larger;
 use taking::shard_words;
 use taking::take_step;
-
-// The sizes of mesh and table, and where the next byte is.
-struct Shape {
-    next: Next,
-    devices: usize,
-    mesh: Mesh,
-    table: Table,
-}
 
 // What stands before the steps, and where they begin.
 struct Opening {
@@ -71,87 +57,6 @@ struct Walk {
     most: usize,
     sharding: Sharding,
     kept: Sharding,
-}
-
-impl Shape {
-    // Refused, with no axes and no dimensions.
-    fn refused(refusal: Refusal) -> Shape
-        ensures { λ r. ⌜ (shapeRead r ≡ refusedBy refusal) × NoShape (r .devices) (r .mesh) (r .table) ⌝ }
-    {
-        let mesh = Mesh {
-            n: 0,
-            sizes: [1; Axis::MOST],
-        };
-        let table = Table {
-            rank: 0,
-            sizes: [1; Dim::MOST],
-        };
-        Shape {
-            next: Next::Refused(refusal),
-            devices: 1,
-            mesh,
-            table,
-        }
-    }
-}
-
-// A table of the first sizes.
-fn table_of(rank: usize, sizes: [u16; Axis::MOST]) -> Table
-    requires { ⌜ rank ≤ mostDims ⌝ }
-    ensures { λ r. ⌜ (r .rank ≡ rank) × (sizesOf r ≡ take rank sizes) ⌝ }
-{
-    Table {
-        rank,
-        sizes: [sizes[0], sizes[1], sizes[2], sizes[3]],
-    }
-}
-
-// The mesh and the tensor sections.
-fn read_shape(file: &[u8], header: Header) -> Shape
-    requires { ⌜ headerOf (now file) ≡ accept header ⌝ }
-    ensures { λ r. ⌜ shapeRead r ≡ meshAndTableAt (header .axes) (header .rank) (now (file .entry)) ⌝ }
-    ensures { λ r. ⌜ Counted (r .devices) (r .mesh) (r .table) ⌝ }
-{
-    let n = header.axes;
-    let rank = header.rank;
-    let at = u16_at(file, 8);
-    let first = read_sizes(
-        file,
-        PlanFile::LEAST,
-        at,
-        n,
-        Device::MOST,
-        Reason::MeshSizeZero,
-        Reason::TooManyDevices,
-    );
-    let next = first.next;
-    let Next::At(place) = next else {
-        return Shape::refused(next.refusal());
-    };
-    let offset = u16_at(file, 10);
-    let second = read_sizes(
-        file,
-        place,
-        offset,
-        rank,
-        Table::MOST,
-        Reason::TensorSizeZero,
-        Reason::TooManyWords,
-    );
-    let last = second.next;
-    let Next::At(end) = last else {
-        return Shape::refused(last.refusal());
-    };
-    let devices = first.product;
-    let sizes = first.sizes;
-    let tensor = second.sizes;
-    let table = table_of(rank, tensor);
-    Shape {
-        next: Next::At(end),
-        devices,
-        mesh: Mesh { n, sizes },
-        table,
-    }
 }
 
 impl Opening {

@@ -7,13 +7,17 @@ use mathlib.Core.List.{List, []}
 use lib.ListN.{length, getD, take, replicate}
 use lib.Dec.{ltb}
 use Rattle.rules.specs.Lists.{pick}
+use Rattle.rules.specs.Mesh.{devices as devicesOf}
 use Rattle.rules.specs.Refusals.{Judged, accept, _>>_, refusedBy}
 use Rattle.rules.specs.Sharding.{Sharding}
 use Rattle.rules.specs.Collectives.{Step, allReduce}
-use Rattle.rules.specs.PlanFile.{Read, judgeHeader, judgeHeaderBy, axisCount, rankCount, stepCount}
-use Rattle.rules.specs.Types.{axesOf, dimsOf, shardingOf, stepOf}
+use Rattle.rules.specs.PlanFile.{Read, edition, axisCount, rankCount, stepCount, meshOffset, tensorOffset, shardingOffset, stepsOffset}
+use Rattle.rules.specs.PlanFile.{judgeHeader, judgeHeaderBy, MeshAndTable}
+use Rattle.rules.specs.Types.{meshOf, sizesOf, axesOf, dimsOf, shardingOf, stepOf}
 use Rattle.rules.specs.declared.Kind.{Kind}
 use Rattle.rules.specs.declared.Kind.the-variants.{AllSlice, AllGather, AllReduce, AllToAll, Unknown}
+use Rattle.rules.specs.declared.Mesh.{Mesh}
+use Rattle.rules.specs.declared.Table.{Table}
 use Rattle.rules.specs.declared.Refusal.{Refusal}
 use Rattle.rules.specs.declared.Reason.the-variants.{CountOutsideLimits, SectionPastEnd}
 use Rattle.reader.specs.declared.Byte.{Byte}
@@ -24,7 +28,9 @@ use Rattle.reader.specs.declared.Header.{Header}
 use Rattle.reader.specs.declared.HeaderRead.{HeaderRead}
 use Rattle.reader.specs.declared.HeaderRead.the-variants as header
 use Rattle.reader.specs.declared.SizesRead.{SizesRead}
+use Rattle.reader.specs.declared.Shape.{Shape}
 use Rattle.reader.specs.declared.ListRead.{ListRead}
+use Rattle.reader.specs.declared.ListsRead.{ListsRead}
 use Rattle.reader.specs.declared.ShardingRead.{ShardingRead}
 use Rattle.reader.specs.declared.StepRead.{StepRead}
 
@@ -51,13 +57,27 @@ abbrev pub nextRefusal : Next → Refusal
 nextRefusal (next.At k) = record { reason = SectionPastEnd; step = 0 }
 nextRefusal (next.Refused r) = r
 
--- ---- the header, with its counts
+-- ---- the header
 
+-- its numbers by name
+abbrev pub numbersOf : List ℕ → Header
+numbersOf file = record {
+  edition = edition file;
+  axes = axisCount file;
+  rank = rankCount file;
+  steps = stepCount file;
+  «mesh_at» = meshOffset file;
+  «table_at» = tensorOffset file;
+  «sharding_at» = shardingOffset file;
+  «steps_at» = stepsOffset file;
+}
+
+-- they are judged
 unfoldable pub headerOf : List ℕ → Judged Header
 unfolding judgeHeaderBy
 headerOf file = do
   judgeHeader file
-  accept (record { axes = axisCount file; rank = rankCount file; steps = stepCount file })
+  accept (numbersOf file)
 
 abbrev pub headerRead : HeaderRead → Judged Header
 headerRead (header.Is h) = accept h
@@ -67,21 +87,38 @@ abbrev pub headerRefusal : HeaderRead → Refusal
 headerRefusal (header.Is h) = record { reason = CountOutsideLimits; step = 0 }
 headerRefusal (header.Refused r) = r
 
--- ---- sizes, lists, shardings, steps
+-- ---- sizes
 
 -- beside a refusal all sizes are 1
 abbrev pub SizesTell : ℕ → Judged (Read (List ℕ)) → SizesRead → Type 0
 SizesTell count j r = Tells (replicate count 1) j (r .next) (take count (r .sizes))
 
+-- D is the product of the mesh sizes; a mesh and a table have as many sizes as they say
+pub record Counted (devices : ℕ) (mesh : Mesh) (table : Table) : Type 0 where
+  pub devices-are : devices ≡ devicesOf (meshOf mesh)
+  pub n-is : mesh .n ≡ length (meshOf mesh)
+  pub rank-is : table .rank ≡ length (sizesOf table)
+
+-- beside a refusal: no axes, no dimensions
+pub record NoShape (devices : ℕ) (mesh : Mesh) (table : Table) : Type 0 where
+  pub devices-are : devices ≡ 1
+  pub n-is : mesh .n ≡ 0
+  pub rank-is : table .rank ≡ 0
+
+abbrev pub shapeRead : Shape → Judged (Read MeshAndTable)
+shapeRead r = reading (r .next) (record { mesh = meshOf (r .mesh); sizes = sizesOf (r .table) })
+
+-- ---- lists, shardings, steps
+
 abbrev pub listRead : ListRead → Judged (Read (List ℕ))
 listRead r = reading (r .next) (axesOf (r .list))
 
-abbrev pub listsRead : ℕ → ShardingRead → Judged (Read (List (List ℕ)))
-listsRead rank r = reading (r .next) (take rank (dimsOf (r .sharding)))
+abbrev pub listsRead : ℕ → ListsRead → Judged (Read (List (List ℕ)))
+listsRead rank r = reading (r .next) (take rank (dimsOf (r .lists)))
 
--- beside a refusal all axes are replicated
+-- beside a refusal no axis is named
 abbrev pub noLists : ℕ → Sharding
-noLists rank = record { dims = replicate rank []; unreduced = [] }
+noLists rank = record { dims = replicate rank []; unreduced = []; replicated = [] }
 
 abbrev pub ShardingTells : ℕ → Judged (Read Sharding) → ShardingRead → Type 0
 ShardingTells rank j r = Tells (noLists rank) j (r .next) (shardingOf rank (r .sharding))

@@ -6,21 +6,27 @@ ghost use Prim.Native.Nat.{ℕ, _+_, _≤_, _<_};
 ghost use lib.ListN.{length, getD, take, drop};
 ghost use lib.Dec.{leb};
 ghost use Rattle.rules.specs.Lists.{product};
-ghost use Rattle.rules.specs.Limits.{mostAxes, mostDims, mostWords};
-ghost use Rattle.rules.specs.Refusals.{refuse, numberOf, refusedBy};
-ghost use Rattle.rules.specs.PlanFile.{u16At, sizesAt, listAt, listsAt, shardingAt, kindOf, listsOf, stepAt};
+ghost use Rattle.rules.specs.Limits.{mostAxes, mostDims, mostWords, latestEdition};
+ghost use Rattle.rules.specs.Refusals.{accept, refuse, numberOf, refusedBy};
+ghost use Rattle.rules.specs.PlanFile.{u16At, sizesAt, meshAndTableAt, listAt, listsAt, carriesReplicated, replicatedAt, shardingAt};
+ghost use Rattle.rules.specs.PlanFile.{kindOf, listsOf, stepAt};
+ghost use Rattle.rules.specs.Types.{sizesOf};
 ghost use Rattle.rules.specs.declared.Kind.the-variants.{AllReduce, AllToAll};
-ghost use Rattle.reader.specs.Reading.{byteAt, nextRefusal, headerOf, headerRead, headerRefusal};
-ghost use Rattle.reader.specs.Reading.{SizesTell, listRead, listsRead, ShardingTells, StepTells, PerDim};
+ghost use Rattle.reader.specs.Reading.{byteAt, nextRefusal, numbersOf, headerOf, headerRead, headerRefusal};
+ghost use Rattle.reader.specs.Reading.{SizesTell, Counted, NoShape, shapeRead, listRead, listsRead, ShardingTells, StepTells, PerDim};
 use rules::Axis;
 use rules::AxisList;
+use rules::Device;
 use rules::Dim;
+use rules::DimLists;
 use rules::Kind;
+use rules::Mesh;
 use rules::PlanFile;
 use rules::Reason;
 use rules::Refusal;
 use rules::Sharding;
 use rules::Step;
+use rules::Table;
 
 // A byte of a file, or none past its end.
 enum Byte {
@@ -51,7 +57,7 @@ fn number_at(file: &[u8], at: usize) -> usize
 }
 
 // The 16-bit number at a position, little-endian; bytes past the end count as 0.
-pub fn u16_at(file: &[u8], at: usize) -> usize
+fn u16_at(file: &[u8], at: usize) -> usize
     ensures { λ r. ⌜ (r ≡ u16At (now (file .entry)) at) × (r < 65536) ⌝ }
 {
     if at < file.len() {
@@ -84,14 +90,37 @@ impl Next {
     }
 }
 
-// The counts of a header.
+// The numbers of a header: the edition, the counts, and where the sections begin. The last, the file's length, is only tested.
 pub struct Header {
+    pub edition: usize,
     pub axes: usize,
     pub rank: usize,
     pub steps: usize,
+    pub mesh_at: usize,
+    pub table_at: usize,
+    pub sharding_at: usize,
+    pub steps_at: usize,
 }
 
-// The counts, or the refusal.
+impl Header {
+    // The latest edition of plan files.
+    pub const LATEST_EDITION: usize = 2;
+
+    pub fn latest_edition() -> usize
+        ensures { λ r. ⌜ r ≡ latestEdition ⌝ }
+    {
+        Header::LATEST_EDITION
+    }
+
+    // Whether the starting sharding has a list of axes that must stay replicated: "Edition 2 files carry it".
+    fn carries_replicated(self) -> bool
+        ensures { λ r. ⌜ r ≡ carriesReplicated (self .edition) ⌝ }
+    {
+        2 <= self.edition
+    }
+}
+
+// The header, or the refusal.
 pub enum HeaderRead {
     Is(Header),
     Refused(Refusal),
@@ -126,6 +155,22 @@ fn in_limits(count: usize, most: usize) -> bool
     1 <= count && count <= most
 }
 
+// The numbers of a header, none of them judged.
+fn numbers_of(file: &[u8]) -> Header
+    ensures { λ r. ⌜ r ≡ numbersOf (now (file .entry)) ⌝ }
+{
+    Header {
+        edition: u16_at(file, 0),
+        axes: u16_at(file, 2),
+        rank: u16_at(file, 4),
+        steps: u16_at(file, 6),
+        mesh_at: u16_at(file, 8),
+        table_at: u16_at(file, 10),
+        sharding_at: u16_at(file, 12),
+        steps_at: u16_at(file, 14),
+    }
+}
+
 // "Order: 1, 2, 3, 4, 5."
 pub fn read_header(file: &[u8]) -> HeaderRead
     ensures { λ r. ⌜ headerRead r ≡ headerOf (now (file .entry)) ⌝ }
@@ -136,29 +181,27 @@ pub fn read_header(file: &[u8]) -> HeaderRead
     if PlanFile::MOST < file.len() {
         return HeaderRead::refused_for(Reason::FileTooLong);
     }
-    if u16_at(file, 0) != 1 {
+    let header = numbers_of(file);
+    if !in_limits(header.edition, Header::LATEST_EDITION) {
         return HeaderRead::refused_for(Reason::UnknownEdition);
     }
     if u16_at(file, 16) != file.len() {
         return HeaderRead::refused_for(Reason::WrongLength);
     }
-    let axes = u16_at(file, 2);
-    if !in_limits(axes, Axis::MOST) {
+    if !in_limits(header.axes, Axis::MOST) {
         return HeaderRead::refused_for(Reason::CountOutsideLimits);
     }
-    let rank = u16_at(file, 4);
-    if !in_limits(rank, Dim::MOST) {
+    if !in_limits(header.rank, Dim::MOST) {
         return HeaderRead::refused_for(Reason::CountOutsideLimits);
     }
-    let steps = u16_at(file, 6);
-    if Step::MOST < steps {
+    if Step::MOST < header.steps {
         return HeaderRead::refused_for(Reason::CountOutsideLimits);
     }
-    HeaderRead::Is(Header { axes, rank, steps })
+    HeaderRead::Is(header)
 }
 
 // Sizes that were read, their product, and where the next byte is.
-pub struct SizesRead {
+struct SizesRead {
     pub next: Next,
     pub product: usize,
     pub sizes: [u16; Axis::MOST],
@@ -179,7 +222,7 @@ impl SizesRead {
 }
 
 // A section of sizes: "its offset (6) .. 7 if they don't fit, then each size in turn (zero, then running product)".
-pub fn read_sizes(
+fn read_sizes(
     file: &[u8],
     at: usize,
     offset: usize,
@@ -217,6 +260,91 @@ pub fn read_sizes(
         next: Next::At(at + 2 * count),
         product,
         sizes,
+    }
+}
+
+// The sizes of mesh and table, and where the next byte is.
+pub struct Shape {
+    pub next: Next,
+    pub devices: usize,
+    pub mesh: Mesh,
+    pub table: Table,
+}
+
+impl Shape {
+    // Refused, with no axes and no dimensions.
+    pub fn refused(refusal: Refusal) -> Shape
+        ensures { λ r. ⌜ (shapeRead r ≡ refusedBy refusal) × NoShape (r .devices) (r .mesh) (r .table) ⌝ }
+    {
+        let sizes = [1; Axis::MOST];
+        let mesh = Mesh { n: 0, sizes };
+        let table = Table {
+            rank: 0,
+            sizes: [1; Dim::MOST],
+        };
+        Shape {
+            next: Next::Refused(refusal),
+            devices: 1,
+            mesh,
+            table,
+        }
+    }
+}
+
+// A table of the first sizes.
+fn table_of(rank: usize, sizes: [u16; Axis::MOST]) -> Table
+    requires { ⌜ rank ≤ mostDims ⌝ }
+    ensures { λ r. ⌜ (r .rank ≡ rank) × (sizesOf r ≡ take rank sizes) ⌝ }
+{
+    Table {
+        rank,
+        sizes: [sizes[0], sizes[1], sizes[2], sizes[3]],
+    }
+}
+
+// The mesh and the tensor sections.
+pub fn read_shape(file: &[u8], header: Header) -> Shape
+    requires { ⌜ headerOf (now file) ≡ accept header ⌝ }
+    ensures { λ r. ⌜ shapeRead r ≡ meshAndTableAt (header .axes) (header .rank) (now (file .entry)) ⌝ }
+    ensures { λ r. ⌜ Counted (r .devices) (r .mesh) (r .table) ⌝ }
+{
+    let n = header.axes;
+    let rank = header.rank;
+    let first = read_sizes(
+        file,
+        PlanFile::LEAST,
+        header.mesh_at,
+        n,
+        Device::MOST,
+        Reason::MeshSizeZero,
+        Reason::TooManyDevices,
+    );
+    let next = first.next;
+    let Next::At(place) = next else {
+        return Shape::refused(next.refusal());
+    };
+    let second = read_sizes(
+        file,
+        place,
+        header.table_at,
+        rank,
+        Table::MOST,
+        Reason::TensorSizeZero,
+        Reason::TooManyWords,
+    );
+    let last = second.next;
+    let Next::At(end) = last else {
+        return Shape::refused(last.refusal());
+    };
+    let devices = first.product;
+    let sizes = first.sizes;
+    let tensor = second.sizes;
+    let table = table_of(rank, tensor);
+    Shape {
+        next: Next::At(end),
+        devices,
+        mesh: Mesh { n, sizes },
+        table,
     }
 }
 
@@ -286,7 +414,66 @@ fn read_list(file: &[u8], at: usize, n: usize) -> ListRead
     }
 }
 
-// Lists that were read, in the places of a sharding, and where the next byte is.
+// Lists that were read, one for each dimension, and where the next byte is.
+struct ListsRead {
+    pub next: Next,
+    pub lists: DimLists,
+}
+
+impl ListsRead {
+    // Refused, with no lists.
+    fn refused(refusal: Refusal) -> ListsRead
+        ensures { λ r. ⌜ ((rank : ℕ) → listsRead rank r ≡ refusedBy refusal) ⌝ }
+    {
+        let lists = DimLists::empty();
+        ListsRead {
+            next: Next::Refused(refusal),
+            lists,
+        }
+    }
+}
+
+// One list for each dimension.
+fn read_lists(file: &[u8], at: usize, n: usize, rank: usize) -> ListsRead
+    requires { ⌜ (n ≤ mostAxes) × (rank ≤ mostDims) ⌝ }
+    ensures { λ r. ⌜ listsRead rank r ≡ listsAt n rank (now (file .entry)) at ⌝ }
+{
+    let mut lists = DimLists::empty();
+    let mut place = at;
+    let mut d: usize = 0;
+    while d < rank {
+        let one = read_list(file, place, n);
+        let next = one.next;
+        let Next::At(end) = next else {
+            return ListsRead::refused(next.refusal());
+        };
+        let list = one.list;
+        lists.0[d] = list;
+        place = end;
+        d += 1;
+    }
+    ListsRead {
+        next: Next::At(place),
+        lists,
+    }
+}
+
+// The axes that must stay replicated, where the file carries them: "Edition 1 reads as an empty list."
+fn read_replicated(file: &[u8], at: usize, n: usize, carried: bool) -> ListRead
+    requires { ⌜ n ≤ mostAxes ⌝ }
+    ensures { λ r. ⌜ listRead r ≡ replicatedAt carried n (now (file .entry)) at ⌝ }
+{
+    if carried {
+        return read_list(file, at, n);
+    }
+    let list = AxisList::empty();
+    ListRead {
+        next: Next::At(at),
+        list,
+    }
+}
+
+// A sharding that was read, and where the next byte is.
 pub struct ShardingRead {
     pub next: Next,
     pub sharding: Sharding,
@@ -295,9 +482,9 @@ pub struct ShardingRead {
 impl ShardingRead {
     // Refused, with no lists.
     fn refused(refusal: Refusal) -> ShardingRead
-        ensures { λ r. ⌜ ((rank : ℕ) → rank ≤ mostDims → (listsRead rank r ≡ refusedBy refusal) × ShardingTells rank (refusedBy refusal) r) ⌝ }
+        ensures { λ r. ⌜ ((rank : ℕ) → rank ≤ mostDims → ShardingTells rank (refusedBy refusal) r) ⌝ }
     {
-        let sharding = Sharding::replicated();
+        let sharding = Sharding::none();
         ShardingRead {
             next: Next::Refused(refusal),
             sharding,
@@ -305,60 +492,44 @@ impl ShardingRead {
     }
 }
 
-// One list for each dimension.
-fn read_lists(file: &[u8], at: usize, n: usize, rank: usize) -> ShardingRead
-    requires { ⌜ (n ≤ mostAxes) × (rank ≤ mostDims) ⌝ }
-    ensures { λ r. ⌜ listsRead rank r ≡ listsAt n rank (now (file .entry)) at ⌝ }
+// "The sharding is one list per dimension, then the unreduced list.", then the list of the axes that must stay replicated.
+pub fn read_sharding(file: &[u8], at: usize, header: Header) -> ShardingRead
+    requires { ⌜ (header .axes ≤ mostAxes) × (header .rank ≤ mostDims) ⌝ }
+    ensures { λ r. ⌜ ShardingTells (header .rank) (shardingAt (carriesReplicated (header .edition)) (header .axes) (header .rank) (header .«sharding_at»)
+        (now (file .entry)) at) r ⌝ }
 {
-    let none = Sharding::replicated();
-    let mut dims = none.dims;
-    let unreduced = none.unreduced;
-    let mut place = at;
-    let mut d: usize = 0;
-    while d < rank {
-        let one = read_list(file, place, n);
-        let next = one.next;
-        let Next::At(end) = next else {
-            return ShardingRead::refused(next.refusal());
-        };
-        let list = one.list;
-        dims[d] = list;
-        place = end;
-        d += 1;
-    }
-    ShardingRead {
-        next: Next::At(place),
-        sharding: Sharding { dims, unreduced },
-    }
-}
-
-// "The sharding is one list per dimension, then the unreduced list."
-pub fn read_sharding(file: &[u8], at: usize, n: usize, rank: usize, offset: usize) -> ShardingRead
-    requires { ⌜ (n ≤ mostAxes) × (rank ≤ mostDims) ⌝ }
-    ensures { λ r. ⌜ ShardingTells rank (shardingAt n rank offset (now (file .entry)) at) r ⌝ }
-{
-    if offset != at {
+    if header.sharding_at != at {
         return ShardingRead::refused(Refusal {
             reason: Reason::WrongOffset,
             step: 0,
         });
     }
-    let first = read_lists(file, at, n, rank);
+    let n = header.axes;
+    let first = read_lists(file, at, n, header.rank);
     let next = first.next;
     let Next::At(place) = next else {
         return ShardingRead::refused(next.refusal());
     };
-    let lists = first.sharding;
-    let dims = lists.dims;
-    let last = read_list(file, place, n);
-    let after = last.next;
-    let Next::At(end) = after else {
+    let dims = first.lists;
+    let second = read_list(file, place, n);
+    let after = second.next;
+    let Next::At(behind) = after else {
         return ShardingRead::refused(after.refusal());
     };
-    let unreduced = last.list;
+    let unreduced = second.list;
+    let third = read_replicated(file, behind, n, header.carries_replicated());
+    let last = third.next;
+    let Next::At(end) = last else {
+        return ShardingRead::refused(last.refusal());
+    };
+    let replicated = third.list;
     ShardingRead {
         next: Next::At(end),
-        sharding: Sharding { dims, unreduced },
+        sharding: Sharding {
+            dims,
+            unreduced,
+            replicated,
+        },
     }
 }
 
@@ -373,7 +544,8 @@ impl StepRead {
     fn refused(refusal: Refusal) -> StepRead
         ensures { λ r. ⌜ ((rank : ℕ) → StepTells rank (refusedBy refusal) r) ⌝ }
     {
-        let lists = Sharding::replicated();
+        let lists = DimLists::empty();
+        let list = AxisList::empty();
         StepRead {
             next: Next::Refused(refusal),
             step: Step {
@@ -381,6 +553,7 @@ impl StepRead {
                 source: Dim(0),
                 target: Dim(0),
                 lists,
+                list,
             },
         }
     }
@@ -413,7 +586,8 @@ fn read_per_dim(file: &[u8], at: usize, n: usize, rank: usize, kind: Kind) -> St
     let Next::At(end) = next else {
         return StepRead::refused(next.refusal());
     };
-    let lists = read.sharding;
+    let lists = read.lists;
+    let list = AxisList::empty();
     StepRead {
         next: Next::At(end),
         step: Step {
@@ -421,6 +595,7 @@ fn read_per_dim(file: &[u8], at: usize, n: usize, rank: usize, kind: Kind) -> St
             source: Dim(0),
             target: Dim(0),
             lists,
+            list,
         },
     }
 }
@@ -435,16 +610,16 @@ fn read_all_reduce(file: &[u8], at: usize, n: usize) -> StepRead
     let Next::At(end) = next else {
         return StepRead::refused(next.refusal());
     };
-    let unreduced = read.list;
-    let none = Sharding::replicated();
-    let dims = none.dims;
+    let list = read.list;
+    let lists = DimLists::empty();
     StepRead {
         next: Next::At(end),
         step: Step {
             kind: Kind::AllReduce,
             source: Dim(0),
             target: Dim(0),
-            lists: Sharding { dims, unreduced },
+            lists,
+            list,
         },
     }
 }
@@ -473,16 +648,16 @@ fn read_all_to_all(file: &[u8], at: usize, n: usize) -> StepRead
     let Next::At(end) = next else {
         return StepRead::refused(next.refusal());
     };
-    let unreduced = read.list;
-    let none = Sharding::replicated();
-    let dims = none.dims;
+    let list = read.list;
+    let lists = DimLists::empty();
     StepRead {
         next: Next::At(end),
         step: Step {
             kind: Kind::AllToAll,
             source: Dim(source),
             target: Dim(target),
-            lists: Sharding { dims, unreduced },
+            lists,
+            list,
         },
     }
 }

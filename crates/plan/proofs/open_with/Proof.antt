@@ -1,8 +1,9 @@
 use borrow.Author.Needs.{needs}
 use mathlib.Core.Path.{sym}
 use Rattle.reader.proofs.Answers.{read-on, read-stopped}
+use Rattle.reader.proofs.Heading.{headed}
 use Rattle.start.proofs.Verdicts.{passed, failed}
-use Rattle.plan.proofs.Opens.{headed, axes-are, rank-are, within-places, open-refused, sharding-stops, offset-stops, start-stops, front-is}
+use Rattle.plan.proofs.Opens.{axes-are, rank-are, within-places, open-refused, sharding-stops, offset-stops, start-stops, front-is}
 use Rattle.plan.proofs.open_with.Statement.{statement}
 use Rattle.plan.proofs.open_with.Tie as tie
 

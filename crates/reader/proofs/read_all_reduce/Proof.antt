@@ -23,7 +23,7 @@ read-all-reduce-spec =
     let stopped = read-stopped (axesOf (r .result .list)) (r .ensures) (c .before .before .enum-told .given .1) (c .before .refusal .ensures) in
     λ rank k. retold (c .refused .ensures rank) (reduce-refused (a .n) rank k (now (a .file)) (a .at) _ _ stopped))
     (λ c κs. search needs)
-    (λ c. let a = c .before .before .before .before .before .before .before .before .args in
-    let r = c .before .before .before .before .before .before .read-list in
-    let list = read-on (axesOf (r .result .list)) (r .ensures) (c .before .before .before .before .next .given .1) in
+    (λ c. let a = c .before .before .before .before .before .before .before .args in
+    let r = c .before .before .before .before .before .read-list in
+    let list = read-on (axesOf (r .result .list)) (r .ensures) (c .before .before .before .next .given .1) in
     λ rank k. is-told (reduce-whole (a .n) rank k (now (a .file)) (a .at) _ _ list)))

@@ -55,10 +55,10 @@ read-all-to-all-spec =
     let stopped = read-stopped (axesOf (r .result .list)) (r .ensures) (c .before .before .enum-told3 .given .1) (c .before .refusal .ensures) in
     λ rank k. retold (c .refused3 .ensures rank) (to-all-refused (a .n) rank k (now (a .file)) (a .at) (omega arith) _ _ stopped))
     (λ c κs. search needs)
-    (λ c. let p = c .before .before .before .before .before .before in
+    (λ c. let p = c .before .before .before .before .before in
     let a = p .before .before .before .before .before .before .before .before .before .before .args in
     let r = p .read-list in
     let s = source-is (p .before .before .before .before .before .before) in
     let t = target-is (p .before .before) in
-    let list = read-on (axesOf (r .result .list)) (r .ensures) (c .before .before .before .before .next .given .1) in
+    let list = read-on (axesOf (r .result .list)) (r .ensures) (c .before .before .before .next .given .1) in
     λ rank k. is-told (to-all-whole (a .n) rank k (now (a .file)) (a .at) s t _ _ list)))

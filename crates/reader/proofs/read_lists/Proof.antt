@@ -1,7 +1,6 @@
 use Prim.Native.Nat.{_-_}
 use borrow.Author.Needs.{needs}
 use mathlib.Core.Path.{sym, ap, _∙_}
-use mathlib.Core.List.{map}
 use native.Mathlib.Omega.{arith}
 use lib.ListN.{length}
 use Rattle.rules.specs.Types.{axesOf, dimsOf}
@@ -12,10 +11,10 @@ use Rattle.reader.proofs.read_lists.Statement.{statement}
 use Rattle.reader.proofs.read_lists.Tie as tie
 
 abbrev Inv-loop : tie.InvT-loop
-Inv-loop file at n rank dims₀ unreduced place₀ d₀ dims place d = Listing file at n rank (map axesOf dims) place d
+Inv-loop file at n rank lists₀ place₀ d₀ lists place d = Listing file at n rank (dimsOf lists) place d
 
 abbrev μ-loop : tie.MeasureT-loop
-μ-loop file at n rank dims₀ unreduced place₀ d₀ dims place d = rank - d
+μ-loop file at n rank lists₀ place₀ d₀ lists place d = rank - d
 
 enum-told : tie.Need-enum-told Inv-loop μ-loop
 enum-told c = search needs
@@ -28,7 +27,7 @@ read-lists-spec =
     Inv-loop
     μ-loop
     (λ c κs. search needs)
-    (λ c. begin _ _ _ _ _ (omega arith) (ap length (c .before .before .replicated .ensures .0)))
+    (λ c. begin _ _ _ _ _ (omega arith) (ap length (c .empty .ensures)))
     (λ c κs. omega arith)
     (λ c. search needs)
     enum-told
@@ -38,7 +37,7 @@ read-lists-spec =
     let r = p .read-list in
     let stopped = read-stopped (axesOf (r .result .list)) (r .ensures) (c .before .before .enum-told .given .1) (c .before .refusal .ensures) in
     let judged = list-refused (p .before .before .loop .inv) (p .before .loop-test .taken) _ _ stopped in
-    c .refused .ensures (p .before .before .before .before .before .before .before .args .rank) (omega arith) .0 ∙ sym judged)
+    c .refused .ensures (p .before .before .before .before .before .args .rank) ∙ sym judged)
     (λ c. search needs)
     (λ c. omega arith)
     (λ c. omega arith)
@@ -47,5 +46,5 @@ read-lists-spec =
     let r = p .read-list in
     let l = p .before .before .loop in
     let one = read-on (axesOf (r .result .list)) (r .ensures) (c .before .before .next .given .1) in
-    rw (map-set axesOf (l .dims) (l .d) (r .result .list)) (next-list (l .inv) (p .before .loop-test .taken) _ _ one))
+    rw (map-set axesOf (l .lists .0) (l .d) (r .result .list)) (next-list (l .inv) (p .before .loop-test .taken) _ _ one))
     (λ c. sym (lists-whole (c .before .loop .inv) (c .loop-test .left))))

@@ -22,11 +22,12 @@ read-per-dim-spec =
     (λ c. let s = c .before .before .before .before .before .before in
     let a = s .args in
     let r = c .before .before .before .before .read-lists in
-    let lists = take (a .rank) (dimsOf (r .result .sharding)) in
+    let lists = take (a .rank) (dimsOf (r .result .lists)) in
     let stopped = read-stopped lists (r .ensures) (c .before .before .enum-told .given .1) (c .before .refusal .ensures) in
     λ k. retold (c .refused .ensures (a .rank)) (per-dim-refused (a .n) (a .rank) k (now (a .file)) (a .at) (a .kind) (s .pre .2) _ _ stopped))
-    (λ c. let s = c .before .before .before .before .before .before in
+    (λ c κs. search needs)
+    (λ c. let s = c .before .before .before .before .before .before .before in
     let a = s .args in
-    let r = c .before .before .before .before .read-lists in
-    let lists = read-on (take (a .rank) (dimsOf (r .result .sharding))) (r .ensures) (c .before .before .next .given .1) in
+    let r = c .before .before .before .before .before .read-lists in
+    let lists = read-on (take (a .rank) (dimsOf (r .result .lists))) (r .ensures) (c .before .before .before .next .given .1) in
     λ k. is-told (per-dim-whole (a .n) (a .rank) k (now (a .file)) (a .at) (a .kind) (s .pre .2) _ _ lists)))

@@ -1,6 +1,6 @@
 use borrow.Author.Needs.{needs}
 use mathlib.Core.Path.{refl}
-use Rattle.plan.proofs.Opens.{no-counted}
+use Rattle.reader.proofs.Shaping.{no-counted}
 use Rattle.plan.proofs.Wholes.{no-answer}
 use Rattle.plan.proofs.Keeping.refused.Statement.{statement}
 use Rattle.plan.proofs.Keeping.refused.Tie as tie

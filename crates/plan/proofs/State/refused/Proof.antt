@@ -1,7 +1,7 @@
 use borrow.Author.Needs.{needs}
 use native.Mathlib.Omega.{arith}
 use mathlib.Core.Path.{refl}
-use Rattle.plan.proofs.Opens.{no-mesh, no-sizes, no-counted}
+use Rattle.reader.proofs.Shaping.{no-mesh, no-sizes, no-counted}
 use Rattle.plan.proofs.Wholes.{no-sharding}
 use Rattle.plan.proofs.State.refused.Statement.{statement}
 use Rattle.plan.proofs.State.refused.Tie as tie

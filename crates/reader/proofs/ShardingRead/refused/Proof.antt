@@ -10,5 +10,6 @@ use Rattle.reader.proofs.ShardingRead.refused.Tie as tie
 
 pub refused-spec : {M : Type 1} → statement M
 refused-spec = tie.close (tie.spec (λ c κs. search needs) (λ c. λ rank h.
-    let dims = ap (take rank) (c .replicated .ensures .0) ∙ take-replicate {A = List ℕ} [] rank mostDims h in
-    (refl, record { reads = refl; beside = λ i. record { dims = dims i; unreduced = c .replicated .ensures .1 i } })))
+    let none = c .none .ensures in
+    let dims = ap (take rank) (none .0) ∙ take-replicate {A = List ℕ} [] rank mostDims h in
+    record { reads = refl; beside = λ i. record { dims = dims i; unreduced = none .1 i; replicated = none .2 i } }))

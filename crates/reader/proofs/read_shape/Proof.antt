@@ -5,10 +5,11 @@ use lib.Dec.{lit≤}
 use lib.ListN.{length}
 use Rattle.rules.proofs.Accepted.{section-facts, mesh-and-table-facts}
 use Rattle.rules.specs.Limits.{mostDevices}
 use Rattle.reader.proofs.Answers.{read-on, read-stopped}
-use Rattle.plan.proofs.Opens.{headed, no-counted, mesh-stops, tensor-stops, shape-is}
-use Rattle.plan.proofs.read_shape.Statement.{statement}
-use Rattle.plan.proofs.read_shape.Tie as tie
+use Rattle.reader.proofs.Heading.{headed}
+use Rattle.reader.proofs.Shaping.{no-counted, mesh-stops, tensor-stops, shape-is}
+use Rattle.reader.proofs.read_shape.Statement.{statement}
+use Rattle.reader.proofs.read_shape.Tie as tie
 
 enum-told : tie.Need-enum-told
 enum-told c = search needs
@@ -17,20 +18,19 @@ pub read-shape-spec : {M : Type 1} → statement M
 read-shape-spec =
     tie.close
     (tie.spec
-    (λ c κs. search needs)
-    (λ c κs. let h = headed _ _ (c .before .before .pre) in
+    (λ c κs. let h = headed _ _ (c .before .pre) in
     (omega (arith, h .facts .long), omega (arith, h .facts .axes-few, h .axes-are), lit≤ tt))
     (λ c. search needs)
     enum-told
     (λ c κs. search needs)
     (λ c κs. search needs)
     (λ c. let p = c .before .before .before .before in
+    let h = headed _ _ (p .before .before .pre) in
     let stop = read-stopped _ (p .read-sizes .ensures .0 .reads) (c .before .before .enum-told .given .1) (c .before .refusal .ensures) in
-    (c .refused .ensures .0 ∙ sym (mesh-stops _ _ _ (p .before .u16-at .ensures .0) stop), no-counted (c .refused .ensures .1)))
-    (λ c κs. search needs)
-    (λ c κs. let p = c .before .before .before .before in
-    let h = headed _ _ (p .before .before .before .pre) in
-    let m = read-on _ (p .read-sizes .ensures .0 .reads) (c .before .before .next .given .1) in
+    (c .refused .ensures .0 ∙ sym (mesh-stops _ _ _ (h .mesh-at) stop), no-counted (c .refused .ensures .1)))
+    (λ c κs. let p = c .before .before .before in
+    let h = headed _ _ (p .before .before .pre) in
+    let m = read-on _ (p .read-sizes .ensures .0 .reads) (c .before .next .given .1) in
     let f = section-facts mostDevices 10 11 _ _ _ 18 _ (lit≤ tt) m in
     (omega (arith, f .inside), omega (arith, h .facts .rank-few, h .rank-is), lit≤ tt))
     (λ c. search needs)
@@ -38,18 +38,20 @@ read-shape-spec =
     (λ c κs. search needs)
     (λ c κs. search needs)
     (λ c. let p = c .before .before .before .before in
-    let q = p .before .before .before .before .before in
-    let m = read-on _ (q .read-sizes .ensures .0 .reads) (p .before .before .before .next .given .1) in
+    let q = p .before .before .before .before in
+    let h = headed _ _ (q .before .before .pre) in
+    let m = read-on _ (q .read-sizes .ensures .0 .reads) (p .before .before .next .given .1) in
     let stop = read-stopped _ (p .read-sizes2 .ensures .0 .reads) (c .before .before .enum-told2 .given .1) (c .before .refusal2 .ensures) in
-    (c .refused2 .ensures .0 ∙ sym (tensor-stops _ _ _ (q .before .u16-at .ensures .0) m (p .before .u16-at2 .ensures .0) stop), no-counted (c .refused2 .ensures .1)))
-    (λ c κs. let h = headed _ _ (c .before .before .before .before .before .before .before .before .before .before .before .before .before .pre) in
+    (c .refused2 .ensures .0 ∙ sym (tensor-stops _ _ _ (h .mesh-at) m (h .table-at) stop), no-counted (c .refused2 .ensures .1)))
+    (λ c κs. let h = headed _ _ (c .before .before .before .before .before .before .before .before .before .before .before .pre) in
     omega (arith, h .facts .rank-few, h .rank-is))
     (λ c. let l = c .before .before .before .before in
     let p = l .before .before in
-    let q = p .before .before .before .before .before in
-    let m = read-on _ (q .read-sizes .ensures .0 .reads) (p .before .before .before .next .given .1) in
+    let q = p .before .before .before .before in
+    let h = headed _ _ (q .before .before .pre) in
+    let m = read-on _ (q .read-sizes .ensures .0 .reads) (p .before .before .next .given .1) in
     let t = read-on _ (p .read-sizes2 .ensures .0 .reads) (l .last .given .1) in
-    let is = shape-is _ _ _ (q .before .u16-at .ensures .0) m (p .before .u16-at2 .ensures .0) t in
+    let is = shape-is _ _ _ (h .mesh-at) m (h .table-at) t in
     let table = c .table-of .ensures in
     let f = mesh-and-table-facts _ _ _ _ is in (
       rw (table .1) (sym is),
