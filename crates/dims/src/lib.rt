@@ -1,17 +1,17 @@
 // Dimension by dimension: the tests and changes of one axis list for each dimension, and shard sizes. One loop over the dimensions each.
 // At the end, the arrays of an answer, with nothing past the rank and 0 in every place that is not used.
 ghost use mathlib.Core.Path.{_≡_};
-ghost use mathlib.Core.List.{[]};
+ghost use mathlib.Core.List.{[], _++_};
 ghost use Prim.Native.Nat.{_/_, _%_, _≤_, _<_};
 ghost use lib.Dec.{eqb};
 ghost use lib.ListN.{length, getD, take, drop};
-ghost use Rattle.rules.specs.Lists.{both, flat, product};
+ghost use Rattle.rules.specs.Lists.{each, both, flat, product};
 ghost use Rattle.rules.specs.Limits.{mostAxes, mostDims};
 ghost use Rattle.rules.specs.Mesh.{span as spanOf};
 ghost use Rattle.rules.specs.Sharding.{divisible as divisibleOf, shardSizes};
-ghost use Rattle.rules.specs.Collectives.{sliced as slicedOf, gathered as gatheredOf};
+ghost use Rattle.rules.specs.Collectives.{cutTail};
 ghost use Rattle.rules.specs.PlanFile.{some, allBelow, isTail};
-ghost use Rattle.rules.specs.Types.{axesOf, dimsOf, shardingOf, fourPlaces, shardingFrom, noLists, meshOf, Sized, sizesOf};
+ghost use Rattle.rules.specs.Types.{axesOf, dimsOf, shardingOf, fourPlaces, listsFrom, shardingFrom, noLists, meshOf, Sized, sizesOf};
 ghost use Rattle.axes.specs.Marks.{marksWith};
 ghost use Rattle.dims.specs.Dims.{Room};
 use axes::all_below;
@@ -22,18 +22,19 @@ use axes::mark_list;
 use axes::span;
 use rules::AxisList;
 use rules::Dim;
+use rules::DimLists;
 use rules::Mesh;
 use rules::Sharding;
 use rules::Table;
 
 // Whether the lists name an axis.
-pub fn names_axis(lists: Sharding, rank: usize) -> bool
+pub fn names_axis(lists: DimLists, rank: usize) -> bool
     requires { ⌜ rank ≤ mostDims ⌝ }
     ensures { λ r. ⌜ r ≡ some (flat (take rank (dimsOf lists))) ⌝ }
 {
     let mut d: usize = 0;
     while d < rank {
-        let list = lists.list(Dim(d as u8));
+        let list = lists.at(Dim(d as u8));
         if list.len() != 0 {
             return true;
         }
@@ -43,13 +44,13 @@ pub fn names_axis(lists: Sharding, rank: usize) -> bool
 }
 
 // Whether each axis of the lists is below n.
-pub fn names_below(lists: Sharding, rank: usize, n: usize) -> bool
+pub fn names_below(lists: DimLists, rank: usize, n: usize) -> bool
     requires { ⌜ rank ≤ mostDims ⌝ }
     ensures { λ r. ⌜ r ≡ allBelow n (flat (take rank (dimsOf lists))) ⌝ }
 {
     let mut d: usize = 0;
     while d < rank {
-        let list = lists.list(Dim(d as u8));
+        let list = lists.at(Dim(d as u8));
         if !all_below(list, n) {
             return false;
         }
@@ -59,27 +60,27 @@ pub fn names_below(lists: Sharding, rank: usize, n: usize) -> bool
 }
 
 // Marks the axes of the lists.
-pub fn mark_dims(lists: Sharding, rank: usize, marks: &mut [bool])
+pub fn mark_dims(lists: DimLists, rank: usize, marks: &mut [bool])
     requires { ⌜ rank ≤ mostDims ⌝ }
     ensures { λ _. ⌜ now (marks .exit) ≡ marksWith (now (marks .entry)) (flat (take rank (dimsOf lists))) ⌝ }
 {
     let mut d: usize = 0;
     while d < rank {
-        let list = lists.list(Dim(d as u8));
+        let list = lists.at(Dim(d as u8));
         mark_list(marks, list);
         d += 1;
     }
 }
 
 // Whether each list is the tail of its dimension's list.
-pub fn tails(sharding: Sharding, lists: Sharding, rank: usize) -> bool
+pub fn tails(dims: DimLists, lists: DimLists, rank: usize) -> bool
     requires { ⌜ rank ≤ mostDims ⌝ }
-    ensures { λ r. ⌜ r ≡ both isTail (take rank (dimsOf sharding)) (take rank (dimsOf lists)) ⌝ }
+    ensures { λ r. ⌜ r ≡ both isTail (take rank (dimsOf dims)) (take rank (dimsOf lists)) ⌝ }
 {
     let mut d: usize = 0;
     while d < rank {
-        let list = sharding.list(Dim(d as u8));
-        let tail = lists.list(Dim(d as u8));
+        let list = dims.at(Dim(d as u8));
+        let tail = lists.at(Dim(d as u8));
         if !is_tail(list, tail) {
             return false;
         }
@@ -88,37 +89,37 @@ pub fn tails(sharding: Sharding, lists: Sharding, rank: usize) -> bool
     true
 }
 
-// The sharding after an all-gather: each list is cut off its dimension's list. Lists past the rank stay.
-pub fn gathered(sharding: Sharding, lists: Sharding, rank: usize) -> Sharding
+// The dimensions' lists, each without the tail that is given for it. Lists past the rank stay.
+pub fn cut_tails(dims: DimLists, lists: DimLists, rank: usize) -> DimLists
     requires { ⌜ rank ≤ mostDims ⌝ }
-    ensures { λ r. ⌜ (shardingOf rank r ≡ gatheredOf (take rank (dimsOf lists)) (shardingOf rank sharding))
-        × (drop rank (dimsOf r) ≡ drop rank (dimsOf sharding)) ⌝ }
+    ensures { λ r. ⌜ (take rank (dimsOf r) ≡ each cutTail (take rank (dimsOf dims)) (take rank (dimsOf lists)))
+        × (drop rank (dimsOf r) ≡ drop rank (dimsOf dims)) ⌝ }
 {
-    let mut next = sharding;
+    let mut next = dims;
     let mut d: usize = 0;
     while d < rank {
         let dim = Dim(d as u8);
-        let list = sharding.list(dim);
-        let tail = lists.list(dim);
-        next = next.with_list(dim, cut_tail(list, tail));
+        let list = dims.at(dim);
+        let tail = lists.at(dim);
+        next = next.with(dim, cut_tail(list, tail));
         d += 1;
     }
     next
 }
 
-// The sharding after an all-slice: each list is joined to the end of its dimension's list. Lists past the rank stay.
-pub fn sliced(sharding: Sharding, lists: Sharding, rank: usize) -> Sharding
-    requires { ⌜ (rank ≤ mostDims) × Room (take rank (dimsOf sharding)) (take rank (dimsOf lists)) ⌝ }
-    ensures { λ r. ⌜ (shardingOf rank r ≡ slicedOf (take rank (dimsOf lists)) (shardingOf rank sharding))
-        × (drop rank (dimsOf r) ≡ drop rank (dimsOf sharding)) ⌝ }
+// The dimensions' lists, each with the list that is given for it joined to its end. Lists past the rank stay.
+pub fn join_lists(dims: DimLists, lists: DimLists, rank: usize) -> DimLists
+    requires { ⌜ (rank ≤ mostDims) × Room (take rank (dimsOf dims)) (take rank (dimsOf lists)) ⌝ }
+    ensures { λ r. ⌜ (take rank (dimsOf r) ≡ each _++_ (take rank (dimsOf dims)) (take rank (dimsOf lists)))
+        × (drop rank (dimsOf r) ≡ drop rank (dimsOf dims)) ⌝ }
 {
-    let mut next = sharding;
+    let mut next = dims;
     let mut d: usize = 0;
     while d < rank {
         let dim = Dim(d as u8);
-        let list = sharding.list(dim);
-        let tail = lists.list(dim);
-        next = next.with_list(dim, join(list, tail));
+        let list = dims.at(dim);
+        let tail = lists.at(dim);
+        next = next.with(dim, join(list, tail));
         d += 1;
     }
     next
@@ -133,14 +134,14 @@ fn divides(span: usize, size: u16) -> bool
 }
 
 // Whether each size of a table is divisible by the span of its dimension's list.
-pub fn divisible(table: Table, lists: Sharding, mesh: Mesh) -> bool
+pub fn divisible(table: Table, lists: DimLists, mesh: Mesh) -> bool
     requires { ⌜ (table .rank ≤ mostDims) × Sized (meshOf mesh) ⌝ }
     ensures { λ r. ⌜ r ≡ divisibleOf (meshOf mesh) (sizesOf table) (take (table .rank) (dimsOf lists)) ⌝ }
 {
     let rank = table.rank;
     let mut d: usize = 0;
     while d < rank {
-        let list = lists.list(Dim(d as u8));
+        let list = lists.at(Dim(d as u8));
         let size = table.sizes[d];
         if !divides(span(list, mesh), size) {
             return false;
@@ -151,14 +152,14 @@ pub fn divisible(table: Table, lists: Sharding, mesh: Mesh) -> bool
 }
 
 // The product of the sizes of all axes of the lists.
-pub fn span_dims(lists: Sharding, rank: usize, mesh: Mesh) -> usize
+pub fn span_dims(lists: DimLists, rank: usize, mesh: Mesh) -> usize
     requires { ⌜ (rank ≤ mostDims) × Sized (meshOf mesh) × (length (flat (take rank (dimsOf lists))) ≤ mostAxes) ⌝ }
     ensures { λ r. ⌜ r ≡ spanOf (meshOf mesh) (flat (take rank (dimsOf lists))) ⌝ }
 {
     let mut product: usize = 1;
     let mut d: usize = 0;
     while d < rank {
-        let list = lists.list(Dim(d as u8));
+        let list = lists.at(Dim(d as u8));
         product = product * span(list, mesh);
         d += 1;
     }
@@ -173,17 +174,17 @@ fn quotient(size: u16, span: usize) -> u16
     (whole / span) as u16
 }
 
-// One shard of a table under a sharding, itself a table. Sizes past the rank stay.
-pub fn shard_of(table: Table, sharding: Sharding, mesh: Mesh) -> Table
+// One shard of a table whose dimensions the lists split, itself a table. Sizes past the rank stay.
+pub fn shard_of(table: Table, dims: DimLists, mesh: Mesh) -> Table
     requires { ⌜ (table .rank ≤ mostDims) × Sized (meshOf mesh) ⌝ }
-    ensures { λ r. ⌜ (r .rank ≡ table .rank) × (sizesOf r ≡ shardSizes (meshOf mesh) (sizesOf table) (take (table .rank) (dimsOf sharding)))
+    ensures { λ r. ⌜ (r .rank ≡ table .rank) × (sizesOf r ≡ shardSizes (meshOf mesh) (sizesOf table) (take (table .rank) (dimsOf dims)))
         × (drop (table .rank) (r .sizes) ≡ drop (table .rank) (table .sizes)) ⌝ }
 {
     let rank = table.rank;
     let mut shard = table;
     let mut d: usize = 0;
     while d < rank {
-        let list = sharding.list(Dim(d as u8));
+        let list = dims.at(Dim(d as u8));
         let size = table.sizes[d];
         shard.sizes[d] = quotient(size, span(list, mesh));
         d += 1;
@@ -214,15 +215,27 @@ pub fn words(table: Table) -> usize
 }
 
 // The list of a dimension, no axes past the rank.
-fn list_at(sharding: Sharding, rank: usize, d: usize) -> AxisList
+fn list_at(lists: DimLists, rank: usize, d: usize) -> AxisList
     requires { ⌜ d < mostDims ⌝ }
-    ensures { λ r. ⌜ axesOf r ≡ getD (take rank (dimsOf sharding)) d [] ⌝ }
+    ensures { λ r. ⌜ axesOf r ≡ getD (take rank (dimsOf lists)) d [] ⌝ }
 {
     if d < rank {
-        sharding.list(Dim(d as u8))
+        lists.at(Dim(d as u8))
     } else {
         AxisList::empty()
     }
+}
+
+// The lists of the dimensions below a rank, with no axes past it and every place fixed that is not used.
+fn dims_within(lists: DimLists, rank: usize) -> DimLists
+    ensures { λ r. ⌜ r ≡ listsFrom (take rank (dimsOf lists)) ⌝ }
+{
+    DimLists([
+        list_at(lists, rank, 0).cleared(),
+        list_at(lists, rank, 1).cleared(),
+        list_at(lists, rank, 2).cleared(),
+        list_at(lists, rank, 3).cleared(),
+    ])
 }
 
 // The sharding of a table of a rank, with no axes past it and every place fixed that is not used.
@@ -230,13 +243,9 @@ pub fn lists_within(sharding: Sharding, rank: usize) -> Sharding
     ensures { λ r. ⌜ r ≡ shardingFrom (shardingOf rank sharding) ⌝ }
 {
     Sharding {
-        dims: [
-            list_at(sharding, rank, 0).cleared(),
-            list_at(sharding, rank, 1).cleared(),
-            list_at(sharding, rank, 2).cleared(),
-            list_at(sharding, rank, 3).cleared(),
-        ],
+        dims: dims_within(sharding.dims, rank),
         unreduced: sharding.unreduced.cleared(),
+        replicated: sharding.replicated.cleared(),
     }
 }
 
@@ -244,7 +253,7 @@ pub fn lists_within(sharding: Sharding, rank: usize) -> Sharding
 pub fn no_lists() -> Sharding
     ensures { λ r. ⌜ r ≡ shardingFrom noLists ⌝ }
 {
-    lists_within(Sharding::replicated(), 0)
+    lists_within(Sharding::none(), 0)
 }
 
 // The size of a dimension, 0 past the rank.

@@ -37,7 +37,7 @@ divisible-spec =
     (λ c. search needs)
     (λ c κs. search needs)
     (λ c κs. let c5 = c .before .before .before .before .before in
-    omega (arith, c .span .ensures, span-least (meshOf (c5 .args .mesh)) (c5 .pre .1) (axesOf (c .before .before .list .result))))
+    omega (arith, c .span .ensures, span-least (meshOf (c5 .args .mesh)) (c5 .pre .1) (axesOf (c .before .before .at .result))))
     (λ c. let c4 = c .before .before .before .before in
     let c5 = c4 .before in
     let c6 = c5 .before in
@@ -45,7 +45,7 @@ divisible-spec =
     let a = c7 .args in
     let h = c5 .loop-test .taken in
     let p = sym (getD-take (a .t1 .rank) (a .t1 .sizes) (c6 .loop .d) 0 h) in
-    let q = list-at (a .lists) (a .t1 .rank) (c6 .loop .d) _ h (c4 .list .ensures) in
+    let q = list-at (a .lists) (a .t1 .rank) (c6 .loop .d) _ h (c4 .at .ensures) in
     sym (fails (c6 .loop .inv) h _ 0 p _ [] q (rw (← (c .before .before .span .ensures))
     (sym (c .before .divides .ensures) ∙ not-true _ (c .if1 .taken)))))
     (λ c. search needs)
@@ -57,6 +57,6 @@ divisible-spec =
     let a = c7 .args in
     let h = c5 .loop-test .taken in
     let p = sym (getD-take (a .t1 .rank) (a .t1 .sizes) (c6 .loop .d) 0 h) in
-    let q = list-at (a .lists) (a .t1 .rank) (c6 .loop .d) _ h (c4 .list .ensures) in
+    let q = list-at (a .lists) (a .t1 .rank) (c6 .loop .d) _ h (c4 .at .ensures) in
     passes (c6 .loop .inv) h _ 0 p _ [] q (rw (← (c .before .before .span .ensures)) (sym (c .before .divides .ensures) ∙ not-false _ (c .if1 .left))))
     (λ c. sym (tested (c .before .loop .inv) (c .loop-test .left))))

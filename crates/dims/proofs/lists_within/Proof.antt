@@ -1,32 +1,12 @@
 use borrow.Author.Needs.{needs}
-use mathlib.Core.Path.{ap, _∙_}
-use mathlib.Core.List.{[], _∷_}
-use Rattle.rules.specs.Types.{listFrom}
 use Rattle.dims.proofs.lists_within.Statement.{statement}
 use Rattle.dims.proofs.lists_within.Tie as tie
 
 pub lists-within-spec : {M : Type 1} → statement M
 lists-within-spec =
     tie.close
-    (tie.spec
-    (λ c κs. search needs)
-    (λ c κs. search needs)
-    (λ c κs. search needs)
-    (λ c κs. search needs)
-    (λ c κs. search needs)
-    (λ c κs. search needs)
-    (λ c κs. search needs)
-    (λ c κs. search needs)
-    (λ c κs. search needs)
-    (λ c. let d3 = c .before in
-    let d2 = d3 .before .before in
-    let d1 = d2 .before .before in
-    let d0 = d1 .before .before in
-    (λ i. record {
-      dims = (d0 .cleared .ensures ∙ ap listFrom (d0 .before .list-at .ensures)) i
-          ∷ (d1 .cleared2 .ensures ∙ ap listFrom (d1 .before .list-at2 .ensures)) i
-          ∷ (d2 .cleared3 .ensures ∙ ap listFrom (d2 .before .list-at3 .ensures)) i
-          ∷ (d3 .cleared4 .ensures ∙ ap listFrom (d3 .before .list-at4 .ensures)) i
-          ∷ [];
-      unreduced = c .cleared5 .ensures i;
+    (tie.spec (λ c κs. search needs) (λ c κs. search needs) (λ c κs. search needs) (λ c. (λ i. record {
+      dims = c .before .before .dims-within .ensures i;
+      unreduced = c .before .cleared .ensures i;
+      replicated = c .cleared2 .ensures i;
     })))

@@ -38,7 +38,7 @@ mark-dims-spec =
     (λ c. let a = c .before .before .before .before .before .before .before .before .args in
     let i = c .before .before .before .before .before .before .loop .inv in
     let h = c .before .before .before .before .before .loop-test .taken in
-    let l = c .before .before .before .before .list in
+    let l = c .before .before .before .before .at in
     let m = c .before .before .mark-list in (
       m .kept .0 ∙ i .0,
       onward (i .1) h (axesOf (l .result)) [] (list-at (a .lists) (a .rank) _ _ h (l .ensures)) _

@@ -33,8 +33,8 @@ names-axis-spec =
     let c5 = c4 .before in
     let a = c5 .args in
     let h = c3 .loop-test .taken in
-    let l = axesOf (c .before .before .list .result) in
-    sym (ahead (c4 .loop .inv) h l [] (list-at (a .lists) (a .rank) (c4 .loop .d) l h (c .before .before .list .ensures))
+    let l = axesOf (c .before .before .at .result) in
+    sym (ahead (c4 .loop .inv) h l [] (list-at (a .lists) (a .rank) (c4 .loop .d) l h (c .before .before .at .ensures))
     ∙ some-here l _ (λ e. c .if1 .taken (c .before .len .ensures ∙ e))))
     (λ c. search needs)
     (λ c. search needs)
@@ -43,7 +43,7 @@ names-axis-spec =
     let c5 = c4 .before in
     let a = c5 .args in
     let h = c3 .loop-test .taken in
-    let l = axesOf (c .before .before .list .result) in
-    onward (c4 .loop .inv) h l [] (list-at (a .lists) (a .rank) (c4 .loop .d) l h (c .before .before .list .ensures)) _
+    let l = axesOf (c .before .before .at .result) in
+    onward (c4 .loop .inv) h l [] (list-at (a .lists) (a .rank) (c4 .loop .d) l h (c .before .before .at .ensures)) _
     (some-later l _ (sym (c .before .len .ensures) ∙ c .if1 .left)))
     (λ c. sym (finish (c .before .loop .inv) (c .loop-test .left))))

@@ -36,8 +36,8 @@ names-below-spec =
     let c5 = c4 .before in
     let a = c5 .args in
     let h = c3 .loop-test .taken in
-    let l = axesOf (c .before .before .list .result) in
-    sym (ahead (c4 .loop .inv) h l [] (list-at (a .lists) (a .rank) (c4 .loop .d) l h (c .before .before .list .ensures))
+    let l = axesOf (c .before .before .at .result) in
+    sym (ahead (c4 .loop .inv) h l [] (list-at (a .lists) (a .rank) (c4 .loop .d) l h (c .before .before .at .ensures))
     ∙ below-append (a .n) l _ ∙ simp (sym (c .before .all-below .ensures) ∙ not-true _ (c .if1 .taken))))
     (λ c. search needs)
     (λ c. search needs)
@@ -46,7 +46,7 @@ names-below-spec =
     let c5 = c4 .before in
     let a = c5 .args in
     let h = c3 .loop-test .taken in
-    let l = axesOf (c .before .before .list .result) in
-    onward (c4 .loop .inv) h l [] (list-at (a .lists) (a .rank) (c4 .loop .d) l h (c .before .before .list .ensures)) _
+    let l = axesOf (c .before .before .at .result) in
+    onward (c4 .loop .inv) h l [] (list-at (a .lists) (a .rank) (c4 .loop .d) l h (c .before .before .at .ensures)) _
     (below-append (a .n) l _ ∙ simp (sym (c .before .all-below .ensures) ∙ not-false _ (c .if1 .left))))
     (λ c. sym (finish (c .before .loop .inv) (c .loop-test .left))))

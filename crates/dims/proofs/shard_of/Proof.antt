@@ -7,18 +7,18 @@ use lib.ListN.{length-map, take, drop}
 use lib.Seq.{getD-take, length-take-le}
 use Rattle.rules.specs.Mesh.{span as spanOf}
 use Rattle.rules.specs.Types.{axesOf, dimsOf, meshOf, sizesOf}
-use Rattle.dims.proofs.Pairs.{Making, making, makes, all-made, stays}
+use Rattle.dims.proofs.Pairs.{Making, making, makes, all-made, past-stays}
 use Rattle.dims.proofs.Dims.{dims-length, list-at, span-least}
 use Rattle.dims.proofs.shard_of.Statement.{statement}
 use Rattle.dims.proofs.shard_of.Tie as tie
 
 abbrev Inv-loop : tie.InvT-loop
-Inv-loop sharding mesh table rank shard₀ d₀ shard d =
-    Making (λ (n : ℕ) (l : List ℕ). n / spanOf (meshOf mesh) l) (sizesOf table) (take rank (dimsOf sharding)) (shard .sizes) rank d
+Inv-loop dims mesh table rank shard₀ d₀ shard d =
+    Making (λ (n : ℕ) (l : List ℕ). n / spanOf (meshOf mesh) l) (sizesOf table) (take rank (dimsOf dims)) (shard .sizes) rank d
     × (shard .rank ≡ table .rank) × (drop rank (shard .sizes) ≡ drop rank (table .sizes))
 
 abbrev μ-loop : tie.MeasureT-loop
-μ-loop sharding mesh table rank shard₀ d₀ shard d = rank - d
+μ-loop dims mesh table rank shard₀ d₀ shard d = rank - d
 
 pub shard-of-spec : {M : Type 1} → statement M
 shard-of-spec =
@@ -29,7 +29,7 @@ shard-of-spec =
     (λ c. let a = c .args in
     let s = simp length-map at (c .good .0 .1 .1 .1 .0 .1 .0 .1) in (
       making _ _ _ _ (a .t1 .rank) (length-take-le (a .t1 .rank) (a .t1 .sizes) (omega (arith, s)))
-          (dims-length (a .sharding) (a .t1 .rank) (simp length-map at (c .good .1 .0 .1 .1 .0 .1 .0 .1)) (omega arith)) (omega (arith, s)),
+          (dims-length (a .dims) (a .t1 .rank) (simp length-map at (c .good .1 .0 .1 .1 .0 .1 .0 .1)) (omega arith)) (omega (arith, s)),
       refl,
       refl,
     ))
@@ -39,7 +39,7 @@ shard-of-spec =
     (λ c. search needs)
     (λ c κs. search needs)
     (λ c κs. let c5 = c .before .before .before .before .before in
-    omega (arith, c .span .ensures, span-least (meshOf (c5 .args .mesh)) (c5 .pre .1) (axesOf (c .before .before .list .result))))
+    omega (arith, c .span .ensures, span-least (meshOf (c5 .args .mesh)) (c5 .pre .1) (axesOf (c .before .before .at .result))))
     (λ c. search needs)
     (λ c. search needs)
     (λ c. search needs)
@@ -52,7 +52,7 @@ shard-of-spec =
     let i = c5 .loop .inv in
     let h = c4 .loop-test .taken in
     let p = sym (getD-take (a .t1 .rank) (a .t1 .sizes) (c5 .loop .d) 0 h) in
-    let q = list-at (a .sharding) (a .t1 .rank) (c5 .loop .d) _ h (c3 .list .ensures) in
-    (makes (i .0) h _ 0 p _ [] q _ _ refl (rw (← (c .before .span .ensures)) (c .quotient .ensures)), i .1, stays (i .0) _ refl h (i .2)))
+    let q = list-at (a .dims) (a .t1 .rank) (c5 .loop .d) _ h (c3 .at .ensures) in
+    (makes (i .0) h _ 0 p _ [] q _ _ refl (rw (← (c .before .span .ensures)) (c .quotient .ensures)), i .1, past-stays (i .0) _ refl h (i .2)))
     (λ c. let i = c .before .loop .inv in
     (i .1, rw (i .1) (all-made (i .0) (c .loop-test .left)), i .2)))

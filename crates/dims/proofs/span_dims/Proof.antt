@@ -15,7 +15,7 @@ use Rattle.dims.proofs.span_dims.Tie as tie
 use Rattle.dims.proofs.span_dims.Reads as reads
 use Rattle.dims.proofs.span_dims.Lts as lts
 use Rattle.axes.proofs.span.Reads as span-reads
-use Rattle.rules.proofs.Sharding.list.Reads as list-reads
+use Rattle.rules.proofs.DimLists.at.Reads as at-reads
 
 abbrev Inv-loop : tie.InvT-loop
 Inv-loop lists rank mesh product₀ d₀ product d = (length (take rank (dimsOf lists)) ≡ rank) × (product ≡ spanOf (meshOf mesh) (flat (take d (take rank (dimsOf lists)))))
@@ -24,7 +24,7 @@ abbrev μ-loop : tie.MeasureT-loop
 μ-loop lists rank mesh product₀ d₀ product d = rank - d
 
 -- one list more
-next : (c : lts.After-span (list-reads.Asked, list-reads.Learnt, span-reads.Asked, span-reads.Learnt) reads.Pre reads.Post Inv-loop μ-loop)
+next : (c : lts.After-span (at-reads.Asked, at-reads.Learnt, span-reads.Asked, span-reads.Learnt) reads.Pre reads.Post Inv-loop μ-loop)
     → (let a = c .before .before .before .before .args in
     c .before .before .before .loop .product * c .span .result ≡ spanOf (meshOf (a .mesh)) (flat (take (c .before .before .before .loop .d + 1) (take (a .rank) (dimsOf (a .lists))))))
 next c =
@@ -32,9 +32,9 @@ next c =
     let d = c .before .before .before .loop .d in
     let i = c .before .before .before .loop .inv in
     let h = c .before .before .loop-test .taken in
-    let l = axesOf (c .before .list .result) in
+    let l = axesOf (c .before .at .result) in
     ap₂ _*_ (i .1) (c .span .ensures)
-    ∙ span-more (meshOf (a .mesh)) (take (a .rank) (dimsOf (a .lists))) d l (omega (arith, i .0)) (list-at (a .lists) (a .rank) d l h (c .before .list .ensures))
+    ∙ span-more (meshOf (a .mesh)) (take (a .rank) (dimsOf (a .lists))) d l (omega (arith, i .0)) (list-at (a .lists) (a .rank) d l h (c .before .at .ensures))
 
 pub span-dims-spec : {M : Type 1} → statement M
 span-dims-spec =

@@ -13,10 +13,10 @@ use Rattle.dims.proofs.tails.Statement.{statement}
 use Rattle.dims.proofs.tails.Tie as tie
 
 abbrev Inv-loop : tie.InvT-loop
-Inv-loop sharding lists rank d₀ d = Testing isTail (take rank (dimsOf sharding)) (take rank (dimsOf lists)) rank d
+Inv-loop dims lists rank d₀ d = Testing isTail (take rank (dimsOf dims)) (take rank (dimsOf lists)) rank d
 
 abbrev μ-loop : tie.MeasureT-loop
-μ-loop sharding lists rank d₀ d = rank - d
+μ-loop dims lists rank d₀ d = rank - d
 
 pub tails-spec : {M : Type 1} → statement M
 tails-spec =
@@ -25,7 +25,7 @@ tails-spec =
     Inv-loop
     μ-loop
     (λ c. let a = c .args in
-    testing isTail _ _ (a .rank) (dims-length (a .sharding) (a .rank) (simp length-map at (c .good .0 .1 .1 .0 .1 .0 .1)) (omega arith))
+    testing isTail _ _ (a .rank) (dims-length (a .dims) (a .rank) (simp length-map at (c .good .0 .1 .1 .0 .1 .0 .1)) (omega arith))
     (dims-length (a .lists) (a .rank) (simp length-map at (c .good .1 .0 .1 .1 .0 .1 .0 .1)) (omega arith)))
     (λ c. search needs)
     (λ c κs. search needs)
@@ -38,8 +38,8 @@ tails-spec =
     let c6 = c5 .before in
     let a = c6 .args in
     let h = c4 .loop-test .taken in
-    let p = list-at (a .sharding) (a .rank) (c5 .loop .d) _ h (c3 .list .ensures) in
-    let q = list-at (a .lists) (a .rank) (c5 .loop .d) _ h (c .before .before .list2 .ensures) in
+    let p = list-at (a .dims) (a .rank) (c5 .loop .d) _ h (c3 .at .ensures) in
+    let q = list-at (a .lists) (a .rank) (c5 .loop .d) _ h (c .before .before .at2 .ensures) in
     sym (fails (c5 .loop .inv) h _ [] p _ [] q (sym (c .before .is-tail .ensures) ∙ not-true _ (c .if1 .taken))))
     (λ c. search needs)
     (λ c. search needs)
@@ -49,7 +49,7 @@ tails-spec =
     let c6 = c5 .before in
     let a = c6 .args in
     let h = c4 .loop-test .taken in
-    let p = list-at (a .sharding) (a .rank) (c5 .loop .d) _ h (c3 .list .ensures) in
-    let q = list-at (a .lists) (a .rank) (c5 .loop .d) _ h (c .before .before .list2 .ensures) in
+    let p = list-at (a .dims) (a .rank) (c5 .loop .d) _ h (c3 .at .ensures) in
+    let q = list-at (a .lists) (a .rank) (c5 .loop .d) _ h (c .before .before .at2 .ensures) in
     passes (c5 .loop .inv) h _ [] p _ [] q (sym (c .before .is-tail .ensures) ∙ not-false _ (c .if1 .left)))
     (λ c. sym (tested (c .before .loop .inv) (c .loop-test .left))))
