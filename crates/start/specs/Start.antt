@@ -1,11 +1,11 @@
--- What a verdict stands for, and the marks that a judgement of axes leaves. Assumes nothing.
+-- What a verdict stands for, the marks that a judgement of axes leaves, and the two increasing lists of a start. Assumes nothing.
 use Prim.Native.Nat.{ℕ, _+_}
 use mathlib.Core.Bool.{Bool, true, false}
-use mathlib.Core.List.{List, [], _∷_}
+use mathlib.Core.List.{List, [], _∷_, _++_}
 use lib.ListN.{set}
 use Rattle.rules.specs.Lists.{pick}
-use Rattle.rules.specs.Refusals.{Judged, accept, refuse, refusedBy}
-use Rattle.rules.specs.PlanFile.{judgeAxis}
+use Rattle.rules.specs.Refusals.{Judged, accept, refuse, _>>_, refusedBy}
+use Rattle.rules.specs.PlanFile.{judgeAxis, judgeAxes}
 use Rattle.rules.specs.declared.Reason.the-variants.{CountOutsideLimits}
 use Rattle.rules.specs.declared.Refusal.{Refusal}
 use Rattle.axes.specs.Marks.{marked}
@@ -31,3 +31,9 @@ unfolding marked
 marksAfter n increasing low marks [] = marks
 marksAfter n increasing low marks (a ∷ axes) =
     pick (passes (judgeAxis n low (marked marks) a)) (marksAfter n increasing (pick increasing (a + 1) 0) (set marks a true) axes) marks
+
+-- the unreduced axes, then the replicated ones: increasing lists in turn, as they stand in judgeStart
+abbrev pub judgeRising : (n : ℕ) → (before unreduced replicated : List ℕ) → Judged (Unit {0})
+judgeRising n before unreduced replicated = do
+  judgeAxes n true 0 before unreduced
+  judgeAxes n true 0 (before ++ unreduced) replicated

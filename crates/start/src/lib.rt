@@ -10,13 +10,14 @@ ghost use Rattle.rules.specs.Refusals.{refuse, numberOf};
 ghost use Rattle.rules.specs.PlanFile.{judgeAxis, judgeAxes, judgeStart};
 ghost use Rattle.rules.specs.Types.{axesOf, dimsOf, shardingOf, meshOf, sizesOf, WithinPlaces};
 ghost use Rattle.axes.specs.Marks.{marked};
-ghost use Rattle.start.specs.Start.{meaning, refusalOf, marksAfter};
+ghost use Rattle.start.specs.Start.{meaning, refusalOf, marksAfter, judgeRising};
 use axes::is_marked;
 use axes::mark;
 use dims::divisible;
 use rules::Axis;
 use rules::AxisList;
 use rules::Dim;
+use rules::DimLists;
 use rules::Mesh;
 use rules::Reason;
 use rules::Refusal;
@@ -115,14 +116,14 @@ pub fn judge_axes(axes: &[u8], n: usize) -> Verdict
 }
 
 // The axes of the dimensions' lists in turn, after the marked ones; those that pass are marked, up to the first that is refused.
-pub fn judge_dims(lists: Sharding, rank: usize, n: usize, marks: &mut [bool]) -> Verdict
+pub fn judge_dims(lists: DimLists, rank: usize, n: usize, marks: &mut [bool]) -> Verdict
     requires { ⌜ (rank ≤ mostDims) × (n ≤ length (now marks)) ⌝ }
     ensures { λ r. ⌜ meaning r ≡ judgeAxes n false 0 (marked (now (marks .entry))) (flat (take rank (dimsOf lists))) ⌝ }
     ensures { λ r. ⌜ now (marks .exit) ≡ marksAfter n false 0 (now (marks .entry)) (flat (take rank (dimsOf lists))) ⌝ }
 {
     let mut d: usize = 0;
     while d < rank {
-        let list = lists.list(Dim(d as u8));
+        let list = lists.at(Dim(d as u8));
         let verdict = judge_list(list, n, false, marks);
         let Verdict::Fine = verdict else {
             return verdict;
@@ -132,22 +133,39 @@ pub fn judge_dims(lists: Sharding, rank: usize, n: usize, marks: &mut [bool]) ->
     Verdict::Fine
 }
 
+// The unreduced axes, then the replicated ones: two increasing lists in turn, after the marked axes.
+fn judge_rising(
+    unreduced: AxisList,
+    replicated: AxisList,
+    n: usize,
+    marks: [bool; Axis::MOST],
+) -> Verdict
+    requires { ⌜ n ≤ mostAxes ⌝ }
+    ensures { λ r. ⌜ meaning r ≡ judgeRising n (marked marks) (axesOf unreduced) (axesOf replicated) ⌝ }
+{
+    let mut named = marks;
+    let first = judge_list(unreduced, n, true, &mut named);
+    let Verdict::Fine = first else {
+        return first;
+    };
+    judge_list(replicated, n, true, &mut named)
+}
+
 // A starting sharding: its axes in file order, then 17.
 pub fn judge_start(sharding: Sharding, mesh: Mesh, table: Table) -> Verdict
     requires { ⌜ WithinPlaces mesh table ⌝ }
     ensures { λ r. ⌜ meaning r ≡ judgeStart (meshOf mesh) (sizesOf table) (shardingOf (table .rank) sharding) ⌝ }
 {
     let mut marks = [false; Axis::MOST];
-    let dims = judge_dims(sharding, table.rank, mesh.n, &mut marks);
+    let dims = judge_dims(sharding.dims, table.rank, mesh.n, &mut marks);
     let Verdict::Fine = dims else {
         return dims;
     };
-    let unreduced = sharding.unreduced;
-    let last = judge_list(unreduced, mesh.n, true, &mut marks);
+    let last = judge_rising(sharding.unreduced, sharding.replicated, mesh.n, marks);
     let Verdict::Fine = last else {
         return last;
     };
-    if !divisible(table, sharding, mesh) {
+    if !divisible(table, sharding.dims, mesh) {
         return refused(Reason::StartNotDivisible, 0);
     }
     Verdict::Fine
