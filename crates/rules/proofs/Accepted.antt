@@ -253,7 +253,7 @@ front-accepted file f e =
     let j = then-inv (judgeStart (m .0 .value .mesh) (m .0 .value .sizes) (s .0 .value)) _ f (o .1) in
     let g : MeshAndTableFacts (axisCount file) (rankCount file) (m .0 .value) =
     mesh-and-table-facts (axisCount file) (rankCount file) file (m .0) (m .1) in
-    let z = need-inv 0 (oneMeaning (edition file) (s .0 .value)) 18 _ f (j .1) in
+    let z = need-inv 0 (oneMeaning (edition file) (s .0 .value .replicated)) 18 _ f (j .1) in
     subst (AcceptedFront file) (accept-inj (z .1)) (record {
       within = record {
         axes-some = omega (arith, g .axes-many);

@@ -232,7 +232,7 @@ afterSizes file m = do
   s ← shardingAt (carriesReplicated (edition file)) (axisCount file) (rankCount file) (shardingOffset file) file (m .next)
   need (eqb (stepsOffset file) (s .next)) 6
   judgeStart (m .value .mesh) (m .value .sizes) (s .value)
-  need (oneMeaning (edition file) (s .value)) 18
+  need (oneMeaning (edition file) (s .value .replicated)) 18
   accept (record { mesh = m .value .mesh; sizes = m .value .sizes; start = s .value; next = s .next })
 
 sizes-same : (file : List ℕ) (m : Read MeshAndTable) (f : Front) → afterSizes file m ≡ accept f → (m .value .mesh ≡ f .mesh) × (m .value .sizes ≡ f .sizes)
@@ -240,7 +240,7 @@ sizes-same file m f e =
     let s = bind-inv (shardingAt (carriesReplicated (edition file)) (axisCount file) (rankCount file) (shardingOffset file) file (m .next)) _ f e in
     let o = need-inv 0 (eqb (stepsOffset file) (s .0 .next)) 6 _ f (s .2) in
     let j = then-inv (judgeStart (m .value .mesh) (m .value .sizes) (s .0 .value)) _ f (o .1) in
-    let z = need-inv 0 (oneMeaning (edition file) (s .0 .value)) 18 _ f (j .1) in (
+    let z = need-inv 0 (oneMeaning (edition file) (s .0 .value .replicated)) 18 _ f (j .1) in (
       ap (λ (g : Front). g .mesh) (accept-inj (z .1)),
       ap (λ (g : Front). g .sizes) (accept-inj (z .1)),
     )

@@ -207,7 +207,7 @@ module _ (P : ℕ → ℕ → Type 0) where
         (λ m. bind _ _ (sharding-refuses (carriesReplicated (edition file)) (axisCount file) (rankCount file) (shardingOffset file) file (m .next))
         (λ s. tests 0 (eqb (stepsOffset file) (s .next)) 6 _ (out 6 tt)
         (next _ _ (start-refuses (m .value .mesh) (m .value .sizes) (s .value))
-        (tests 0 (oneMeaning (edition file) (s .value)) 18 _ (out 18 tt) (accepts _))))))
+        (tests 0 (oneMeaning (edition file) (s .value .replicated)) 18 _ (out 18 tt) (accepts _))))))
 
     -- ---- its steps
 

@@ -186,8 +186,8 @@ some [] = false
 some (a ∷ L) = true
 
 -- 18: "an empty one in edition 2 is refused .., so that one meaning keeps one file"
-abbrev pub oneMeaning : (edition : ℕ) → Sharding → Bool
-oneMeaning e s = not (eqb e 2) || some (s .replicated)
+abbrev pub oneMeaning : (edition : ℕ) → (replicated : List ℕ) → Bool
+oneMeaning e L = not (eqb e 2) || some L
 
 -- ---- a step
 
@@ -329,7 +329,7 @@ judgeFrontBy r file = do
   s ← shardingAt (carriesReplicated (edition file)) (axisCount file) (rankCount file) (shardingOffset file) file (m .next)
   need (eqb (stepsOffset file) (s .next)) 6
   judgeStart (m .value .mesh) (m .value .sizes) (s .value)
-  need (oneMeaning (edition file) (s .value)) 18
+  need (oneMeaning (edition file) (s .value .replicated)) 18
   accept (record { mesh = m .value .mesh; sizes = m .value .sizes; start = s .value; next = s .next })
 
 abbrev pub judgeFront : List ℕ → Judged Front

@@ -1,8 +1,8 @@
 use borrow.Author.Needs.{needs}
 use Rattle.reader.proofs.Answers.{header-on, header-stopped, read-on, read-stopped}
-use Rattle.plan.proofs.Opens.{open-refused, header-stops, shape-stops}
-use Rattle.plan.proofs.open.Statement.{statement}
-use Rattle.plan.proofs.open.Tie as tie
+use Rattle.opening.proofs.Opens.{open-refused, header-stops, shape-stops}
+use Rattle.opening.proofs.open.Statement.{statement}
+use Rattle.opening.proofs.open.Tie as tie
 
 enum-told : tie.Need-enum-told
 enum-told c = search needs

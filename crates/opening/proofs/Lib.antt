@@ -1,0 +1,2 @@
+-- The laws of the opening.
+pub mod Opens

@@ -1,0 +1,2 @@
+-- What the contracts of the opening are written with.
+pub mod Opening
