@@ -9,12 +9,12 @@ use lib.Dec.{T}
 use lib.ListN.{length, getD, length-append}
 use Rattle.rules.specs.Lists.{each, both, flat, In, Distinct}
 use Rattle.rules.specs.Limits.{mostAxes}
-use Rattle.rules.specs.Sharding.{Sharding, IsSharding, named}
+use Rattle.rules.specs.Sharding.{Sharding, IsSharding, varying, named}
 use Rattle.rules.specs.Collectives.{only, cutTail, gathered}
 use Rattle.rules.specs.PlanFile.{allBelow, fresh, isTail}
 use Rattle.rules.proofs.Lists.{in-left, in-append, at-flat, distinct-split, distinct-append, distinct-at, few-distinct, Apart}
 use Rattle.rules.proofs.Judging.{allBelow-lt, fresh-distinct}
-use Rattle.rules.proofs.Steps.{flat-only, Gathered, gather-sharding}
+use Rattle.rules.proofs.Steps.{flat-only, varies, Gathered, gather-sharding}
 use Rattle.dims.specs.Dims.{Room}
 
 room : (n : ℕ) (ds Ss : List (List ℕ)) → n ≤ mostAxes → Apart ds Ss → ((a : ℕ) → In a (flat ds) → a < n) → ((a : ℕ) → In a (flat Ss) → a < n)
@@ -30,18 +30,19 @@ room n ds Ss w p h k d =
       few-distinct n (l ++ t) (distinct-append l t (distinct-at ds d (p .left)) (distinct-at Ss d (p .right)) off) below,
     )
 
-module _ (mesh sizes : List ℕ) (s : Sharding) (g : IsSharding mesh sizes s) (w : length mesh ≤ mostAxes) where
-  in-dims : (a : ℕ) → In a (flat (s .dims)) → a < length mesh
-  in-dims a i = g .of-mesh a (in-left a (flat (s .dims)) (s .unreduced) i)
+-- an axis of a dimension's list is named
+in-dims : (s : Sharding) (a : ℕ) → In a (flat (s .dims)) → In a (named s)
+in-dims s a i = in-left a (varying s) (s .replicated) (in-left a (flat (s .dims)) (s .unreduced) i)
 
+module _ (mesh sizes : List ℕ) (s : Sharding) (g : IsSharding mesh sizes s) (w : length mesh ≤ mostAxes) where
   pub fresh-room : (Ss : List (List ℕ)) → T (allBelow (length mesh) (flat Ss)) → T (fresh (named s) (flat Ss)) → Room (s .dims) Ss
   fresh-room Ss b f =
       let r = fresh-distinct (named s) (flat Ss) f in
       room (length mesh) (s .dims) Ss w (record {
-        left = distinct-split (flat (s .dims)) (s .unreduced) (g .once) .0;
+        left = distinct-split (flat (s .dims)) (s .unreduced) (varies mesh sizes s g .once) .0;
         right = r .0;
-        off = λ a i j. r .1 a i (in-left a (flat (s .dims)) (s .unreduced) j);
-      }) in-dims (allBelow-lt (length mesh) (flat Ss) b)
+        off = λ a i j. r .1 a i (in-dims s a j);
+      }) (λ a i. g .of-mesh a (in-dims s a i)) (allBelow-lt (length mesh) (flat Ss) b)
 
   module _ (pos : (a : ℕ) → 0 < getD mesh a 1) (source target : ℕ) (L : List ℕ) (b : T (allBelow (length mesh) L)) (rank : ℕ) (p : source < rank)
       (q : target < rank) (t : T (both isTail (s .dims) (only rank source L))) where
@@ -57,5 +58,5 @@ module _ (mesh sizes : List ℕ) (s : Sharding) (g : IsSharding mesh sizes s) (w
           left = e .apart .left;
           right = subst Distinct (gs ∙ sym ss) (e .apart .right);
           off = λ a i. e .apart .off a (subst (In a) (ss ∙ sym gs) i);
-        }) (λ a i. e .after-it .of-mesh a (in-left a (flat (each cutTail (s .dims) Gs)) (s .unreduced) i))
+        }) (λ a i. e .after-it .of-mesh a (in-dims (gathered Gs s) a i))
         (λ a i. allBelow-lt (length mesh) L b a (subst (In a) ss i))

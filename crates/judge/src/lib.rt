@@ -7,10 +7,12 @@ ghost use lib.ListN.{take};
 ghost use lib.Dec.{T};
 ghost use Rattle.rules.specs.Lists.{flat};
 ghost use Rattle.rules.specs.Limits.{mostDims};
+ghost use Rattle.rules.specs.Sharding.{named};
 ghost use Rattle.rules.specs.Refusals.{accept, refuse, numberOf};
 ghost use Rattle.rules.specs.Collectives.{allSlice, allReduce, allToAll, stepAxes, reduced as reducedOf};
 ghost use Rattle.rules.specs.PlanFile.{allBelow, twoDims, gatherOff, sliceOn, judgeKind, judgeNamed, judgeStep};
 ghost use Rattle.rules.specs.Types.{axesOf, dimsOf, shardingOf, stepOf, meshOf, sizesOf, WithinPlaces};
+ghost use Rattle.axes.specs.Marks.{marksWith};
 ghost use Rattle.dims.specs.Dims.{Room};
 ghost use Rattle.start.specs.Start.{meaning};
 ghost use Rattle.judge.specs.Step.{meaningAfter, Sharded};
@@ -19,17 +21,18 @@ use axes::all_in;
 use axes::increasing;
 use axes::mark_list;
 use axes::without;
+use dims::cut_tails;
 use dims::divisible;
-use dims::gathered;
+use dims::join_lists;
 use dims::mark_dims;
 use dims::names_axis;
 use dims::names_below;
 use dims::shard_of;
-use dims::sliced;
 use dims::tails;
 use rules::Axis;
 use rules::AxisList;
 use rules::Dim;
+use rules::DimLists;
 use rules::Kind;
 use rules::Mesh;
 use rules::Reason;
@@ -70,7 +73,7 @@ fn named_list(list: AxisList, k: u16, n: usize) -> Verdict
 }
 
 // The axes of a step's lists by dimension: 21, then 22.
-fn named_dims(lists: Sharding, k: u16, rank: usize, n: usize) -> Verdict
+fn named_dims(lists: DimLists, k: u16, rank: usize, n: usize) -> Verdict
     requires { ⌜ rank ≤ mostDims ⌝ }
     ensures { λ r. ⌜ meaning r ≡ judgeNamed n k (flat (take rank (dimsOf lists))) ⌝ }
 {
@@ -89,26 +92,25 @@ fn judge_named(step: Step, k: u16, rank: usize, n: usize) -> Verdict
     ensures { λ r. ⌜ meaning r ≡ judgeNamed n k (stepAxes (stepOf rank step)) ⌝ }
 {
     let kind = step.kind;
-    let lists = step.lists;
-    let list = lists.unreduced;
     match kind {
-        Kind::AllSlice => named_dims(lists, k, rank, n),
-        Kind::AllGather => named_dims(lists, k, rank, n),
-        Kind::AllReduce => named_list(list, k, n),
-        Kind::AllToAll => named_list(list, k, n),
+        Kind::AllSlice => named_dims(step.lists, k, rank, n),
+        Kind::AllGather => named_dims(step.lists, k, rank, n),
+        Kind::AllReduce => named_list(step.list, k, n),
+        Kind::AllToAll => named_list(step.list, k, n),
         Kind::Unknown => refused(Reason::NoAxis, k),
     }
 }
 
 // An all-gather: 24 by dimension, then the lists are cut off.
-fn gather_off(lists: Sharding, k: u16, sharding: Sharding, rank: usize) -> After
+fn gather_off(lists: DimLists, k: u16, sharding: Sharding, rank: usize) -> After
     requires { ⌜ rank ≤ mostDims ⌝ }
     ensures { λ r. ⌜ meaningAfter rank r ≡ gatherOff k (take rank (dimsOf lists)) (shardingOf rank sharding) ⌝ }
 {
-    if !tails(sharding, lists, rank) {
+    if !tails(sharding.dims, lists, rank) {
         return refused_step(Reason::NotTail, k, sharding);
     }
-    let next = gathered(sharding, lists, rank);
+    let mut next = sharding;
+    next.dims = cut_tails(sharding.dims, lists, rank);
     After {
         verdict: Verdict::Fine,
         sharding: next,
@@ -116,32 +118,41 @@ fn gather_off(lists: Sharding, k: u16, sharding: Sharding, rank: usize) -> After
 }
 
 // A slice: 25 by dimension, of the present shard sizes, then the lists are joined.
-fn slice_on(lists: Sharding, k: u16, sharding: Sharding, mesh: Mesh, table: Table) -> After
-    requires { ⌜ WithinPlaces mesh table × Room (take (table .rank) (dimsOf sharding)) (take (table .rank) (dimsOf lists)) ⌝ }
+fn slice_on(lists: DimLists, k: u16, sharding: Sharding, mesh: Mesh, table: Table) -> After
+    requires { ⌜ WithinPlaces mesh table × Room (take (table .rank) (dimsOf (sharding .dims))) (take (table .rank) (dimsOf lists)) ⌝ }
     ensures { λ r. ⌜ meaningAfter (table .rank) r
         ≡ sliceOn (meshOf mesh) (sizesOf table) k (take (table .rank) (dimsOf lists)) (shardingOf (table .rank) sharding) ⌝ }
 {
-    let shard = shard_of(table, sharding, mesh);
+    let shard = shard_of(table, sharding.dims, mesh);
     if !divisible(shard, lists, mesh) {
         return refused_step(Reason::ShardNotDivisible, k, sharding);
     }
-    let next = sliced(sharding, lists, table.rank);
+    let mut next = sharding;
+    next.dims = join_lists(sharding.dims, lists, table.rank);
     After {
         verdict: Verdict::Fine,
         sharding: next,
     }
 }
 
+// Marks all axes that a sharding names.
+fn mark_named(sharding: Sharding, rank: usize, marks: &mut [bool])
+    requires { ⌜ rank ≤ mostDims ⌝ }
+    ensures { λ _. ⌜ now (marks .exit) ≡ marksWith (now (marks .entry)) (named (shardingOf rank sharding)) ⌝ }
+{
+    mark_dims(sharding.dims, rank, marks);
+    mark_list(marks, sharding.unreduced);
+    mark_list(marks, sharding.replicated);
+}
+
 // All-slice: 23, then the slice. The axes are below n already, so judge_dims refuses an axis that is named, and nothing else.
-fn judge_slice(lists: Sharding, k: u16, sharding: Sharding, mesh: Mesh, table: Table) -> After
+fn judge_slice(lists: DimLists, k: u16, sharding: Sharding, mesh: Mesh, table: Table) -> After
     requires { ⌜ Sharded mesh table sharding × T (allBelow (mesh .n) (flat (take (table .rank) (dimsOf lists)))) ⌝ }
     ensures { λ r. ⌜ meaningAfter (table .rank) r
         ≡ judgeKind (meshOf mesh) (sizesOf table) k (allSlice (take (table .rank) (dimsOf lists))) (shardingOf (table .rank) sharding) ⌝ }
 {
     let mut marks = [false; Axis::MOST];
-    mark_dims(sharding, table.rank, &mut marks);
-    let unreduced = sharding.unreduced;
-    mark_list(&mut marks, unreduced);
+    mark_named(sharding, table.rank, &mut marks);
     let fresh = judge_dims(lists, table.rank, mesh.n, &mut marks);
     let Verdict::Fine = fresh else {
         return refused_step(Reason::NotReplicated, k, sharding);
@@ -152,9 +163,9 @@ fn judge_slice(lists: Sharding, k: u16, sharding: Sharding, mesh: Mesh, table: T
 fn reduced(list: AxisList, sharding: Sharding) -> Sharding
     ensures { λ r. ⌜ ((rank : ℕ) → shardingOf rank r ≡ reducedOf (axesOf list) (shardingOf rank sharding)) ⌝ }
 {
-    let dims = sharding.dims;
-    let unreduced = without(sharding.unreduced, list);
-    Sharding { dims, unreduced }
+    let mut next = sharding;
+    next.unreduced = without(sharding.unreduced, list);
+    next
 }
 
 // All-reduce: 26, then 27, then the axes are replicated.
@@ -209,15 +220,15 @@ fn judge_all_to_all(
     if !two_dims(source, target, table.rank) {
         return refused_step(Reason::WrongDims, k, sharding);
     }
-    let none = Sharding::replicated();
-    let off = none.with_list(source, list);
+    let none = DimLists::empty();
+    let off = none.with(source, list);
     let gathered = gather_off(off, k, sharding, table.rank);
     let verdict = gathered.verdict;
     let Verdict::Fine = verdict else {
         return gathered;
     };
     let between = gathered.sharding;
-    let on = none.with_list(target, list);
+    let on = none.with(target, list);
     slice_on(on, k, between, mesh, table)
 }
 
@@ -228,16 +239,14 @@ fn judge_kind(step: Step, k: u16, sharding: Sharding, mesh: Mesh, table: Table) 
         ≡ judgeKind (meshOf mesh) (sizesOf table) k (stepOf (table .rank) step) (shardingOf (table .rank) sharding) ⌝ }
 {
     let kind = step.kind;
-    let lists = step.lists;
-    let list = lists.unreduced;
     match kind {
-        Kind::AllSlice => judge_slice(lists, k, sharding, mesh, table),
-        Kind::AllGather => gather_off(lists, k, sharding, table.rank),
-        Kind::AllReduce => judge_reduce(list, k, sharding),
+        Kind::AllSlice => judge_slice(step.lists, k, sharding, mesh, table),
+        Kind::AllGather => gather_off(step.lists, k, sharding, table.rank),
+        Kind::AllReduce => judge_reduce(step.list, k, sharding),
         Kind::AllToAll => judge_all_to_all(
             step.source,
             step.target,
-            list,
+            step.list,
             k,
             sharding,
             mesh,

@@ -11,7 +11,8 @@ use Rattle.rules.specs.PlanFile.{allBelow, gatherOff, sliceOn}
 use Rattle.rules.specs.Types.{axesOf, shardingOf, meshOf, sizesOf}
 use Rattle.dims.proofs.Dims.{dims-length}
 use Rattle.rules.proofs.Judging.{twoDims-facts}
-use Rattle.judge.proofs.Steps.{only-at, no-dims, gather-stops, gather-passes, target-room}
+use Rattle.rules.proofs.Steps.{only-at}
+use Rattle.judge.proofs.Steps.{no-dims, gather-stops, gather-passes, target-room}
 use Rattle.judge.proofs.judge_all_to_all.Statement.{statement}
 use Rattle.judge.proofs.judge_all_to_all.Tie as tie
 
@@ -27,7 +28,7 @@ judge-all-to-all-spec =
     (λ c. let c3 = c .before .before .before in
     let a = c3 .args in
     let r = a .table .rank in
-    let w = dims-length (a .sharding) r (simp length-map at (c3 .good .1 .1 .1 .1 .0 .1 .1 .0 .1 .0 .1)) (omega (arith, c3 .pre .0 .fits .rank)) in
+    let w = dims-length (a .sharding .dims) r (simp length-map at (c3 .good .1 .1 .1 .1 .0 .1 .1 .0 .1 .1 .0 .1 .0 .1)) (omega (arith, c3 .pre .0 .fits .rank)) in
     c .refused-step .ensures r
     ∙ sym (no-dims (meshOf (a .mesh)) (sizesOf (a .table)) (a .k) (a .source .0) (a .target .0) (axesOf (a .list)) (shardingOf r (a .sharding)) r w
     (sym (c .before .before .two-dims .ensures) ∙ not-true _ (c .before .if1 .taken))))
@@ -46,10 +47,10 @@ judge-all-to-all-spec =
     let L = axesOf (a .list) in
     let s = shardingOf r (a .sharding) in
     let h = c7 .pre .0 .fits .rank in
-    let w = dims-length (a .sharding) r (simp length-map at (c7 .good .1 .1 .1 .1 .0 .1 .1 .0 .1 .0 .1)) (omega (arith, h)) in
+    let w = dims-length (a .sharding .dims) r (simp length-map at (c7 .good .1 .1 .1 .1 .0 .1 .1 .0 .1 .1 .0 .1 .0 .1)) (omega (arith, h)) in
     let d = sym (c6 .two-dims .ensures) ∙ not-false _ (c5 .if1 .left) in
-    let off = only-at r (a .source .0) L _ _ h (twoDims-facts r (a .source .0) (a .target .0) (rw d tt) .0) (c4 .replicated .ensures .0)
-    (c3 .with-list .ensures .0) in
+    let off = only-at r (a .source .0) L _ _ h (twoDims-facts r (a .source .0) (a .target .0) (rw d tt) .0) (c4 .empty .ensures)
+    (c3 .with .ensures) in
     gather-stops (meshOf (a .mesh)) (sizesOf (a .table)) (a .k) (a .source .0) (a .target .0) L s r w d _ _
     (c .before .before .gather-off .ensures ∙ ap (λ (x : List (List ℕ)). gatherOff (a .k) x s) off) _ (c .enum-told2 .given .1))
     (λ c κs. search needs)
@@ -65,14 +66,14 @@ judge-all-to-all-spec =
     let L = axesOf (a .list) in
     let s = shardingOf r (a .sharding) in
     let h = g .fits .rank in
-    let w = dims-length (a .sharding) r (simp length-map at (c9 .good .1 .1 .1 .1 .0 .1 .1 .0 .1 .0 .1)) (omega (arith, h)) in
+    let w = dims-length (a .sharding .dims) r (simp length-map at (c9 .good .1 .1 .1 .1 .0 .1 .1 .0 .1 .1 .0 .1 .0 .1)) (omega (arith, h)) in
     let e = length-take-le (a .mesh .n) (a .mesh .sizes)
     (omega (arith, g .fits .axes, simp length-map at (c9 .good .1 .1 .1 .1 .1 .0 .1 .1 .1 .0 .1 .0 .1))) in
     let b = subst (λ (x : ℕ). T (allBelow x L)) (sym e) (c9 .pre .1) in
     let d = sym (c8 .two-dims .ensures) ∙ not-false _ (c7 .if1 .left) in
     let t = twoDims-facts r (a .source .0) (a .target .0) (rw d tt) in
-    let off = only-at r (a .source .0) L _ _ h (t .0) (c6 .replicated .ensures .0) (c5 .with-list .ensures .0) in
-    let on = only-at r (a .target .0) L _ _ h (t .1) (c6 .replicated .ensures .0) (c .with-list2 .ensures .0) in (
+    let off = only-at r (a .source .0) L _ _ h (t .0) (c6 .empty .ensures) (c5 .with .ensures) in
+    let on = only-at r (a .target .0) L _ _ h (t .1) (c6 .empty .ensures) (c .with2 .ensures) in (
       g .fits,
       rw on (target-room (meshOf (a .mesh)) (sizesOf (a .table)) (a .k) (a .source .0) (a .target .0) L s r w d _
           (shardingOf r (c4 .gather-off .result .sharding))
@@ -91,11 +92,11 @@ judge-all-to-all-spec =
     let L = axesOf (a .list) in
     let s = shardingOf r (a .sharding) in
     let h = c10 .pre .0 .fits .rank in
-    let w = dims-length (a .sharding) r (simp length-map at (c10 .good .1 .1 .1 .1 .0 .1 .1 .0 .1 .0 .1)) (omega (arith, h)) in
+    let w = dims-length (a .sharding .dims) r (simp length-map at (c10 .good .1 .1 .1 .1 .0 .1 .1 .0 .1 .1 .0 .1 .0 .1)) (omega (arith, h)) in
     let d = sym (c9 .two-dims .ensures) ∙ not-false _ (c8 .if1 .left) in
     let t = twoDims-facts r (a .source .0) (a .target .0) (rw d tt) in
-    let off = only-at r (a .source .0) L _ _ h (t .0) (c7 .replicated .ensures .0) (c6 .with-list .ensures .0) in
-    let on = only-at r (a .target .0) L _ _ h (t .1) (c7 .replicated .ensures .0) (c .before .with-list2 .ensures .0) in
+    let off = only-at r (a .source .0) L _ _ h (t .0) (c7 .empty .ensures) (c6 .with .ensures) in
+    let on = only-at r (a .target .0) L _ _ h (t .1) (c7 .empty .ensures) (c .before .with2 .ensures) in
     let b = shardingOf r (c5 .gather-off .result .sharding) in
     c .slice-on .ensures ∙ ap (λ (x : List (List ℕ)). sliceOn (meshOf (a .mesh)) (sizesOf (a .table)) (a .k) x b) on
     ∙ sym (gather-passes (meshOf (a .mesh)) (sizesOf (a .table)) (a .k) (a .source .0) (a .target .0) L s r w d _ b

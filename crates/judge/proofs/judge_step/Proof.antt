@@ -7,7 +7,7 @@ use Rattle.rules.specs.Types.{stepOf, shardingOf, meshOf, sizesOf}
 use Rattle.rules.proofs.Judging.{never}
 use Rattle.start.specs.Start.{meaning}
 use Rattle.start.proofs.Verdicts.{passed}
-use Rattle.judge.proofs.Steps.{named-stops, named-passes, stays}
+use Rattle.judge.proofs.Steps.{named-stops, named-passes, refused-beside}
 use Rattle.judge.proofs.judge_step.Statement.{statement}
 use Rattle.judge.proofs.judge_step.Tie as tie
 
@@ -36,7 +36,7 @@ judge-step-spec =
     let a = t .args in
     let r = a .table .rank in
     let e = length-take-le (a .mesh .n) (a .mesh .sizes) (omega (arith, t .pre .fits .axes, simp length-map at (t .good .1 .1 .1 .0 .1 .1 .1 .0 .1 .0 .1))) in (
-      stays _ _ (c .enum-told4 .given .1) ∙ c .before .before .judge-kind .ensures
+      refused-beside _ _ (c .enum-told4 .given .1) ∙ c .before .before .judge-kind .ensures
           ∙ sym (named-passes (meshOf (a .mesh)) (sizesOf (a .table)) (a .k) (stepOf r (a .step)) (shardingOf r (a .sharding)) (a .mesh .n) e _
           (c .before .before .before .before .before .judge-named .ensures) (c .before .before .before .enum-told .given .1)),
       λ x f. refl,

@@ -1,8 +1,7 @@
 use borrow.Author.Needs.{needs}
 use native.Mathlib.Omega.{arith}
-use mathlib.Core.Path.{sym, ap, _∙_}
+use mathlib.Core.Path.{sym, _∙_}
 use borrow.Author.Tests.{not-true, not-false}
-use Rattle.rules.specs.Refusals.{accept}
 use Rattle.rules.specs.Types.{dimsOf, meshOf}
 use Rattle.judge.proofs.Steps.{shard-divides, not-divisible, slices}
 use Rattle.judge.proofs.slice_on.Statement.{statement}
@@ -28,4 +27,4 @@ slice-on-spec =
     let a = c4 .args in
     let w = c3 .shard-of .ensures in
     let d = shard-divides (meshOf (a .mesh)) _ _ (dimsOf (a .lists)) _ _ (w .0) (w .1) in
-    ap accept (c .sliced .ensures .0) ∙ sym (slices _ _ _ _ _ (sym (c .before .before .divisible .ensures ∙ d) ∙ not-false _ (c .before .if1 .left)))))
+    slices _ _ _ _ _ (sym (c .before .before .divisible .ensures ∙ d) ∙ not-false _ (c .before .if1 .left)) (c .join-lists .ensures .0)))
