@@ -20,9 +20,10 @@
  * device    a device, by the row-major number of its coordinates, the last axis fastest
  * D         the number of devices, the product of the mesh's sizes
  * shard     the part of the table that one device holds; its sizes are one number a dimension
- * sharding  for each dimension a list of axes that it is split along, outer to inner; and a list
- *           of unreduced axes, along which the devices' shards are parts of a sum. An axis in no
- *           list is replicated: devices that differ only there hold equal shards
+ * sharding  for each dimension a list of axes that it is split along, outer to inner; a list of
+ *           unreduced axes, along which the devices' shards are parts of a sum; and a list of
+ *           axes that are to stay replicated. These and the axes in no list are replicated:
+ *           devices that differ only there hold equal shards
  * group     for a list of axes: devices that agree on all other axes. The position in a group
  *           counts along the list, its first axis most significant
  * room      the words that the run of a plan needs: D times the most words of a shard in any state,
@@ -33,26 +34,28 @@
  *
  * 18 to 8,192 bytes; 16-bit numbers are little-endian. Without gaps:
  *
- *     header     nine 16-bit numbers: 1, number of axes, rank, number of steps, the offsets of
- *                mesh sizes (18), table sizes, sharding and steps, and the length of the file
+ *     header     nine 16-bit numbers: edition, number of axes, rank, number of steps, the offsets
+ *                of mesh sizes (18), table sizes, sharding and steps, and the length of the file
  *     mesh       a 16-bit size for each axis
  *     table      a 16-bit size for each dimension
- *     sharding   a list for each dimension, then the unreduced list
+ *     sharding   a list for each dimension, the unreduced list, in edition 2 the replicated list
  *     steps      a kind byte, then
  *                    1 all-slice, 2 all-gather   a list for each dimension
  *                    3 all-reduce                one list
  *                    4 all-to-all                source dimension, target dimension (bytes), one list
  *
- * A list is a count byte and that many axis bytes. docs/PROMISES.md goes through the rules, and
+ * A list is a count byte and that many axis bytes. A plan has one file: its edition is 1 where the
+ * replicated list is empty and 2 where it is not. docs/PROMISES.md goes through the rules, and
  * crates/rules/specs/PlanFile.antt has them, test by test.
  *
  *
  * THE FOUR STEPS
  *
  * Numbers in parentheses are refusals. Every step names at least one axis (21), and axes of the
- * mesh alone (22). docs/COLLECTIVES.md draws each step before and after.
+ * mesh alone (22). No step changes the replicated list. docs/COLLECTIVES.md draws each step before
+ * and after.
  *
- * all-slice   splits further. It has a list for each dimension, of axes that are replicated and
+ * all-slice   splits further. It has a list for each dimension, of axes in no list of the sharding,
  *             named once (23); each list is joined to the end of its dimension's list. Of its shard
  *             a device keeps, along each dimension, the piece whose number is its position for the
  *             step's list. The pieces are equal: the present shard size is divisible (25)
@@ -77,7 +80,7 @@
  * example of each number, and what to do.
  *
  *      1  fewer than 18 bytes                  2  more than 8,192 bytes
- *      3  the edition is not 1                 4  total length is not the number of bytes given
+ *      3  the edition is neither 1 nor 2       4  total length is not the number of bytes given
  *      5  number of axes, rank or number of steps outside its limits
  *      6  an offset is wrong                   7  a section runs past the end
  *      8  a list's count is above the number of axes
@@ -85,11 +88,12 @@
  *     10  a mesh size is 0                    11  the product of mesh sizes passes 1,024
  *     12  a table size is 0                   13  the product of table sizes passes 65,536
  *     14  start: no such axis                 15  start: an axis named before
- *     16  start: unreduced list not strictly increasing
+ *     16  start: unreduced or replicated list not strictly increasing
  *     17  start: a dimension is not divisible
+ *     18  start: the replicated list of edition 2 is empty
  *     20  unknown kind of step                21  a step names no axis
  *     22  step: no such axis
- *     23  all-slice: the axis is not replicated, or was named earlier in this step
+ *     23  all-slice: the axis is in a list of the sharding, or was named earlier in this step
  *     24  the gathered list is not the tail of the dimension's list
  *     25  a dimension's shard size is not divisible
  *     26  all-reduce: list not strictly increasing
@@ -129,31 +133,34 @@ extern "C" {
 #define ISHKRELA_NUMBER(refusal) ((refusal) % 256)
 #define ISHKRELA_STEP(refusal) ((refusal) / 256)
 
-/* The five lists of a sharding: dimensions 0 to 3, then the unreduced list, ISHKRELA_UNREDUCED.
- * List d has counts[d] axes, axes[6 * d] and those after it; places not used are 0. */
+/* The six lists of a sharding: dimensions 0 to 3, the unreduced list, and the list of the axes that
+ * are to stay replicated. Axis i of a list is ISHKRELA_AXIS(sharding, list, i). */
 #define ISHKRELA_UNREDUCED 4
-#define ISHKRELA_AXIS(answer, list, i) ((answer).axes[6 * (list) + (i)])
+#define ISHKRELA_REPLICATED 5
+#define ISHKRELA_AXIS(sharding, list, i) ((sharding).axes[6 * (list) + (i)])
+typedef struct {
+    uint8_t counts[6]; /* how many axes each list has; 0 for dimensions past the rank */
+    uint8_t axes[36];  /* the axes of each list, in six places; 0 in places not used */
+} ishkrela_sharding;
 
 /* The answer of the check, of the last state. */
 typedef struct {
-    uint32_t refusal;   /* 0, or the refusal; every other field is then 0 */
-    uint32_t room;      /* the words that work and spare need for a run */
-    uint16_t devices;   /* D */
-    uint16_t steps;     /* the number of steps */
-    uint16_t rank;      /* the number of dimensions */
-    uint16_t shard[4];  /* the sizes of a shard; 0 past the rank */
-    uint8_t counts[5];  /* how many axes each list has */
-    uint8_t axes[30];   /* the axes of each list, in six places */
+    uint32_t refusal;            /* 0, or the refusal; every other field is then 0 */
+    uint32_t room;               /* the words that work and spare need for a run */
+    uint16_t devices;            /* D */
+    uint16_t steps;              /* the number of steps */
+    uint16_t rank;               /* the number of dimensions */
+    uint16_t shard[4];           /* the sizes of a shard; 0 past the rank */
+    ishkrela_sharding sharding;  /* how the table is spread */
 } ishkrela_checked;
 
 /* The answer of the placement, of the state asked for. */
 typedef struct {
-    uint32_t refusal;   /* 0, or the refusal; every other field is then 0 */
-    uint16_t rank;      /* the number of dimensions */
-    uint16_t shard[4];  /* the sizes of a shard; 0 past the rank */
-    uint16_t first[4];  /* where in the table the device's shard begins; 0 past the rank */
-    uint8_t counts[5];  /* how many axes each list has */
-    uint8_t axes[30];   /* the axes of each list, in six places */
+    uint32_t refusal;            /* 0, or the refusal; every other field is then 0 */
+    uint16_t rank;               /* the number of dimensions */
+    uint16_t shard[4];           /* the sizes of a shard; 0 past the rank */
+    uint16_t first[4];           /* where in the table the device's shard begins; 0 past the rank */
+    ishkrela_sharding sharding;  /* how the table is spread */
 } ishkrela_placed;
 
 /* Judges a plan file, and announces its last state. Refusals 1 to 28. */

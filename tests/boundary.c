@@ -8,29 +8,38 @@
 #define FIELD(type, field, offset, size) \
     _Static_assert(offsetof(type, field) == (offset) && sizeof(((type *)0)->field) == (size), #type "." #field)
 
+FIELD(ishkrela_sharding, counts, 0, 6);
+FIELD(ishkrela_sharding, axes, 6, 36);
+_Static_assert(sizeof(ishkrela_sharding) == 42, "ishkrela_sharding");
+
 FIELD(ishkrela_checked, refusal, 0, 4);
 FIELD(ishkrela_checked, room, 4, 4);
 FIELD(ishkrela_checked, devices, 8, 2);
 FIELD(ishkrela_checked, steps, 10, 2);
 FIELD(ishkrela_checked, rank, 12, 2);
 FIELD(ishkrela_checked, shard, 14, 8);
-FIELD(ishkrela_checked, counts, 22, 5);
-FIELD(ishkrela_checked, axes, 27, 30);
-_Static_assert(sizeof(ishkrela_checked) == 60, "ishkrela_checked");
+FIELD(ishkrela_checked, sharding, 22, 42);
+_Static_assert(sizeof(ishkrela_checked) == 64, "ishkrela_checked");
 
 FIELD(ishkrela_placed, refusal, 0, 4);
 FIELD(ishkrela_placed, rank, 4, 2);
 FIELD(ishkrela_placed, shard, 6, 8);
 FIELD(ishkrela_placed, first, 14, 8);
-FIELD(ishkrela_placed, counts, 22, 5);
-FIELD(ishkrela_placed, axes, 27, 30);
-_Static_assert(sizeof(ishkrela_placed) == 60, "ishkrela_placed");
+FIELD(ishkrela_placed, sharding, 22, 42);
+_Static_assert(sizeof(ishkrela_placed) == 64, "ishkrela_placed");
 
 /* mesh 2x2, table of 4, sharding [[1, 0]], gather of [0], and of [1], which is not the tail */
 static const uint8_t tail[] = {1, 0, 2, 0, 1, 0, 1, 0, 18, 0, 22, 0, 24, 0, 28, 0, 31, 0,
                                2, 0, 2, 0, 4, 0, 2, 1, 0, 0, 2, 1, 0};
 static const uint8_t front[] = {1, 0, 2, 0, 1, 0, 1, 0, 18, 0, 22, 0, 24, 0, 28, 0, 31, 0,
                                 2, 0, 2, 0, 4, 0, 2, 1, 0, 0, 2, 1, 1};
+
+/* edition 2: mesh 2x3x2x2, table of 6, sharding [[1]] with unreduced [2] and replicated [0, 3]; gather
+ * of [1], and slice of [0], which is to stay replicated */
+static const uint8_t kept[] = {2, 0, 4, 0, 1, 0, 1, 0, 18, 0, 26, 0, 28, 0, 35, 0, 38, 0,
+                               2, 0, 3, 0, 2, 0, 2, 0, 6, 0, 1, 1, 1, 2, 2, 0, 3, 2, 1, 1};
+static const uint8_t unkept[] = {2, 0, 4, 0, 1, 0, 1, 0, 18, 0, 26, 0, 28, 0, 35, 0, 38, 0,
+                                 2, 0, 3, 0, 2, 0, 2, 0, 6, 0, 1, 1, 1, 2, 2, 0, 3, 1, 1, 0};
 
 /* mesh 2x3x2x2x3x2, table 12x6x15x2, sharding [[5, 0], [1], [4], [2]] with unreduced [3]; gather of
  * [0] off dimension 0, and slice of it on again */
@@ -42,16 +51,18 @@ static const uint8_t full[] = {1, 0, 6, 0, 4, 0, 2, 0, 18, 0, 30, 0, 38, 0, 49, 
 static void fields(void)
 {
     const uint16_t shard[4] = {3, 2, 5, 1}, first[4] = {9, 4, 10, 1};
-    const uint8_t counts[5] = {2, 1, 1, 1, 1};
-    const uint8_t axes[30] = {5, 0, 0, 0, 0, 0, 1, 0, 0, 0, 0, 0, 4, 0, 0, 0, 0, 0, 2, 0, 0, 0, 0, 0, 3};
+    const ishkrela_sharding lists = {
+        {2, 1, 1, 1, 1},
+        {5, 0, 0, 0, 0, 0, 1, 0, 0, 0, 0, 0, 4, 0, 0, 0, 0, 0, 2, 0, 0, 0, 0, 0, 3},
+    };
     ishkrela_checked checked = ishkrela_check(full, sizeof full);
     assert(checked.refusal == 0 && checked.room == 8640 && checked.devices == 144);
     assert(checked.steps == 2 && checked.rank == 4 && memcmp(checked.shard, shard, sizeof shard) == 0);
-    assert(memcmp(checked.counts, counts, sizeof counts) == 0 && memcmp(checked.axes, axes, sizeof axes) == 0);
+    assert(memcmp(&checked.sharding, &lists, sizeof lists) == 0);
     ishkrela_placed placed = ishkrela_place(full, sizeof full, 2, 143);
     assert(placed.refusal == 0 && placed.rank == 4);
     assert(memcmp(placed.shard, shard, sizeof shard) == 0 && memcmp(placed.first, first, sizeof first) == 0);
-    assert(memcmp(placed.counts, counts, sizeof counts) == 0 && memcmp(placed.axes, axes, sizeof axes) == 0);
+    assert(memcmp(&placed.sharding, &lists, sizeof lists) == 0);
     assert(ishkrela_check(full, sizeof full - 1).refusal == 4);
     assert(ishkrela_place(full, sizeof full, 2, 144).refusal == 32);
 }
@@ -61,10 +72,25 @@ static void answers(void)
     ishkrela_checked checked = ishkrela_check(tail, sizeof tail);
     assert(checked.refusal == 0 && checked.room == 8 && checked.devices == 4 && checked.steps == 1);
     assert(checked.rank == 1 && checked.shard[0] == 2 && checked.shard[1] == 0);
-    assert(checked.counts[0] == 1 && ISHKRELA_AXIS(checked, 0, 0) == 1 && checked.counts[ISHKRELA_UNREDUCED] == 0);
+    assert(checked.sharding.counts[0] == 1 && ISHKRELA_AXIS(checked.sharding, 0, 0) == 1);
+    assert(checked.sharding.counts[ISHKRELA_UNREDUCED] == 0 && checked.sharding.counts[ISHKRELA_REPLICATED] == 0);
     ishkrela_placed placed = ishkrela_place(tail, sizeof tail, 0, 1);
     assert(placed.refusal == 0 && placed.rank == 1 && placed.shard[0] == 1 && placed.first[0] == 2);
-    assert(ISHKRELA_AXIS(placed, 0, 0) == 1 && ISHKRELA_AXIS(placed, 0, 1) == 0 && placed.counts[0] == 2);
+    assert(ISHKRELA_AXIS(placed.sharding, 0, 0) == 1 && ISHKRELA_AXIS(placed.sharding, 0, 1) == 0);
+    assert(placed.sharding.counts[0] == 2);
+}
+
+static void replicated(void)
+{
+    const ishkrela_sharding before = {{1, 0, 0, 0, 1, 2}, {[0] = 1, [24] = 2, [30] = 0, [31] = 3}};
+    const ishkrela_sharding after = {{0, 0, 0, 0, 1, 2}, {[24] = 2, [30] = 0, [31] = 3}};
+    ishkrela_placed placed = ishkrela_place(kept, sizeof kept, 0, 23);
+    assert(placed.refusal == 0 && placed.first[0] == 4 && memcmp(&placed.sharding, &before, sizeof before) == 0);
+    ishkrela_checked checked = ishkrela_check(kept, sizeof kept);
+    assert(checked.refusal == 0 && memcmp(&checked.sharding, &after, sizeof after) == 0);
+    assert(ISHKRELA_AXIS(checked.sharding, ISHKRELA_UNREDUCED, 0) == 2);
+    assert(ISHKRELA_AXIS(checked.sharding, ISHKRELA_REPLICATED, 1) == 3);
+    assert(ishkrela_check(unkept, sizeof unkept).refusal == 23 + 256);
 }
 
 static void refusals(void)
@@ -72,10 +98,10 @@ static void refusals(void)
     ishkrela_checked none = {0}, checked = ishkrela_check(front, sizeof front);
     assert(ISHKRELA_NUMBER(checked.refusal) == 24 && ISHKRELA_STEP(checked.refusal) == 1);
     none.refusal = checked.refusal;
-    assert(memcmp(&none, &checked, offsetof(ishkrela_checked, axes) + 30) == 0);
+    assert(memcmp(&none, &checked, sizeof none) == 0);
     ishkrela_placed nowhere = {0}, placed = ishkrela_place(tail, sizeof tail, 2, 0);
     nowhere.refusal = 34;
-    assert(memcmp(&nowhere, &placed, offsetof(ishkrela_placed, axes) + 30) == 0);
+    assert(memcmp(&nowhere, &placed, sizeof nowhere) == 0);
     assert(ishkrela_place(tail, sizeof tail, 1, 4).refusal == 32);
 }
 
@@ -117,6 +143,7 @@ int main(void)
 {
     fields();
     answers();
+    replicated();
     refusals();
     groups();
     runs();

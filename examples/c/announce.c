@@ -7,12 +7,24 @@
 #include <string.h>
 #include "ishkrela.h"
 
-static void print_list(const uint8_t *counts, const uint8_t *axes, int list)
+static void print_list(ishkrela_sharding sharding, int list)
 {
     printf("[");
-    for (int i = 0; i < counts[list]; i++)
-        printf("%s%d", i ? " " : "", axes[6 * list + i]);
+    for (int i = 0; i < sharding.counts[list]; i++)
+        printf("%s%d", i ? " " : "", ISHKRELA_AXIS(sharding, list, i));
     printf("]");
+}
+
+static void print_sharding(ishkrela_sharding sharding, int rank)
+{
+    for (int d = 0; d < rank; d++)
+        print_list(sharding, d);
+    printf(" unreduced ");
+    print_list(sharding, ISHKRELA_UNREDUCED);
+    if (sharding.counts[ISHKRELA_REPLICATED]) {
+        printf(" replicated ");
+        print_list(sharding, ISHKRELA_REPLICATED);
+    }
 }
 
 static void print_sizes(const uint16_t *sizes, int rank)
@@ -31,10 +43,7 @@ static void print_state(const uint8_t *file, size_t len, uint16_t state, uint16_
 {
     ishkrela_placed at = ishkrela_place(file, len, state, 0);
     printf("state %d: ", state);
-    for (int d = 0; d < at.rank; d++)
-        print_list(at.counts, at.axes, d);
-    printf(" unreduced ");
-    print_list(at.counts, at.axes, ISHKRELA_UNREDUCED);
+    print_sharding(at.sharding, at.rank);
     printf(", shards of ");
     print_sizes(at.shard, at.rank);
     printf(", first indexes");
