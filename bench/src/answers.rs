@@ -39,6 +39,8 @@ pub type Sizes = Short<u16, MOST_RANK>;
 pub struct Sharding {
     pub dims: DimLists,
     pub unreduced: AxisList,
+    /// The axes that are to stay replicated; one that no list names is replicated too.
+    pub replicated: AxisList,
 }
 
 /// Why a call did nothing: document 01's number, and the step from 1, or 0.

@@ -45,12 +45,17 @@ fn code(refusal: Refusal) -> u32 {
     u32::from(refusal.number) + 256 * u32::from(refusal.step)
 }
 
-/// Five lists in six places each, dimensions 0 to 3 and then the unreduced list.
+/// The lists of a sharding after those of dimensions 0 to 3.
+const UNREDUCED: usize = MOST_RANK;
+const REPLICATED: usize = MOST_RANK + 1;
+const LISTS: usize = MOST_RANK + 2;
+
+/// A sharding as it crosses the boundary: six lists in six places each.
 #[derive(Clone, Copy, Debug, Default, PartialEq, Eq)]
 #[repr(C)]
-pub struct RawLists {
-    counts: [u8; MOST_RANK + 1],
-    axes: [u8; (MOST_RANK + 1) * MOST_AXES],
+pub struct RawSharding {
+    counts: [u8; LISTS],
+    axes: [[u8; MOST_AXES]; LISTS],
 }
 
 /// The check's answer as it crosses the boundary.
@@ -63,7 +68,7 @@ pub struct RawChecked {
     steps: u16,
     rank: u16,
     shard: [u16; MOST_RANK],
-    lists: RawLists,
+    sharding: RawSharding,
 }
 
 /// The placement's answer as it crosses the boundary.
@@ -74,39 +79,40 @@ pub struct RawPlaced {
     rank: u16,
     shard: [u16; MOST_RANK],
     first: [u16; MOST_RANK],
-    lists: RawLists,
+    sharding: RawSharding,
 }
 
-impl RawLists {
+impl RawSharding {
     fn list(&self, index: usize) -> AxisList {
-        let axes = &self.axes[index * MOST_AXES..][..usize::from(self.counts[index])];
+        let axes = &self.axes[index][..usize::from(self.counts[index])];
         axes.iter().map(|&axis| Axis(axis)).collect()
     }
 
-    fn sharding(&self, rank: usize) -> Sharding {
+    fn to_sharding(self, rank: usize) -> Sharding {
         Sharding {
             dims: (0..rank).map(|dim| self.list(dim)).collect::<DimLists>(),
-            unreduced: self.list(MOST_RANK),
+            unreduced: self.list(UNREDUCED),
+            replicated: self.list(REPLICATED),
         }
     }
 
     fn set(&mut self, index: usize, list: &[Axis]) {
         self.counts[index] = list.len() as u8;
-        let places = &mut self.axes[index * MOST_AXES..];
-        for (place, axis) in places.iter_mut().zip(list) {
+        for (place, axis) in self.axes[index].iter_mut().zip(list) {
             *place = axis.0;
         }
     }
 }
 
-impl From<Sharding> for RawLists {
+impl From<Sharding> for RawSharding {
     fn from(sharding: Sharding) -> Self {
-        let mut lists = RawLists::default();
+        let mut raw = RawSharding::default();
         for (dim, list) in sharding.dims.iter().enumerate() {
-            lists.set(dim, list);
+            raw.set(dim, list);
         }
-        lists.set(MOST_RANK, &sharding.unreduced);
-        lists
+        raw.set(UNREDUCED, &sharding.unreduced);
+        raw.set(REPLICATED, &sharding.replicated);
+        raw
     }
 }
 
@@ -125,7 +131,7 @@ impl From<RawChecked> for Result<Checked, Refusal> {
             room: raw.room,
             devices: raw.devices,
             steps: raw.steps,
-            sharding: raw.lists.sharding(raw.rank.into()),
+            sharding: raw.sharding.to_sharding(raw.rank.into()),
             shard: sizes(&raw.shard, raw.rank),
         })
     }
@@ -135,7 +141,7 @@ impl From<RawPlaced> for Result<Placed, Refusal> {
     fn from(raw: RawPlaced) -> Self {
         refused(raw.refusal)?;
         Ok(Placed {
-            sharding: raw.lists.sharding(raw.rank.into()),
+            sharding: raw.sharding.to_sharding(raw.rank.into()),
             shard: sizes(&raw.shard, raw.rank),
             first: sizes(&raw.first, raw.rank),
         })
@@ -155,7 +161,7 @@ impl From<Result<Checked, Refusal>> for RawChecked {
                 steps: checked.steps,
                 rank: checked.rank() as u16,
                 shard: places(&checked.shard),
-                lists: checked.sharding.into(),
+                sharding: checked.sharding.into(),
             },
             Err(refusal) => RawChecked {
                 refusal: code(refusal),
@@ -173,7 +179,7 @@ impl From<Result<Placed, Refusal>> for RawPlaced {
                 rank: placed.shard.len() as u16,
                 shard: places(&placed.shard),
                 first: places(&placed.first),
-                lists: placed.sharding.into(),
+                sharding: placed.sharding.into(),
             },
             Err(refusal) => RawPlaced {
                 refusal: code(refusal),

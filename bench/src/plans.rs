@@ -19,6 +19,7 @@ pub struct Draft {
     pub table: Vec<u16>,
     pub start: Lists,
     pub unreduced: Vec<Axis>,
+    pub replicated: Vec<Axis>,
     pub steps: Vec<Step>,
 }
 
@@ -50,8 +51,9 @@ impl Scale {
 }
 
 /// The refusals that a file alone can meet.
-pub const FILE_REFUSALS: [u8; 26] = [
-    1, 2, 3, 4, 5, 6, 7, 8, 9, 10, 11, 12, 13, 14, 15, 16, 17, 20, 21, 22, 23, 24, 25, 26, 27, 28,
+pub const FILE_REFUSALS: [u8; 27] = [
+    1, 2, 3, 4, 5, 6, 7, 8, 9, 10, 11, 12, 13, 14, 15, 16, 17, 18, 20, 21, 22, 23, 24, 25, 26, 27,
+    28,
 ];
 
 /// Axes by their numbers.
@@ -67,12 +69,26 @@ pub fn lists(numbers: &[&[u8]]) -> Lists {
 impl Draft {
     /// The file, with every offset where it belongs.
     pub fn encode(&self) -> Vec<u8> {
+        self.encode_as(self.edition())
+    }
+
+    /// The edition that the plan's file has.
+    pub fn edition(&self) -> usize {
+        1 + usize::from(!self.replicated.is_empty())
+    }
+
+    /// The same in an edition that may be the wrong one; the first has no replicated list.
+    pub fn encode_as(&self, edition: usize) -> Vec<u8> {
         let mesh = sizes_section(&self.mesh);
         let table = sizes_section(&self.table);
         let mut start = lists_section(&self.start);
         start.extend(list_section(&self.unreduced));
+        if edition > 1 {
+            start.extend(list_section(&self.replicated));
+        }
         let steps: Vec<u8> = self.steps.iter().flat_map(Step::encode).collect();
-        let mut numbers = vec![1, self.mesh.len(), self.table.len(), self.steps.len()];
+        let counts = [self.mesh.len(), self.table.len(), self.steps.len()];
+        let mut numbers = [&[edition][..], &counts].concat();
         let mut at = 18;
         numbers.push(at);
         for section in [&mesh, &table, &start, &steps] {
@@ -88,6 +104,12 @@ impl Draft {
         let mut draft = self.clone();
         draft.steps.truncate(steps);
         draft
+    }
+
+    /// The start's lists in file order.
+    fn start_lists(&mut self) -> Vec<&mut Vec<Axis>> {
+        let others = [&mut self.unreduced, &mut self.replicated];
+        self.start.iter_mut().chain(others).collect()
     }
 
     fn tracked(&self, steps: usize) -> Tracked<'_> {
@@ -132,6 +154,7 @@ struct Tracked<'a> {
     mesh: &'a [u16],
     dims: Lists,
     unreduced: Vec<Axis>,
+    replicated: &'a [Axis],
     shard: Vec<usize>,
 }
 
@@ -141,6 +164,7 @@ impl<'a> Tracked<'a> {
             mesh: &draft.mesh,
             dims: draft.start.clone(),
             unreduced: draft.unreduced.clone(),
+            replicated: &draft.replicated,
             shard: draft.table.iter().map(|&size| size.into()).collect(),
         };
         for (dim, list) in draft.start.iter().enumerate() {
@@ -165,14 +189,15 @@ impl<'a> Tracked<'a> {
         (0..self.mesh.len() as u8).map(Axis).collect()
     }
 
-    fn is_replicated(&self, axis: Axis) -> bool {
+    /// Whether no list names the axis, so that a slice may.
+    fn is_free(&self, axis: Axis) -> bool {
         let sharded = self.dims.iter().any(|list| list.contains(&axis));
-        !sharded && !self.unreduced.contains(&axis)
+        !sharded && !self.unreduced.contains(&axis) && !self.replicated.contains(&axis)
     }
 
-    fn replicated(&self) -> Vec<Axis> {
+    fn free(&self) -> Vec<Axis> {
         let mut axes = self.axes();
-        axes.retain(|&axis| self.is_replicated(axis));
+        axes.retain(|&axis| self.is_free(axis));
         axes
     }
 
@@ -227,7 +252,7 @@ impl<'a> Tracked<'a> {
     fn random_slice(&self, random: &mut Random) -> Option<Step> {
         let mut left = self.shard.clone();
         let mut lists = self.no_lists();
-        let mut axes = self.replicated();
+        let mut axes = self.free();
         random.shuffle(&mut axes);
         let wanted = random.between(1, MOST_AXES);
         for axis in axes {
@@ -344,8 +369,10 @@ fn with_largest_state(random: &mut Random, scale: Scale) -> Draft {
     };
     // With no axis on a dimension every shard is the whole table.
     for axis in (0..mesh.len() as u8).map(Axis) {
-        if random.once_in(2) {
-            draft.unreduced.push(axis);
+        match random.below(6) {
+            0..3 => draft.unreduced.push(axis),
+            3 => draft.replicated.push(axis),
+            _ => {}
         }
     }
     draft.mesh = mesh;
@@ -381,24 +408,28 @@ fn random_mesh(random: &mut Random, most: usize) -> Vec<u16> {
     mesh
 }
 
-/// Gives each axis a place in the start: on a dimension, unreduced or replicated.
+/// Gives each axis a place in the start: on a dimension, unreduced, explicitly replicated or in no
+/// list.
 fn with_random_start(random: &mut Random, mesh: Vec<u16>, rank: usize) -> Draft {
     let mut start = vec![Vec::new(); rank];
-    let mut unreduced = Vec::new();
+    let (mut unreduced, mut replicated) = (Vec::new(), Vec::new());
     let mut axes: Vec<Axis> = (0..mesh.len() as u8).map(Axis).collect();
     random.shuffle(&mut axes);
     for axis in axes {
-        match random.below(5) {
+        match random.below(6) {
             0 | 1 => start[random.below(rank)].push(axis),
             2 => unreduced.push(axis),
+            3 => replicated.push(axis),
             _ => {}
         }
     }
     unreduced.sort();
+    replicated.sort();
     Draft {
         mesh,
         start,
         unreduced,
+        replicated,
         ..Draft::default()
     }
 }
@@ -442,7 +473,7 @@ pub fn broken(random: &mut Random, number: u8) -> (Vec<u8>, Refusal) {
         let draft = accepted(random, scale);
         let tried = match number {
             1..=9 => broken_bytes(random, &draft, number),
-            10..=17 => broken_start(random, draft, number),
+            10..=18 => broken_start(random, draft, number),
             _ => broken_step(random, draft, number),
         };
         // Not every plan can be broken in every way.
@@ -462,9 +493,15 @@ fn broken_bytes(random: &mut Random, draft: &Draft, number: u8) -> Option<(Vec<u
             let more = random.pick(&[1, 1, 200]);
             file.resize(MOST_BYTES + random.between(1, more), 0);
         }
-        3 => change_number(random, &mut file, 0),
+        3 => {
+            let any = random.between(3, 65535) as u16;
+            let edition = random.pick(&[0, 3, 256, 257, 258, any]);
+            file[..2].copy_from_slice(&edition.to_le_bytes());
+        }
         4 => change_number(random, &mut file, 8),
         5 => return Some((broken_limit(random, draft), Refusal::whole(5))),
+        // The steps' offset is wrong for an edition without the list that stands before them.
+        6 if draft.edition() == 2 && random.once_in(5) => file[0] = 1,
         6 => {
             let section = random.between(4, 7);
             change_number(random, &mut file, section);
@@ -546,6 +583,9 @@ fn count_places(draft: &Draft) -> Vec<usize> {
     };
     pass(&draft.start, 0);
     pass(std::slice::from_ref(&draft.unreduced), 0);
+    if draft.edition() == 2 {
+        pass(std::slice::from_ref(&draft.replicated), 0);
+    }
     for step in &draft.steps {
         match step {
             Step::Slice(lists) | Step::Gather(lists) => pass(lists, 1),
@@ -577,9 +617,13 @@ fn broken_start(random: &mut Random, mut draft: Draft, number: u8) -> Option<(Ve
             }
             draft.table[dim] -= random.between(1, usize::from(pieces) - 1) as u16;
         }
+        18 => draft.replicated.clear(),
         _ => return None,
     }
-    Some((draft.encode(), Refusal::whole(number)))
+    // An empty list in edition 2 is the last that is wrong with a start.
+    let empty = number == 18 || (draft.replicated.is_empty() && random.once_in(4));
+    let edition = if empty { 2 } else { draft.edition() };
+    Some((draft.encode_as(edition), Refusal::whole(number)))
 }
 
 /// A size that passes a limit, often by one.
@@ -613,51 +657,47 @@ fn no_axis(random: &mut Random, mesh: &[u16]) -> Axis {
 fn name_no_axis(random: &mut Random, draft: &mut Draft) {
     let axis = no_axis(random, &draft.mesh);
     let most = draft.mesh.len();
-    let list = start_list(random, draft);
+    let mut lists = draft.start_lists();
+    let at = random.below(lists.len());
+    let list = &mut lists[at];
     if list.len() == most {
         list.pop();
     }
     list.insert(random.below(list.len() + 1), axis);
 }
 
-fn start_list<'a>(random: &mut Random, draft: &'a mut Draft) -> &'a mut Vec<Axis> {
-    let index = random.below(draft.start.len() + 1);
-    match draft.start.get_mut(index) {
-        Some(list) => list,
-        None => &mut draft.unreduced,
-    }
-}
-
 /// Names one of the start's axes twice.
 fn name_again(random: &mut Random, draft: &mut Draft) -> Option<()> {
-    let named: Vec<Axis> = draft
-        .start
+    let most = draft.mesh.len();
+    let mut lists = draft.start_lists();
+    let at = random.below(lists.len());
+    let named: Vec<Axis> = lists[..=at]
         .iter()
-        .chain([&draft.unreduced])
-        .flatten()
-        .copied()
+        .flat_map(|list| list.iter().copied())
         .collect();
-    if named.is_empty() {
+    let list = &mut lists[at];
+    if named.is_empty() || list.len() == most {
         return None;
     }
     let axis = random.pick(&named);
-    let most = draft.mesh.len();
-    // At the end of a list it cannot come before an unreduced axis and be judged for the order.
-    let list = start_list(random, draft);
-    if list.len() == most {
-        return None;
-    }
-    list.push(axis);
+    // Where it was named in this list, it comes after that, and no order is broken before it.
+    let before = list.iter().position(|&other| other == axis);
+    let first = before.map_or(0, |place| place + 1);
+    list.insert(random.between(first, list.len()), axis);
     Some(())
 }
 
-/// Changes the order of the start's unreduced axes.
+/// Changes the order of the start's unreduced or replicated axes.
 fn unsort(random: &mut Random, draft: &mut Draft) -> Option<()> {
-    if draft.unreduced.len() < 2 {
+    let list = match random.once_in(2) {
+        true => &mut draft.unreduced,
+        false => &mut draft.replicated,
+    };
+    if list.len() < 2 {
         return None;
     }
-    let first = random.below(draft.unreduced.len() - 1);
-    draft.unreduced.swap(first, first + 1);
+    let first = random.below(list.len() - 1);
+    list.swap(first, first + 1);
     Some(())
 }
 
@@ -730,17 +770,17 @@ fn some_axes(random: &mut Random, state: &Tracked, least: usize, most: usize) ->
     (0..count).map(|_| random.pick(&all)).collect()
 }
 
-/// Slices an axis that is not replicated, or the same axis twice.
+/// Slices an axis that a list of the sharding names, or the same axis twice.
 fn slices_again(random: &mut Random, state: &Tracked) -> Option<Step> {
     let mut lists = state.no_lists();
-    for axis in state.replicated() {
+    for axis in state.free() {
         if random.once_in(2) {
             lists[random.below(state.rank())].push(axis);
         }
     }
     let named: Vec<Axis> = lists.iter().flatten().copied().collect();
     let mut bad = state.axes();
-    bad.retain(|&axis| !state.is_replicated(axis) || named.contains(&axis));
+    bad.retain(|&axis| !state.is_free(axis) || named.contains(&axis));
     let list = &mut lists[random.below(state.rank())];
     if bad.is_empty() || list.len() == state.mesh.len() {
         return None;
@@ -784,7 +824,7 @@ fn leaves_a_remainder(random: &mut Random, state: &Tracked) -> Option<Step> {
         return (!divides).then_some(Step::AllToAll(source, target, list));
     }
     let dim = random.below(state.rank());
-    let mut list = state.replicated();
+    let mut list = state.free();
     random.shuffle(&mut list);
     list.truncate(random.between(0, list.len()));
     if state.shard[dim].is_multiple_of(state.pieces(&list)) {
@@ -834,12 +874,14 @@ fn damage(random: &mut Random, file: &mut Vec<u8>) {
         return file.push(random.byte());
     }
     let at = random.below(file.len());
-    match random.below(6) {
+    match random.below(7) {
         0 => file[at] ^= 1 << random.below(8),
         1 => file[at] = random.byte() % 8,
         2 => file[at] = random.byte(),
         3 => file.truncate(at),
         4 => file.insert(at, random.byte() % 8),
+        // The other edition.
+        5 => file[0] ^= 3,
         _ => drop(file.remove(at)),
     }
 }

@@ -1,4 +1,5 @@
-//! Document 01 with the limits of document 02 in plain Rust, written from these documents alone.
+//! Document 01 with the limits and the editions of document 02 in plain Rust, written from these
+//! documents alone.
 //!
 //! A file is judged into a `Plan`, which holds the state after every step. The calls read their
 //! answers off the plan. A run moves the words between the two lent buffers, step by step.
@@ -108,9 +109,12 @@ impl Plan {
         let table: Sizes = reader.sizes(header.rank)?;
         product_within(&table, 12, MOST_WORDS, 13)?;
         reader.expect_at(header.start_at)?;
-        let start = reader.sharding(header.axes, header.rank)?;
+        let start = reader.sharding(&header)?;
         reader.expect_at(header.steps_at)?;
         let start = State::start(&mesh, &table, start)?;
+        if header.edition == 2 && start.sharding.replicated.is_empty() {
+            return Err(Refusal::whole(18));
+        }
         let (steps, states) = judge_steps(&mut reader, &mesh, start, header.steps)?;
         if reader.at < file.len() {
             return Err(Refusal::whole(9));
@@ -166,6 +170,7 @@ fn judge_steps(
 
 /// The numbers at the front of a file, within their limits.
 struct Header {
+    edition: usize,
     axes: usize,
     rank: usize,
     steps: usize,
@@ -184,7 +189,7 @@ impl Header {
             return Err(Refusal::whole(2));
         }
         let entry = |index: usize| usize::from(number_at(file, 2 * index));
-        if entry(0) != 1 {
+        if !(1..=2).contains(&entry(0)) {
             return Err(Refusal::whole(3));
         }
         if entry(8) != file.len() {
@@ -198,6 +203,7 @@ impl Header {
             return Err(Refusal::whole(5));
         }
         Ok(Header {
+            edition: entry(0),
             axes,
             rank,
             steps,
@@ -259,10 +265,18 @@ impl Reader<'_> {
         Ok(lists)
     }
 
-    fn sharding(&mut self, axes: usize, rank: usize) -> Result<Sharding, Refusal> {
-        let dims = self.lists(axes, rank)?;
-        let unreduced = self.list(axes)?;
-        Ok(Sharding { dims, unreduced })
+    fn sharding(&mut self, header: &Header) -> Result<Sharding, Refusal> {
+        let dims = self.lists(header.axes, header.rank)?;
+        let unreduced = self.list(header.axes)?;
+        let replicated = match header.edition {
+            1 => AxisList::new(),
+            _ => self.list(header.axes)?,
+        };
+        Ok(Sharding {
+            dims,
+            unreduced,
+            replicated,
+        })
     }
 
     fn step(&mut self, axes: usize, rank: usize, number: u8) -> Result<Step, Refusal> {
@@ -394,20 +408,22 @@ impl Sharding {
         for &axis in self.dims.iter().flatten() {
             named.name(mesh, axis)?;
         }
-        let mut before = None;
-        for &axis in &self.unreduced {
-            named.name(mesh, axis)?;
-            if before >= Some(axis) {
-                return Err(Refusal::whole(16));
+        for list in [&self.unreduced, &self.replicated] {
+            let mut before = None;
+            for &axis in list {
+                named.name(mesh, axis)?;
+                if before >= Some(axis) {
+                    return Err(Refusal::whole(16));
+                }
+                before = Some(axis);
             }
-            before = Some(axis);
         }
         Ok(())
     }
 
-    fn is_replicated(&self, axis: Axis) -> bool {
-        let mut lists = self.dims.iter().chain([&self.unreduced]);
-        !lists.any(|list| list.contains(&axis))
+    fn names(&self, axis: Axis) -> bool {
+        let mut lists = self.dims.iter().chain([&self.unreduced, &self.replicated]);
+        lists.any(|list| list.contains(&axis))
     }
 }
 
@@ -435,7 +451,7 @@ impl State {
         let mut named = AxisList::new();
         for (dim, list) in next.sharding.dims.iter_mut().zip(lists) {
             for &axis in list {
-                if !self.sharding.is_replicated(axis) || named.contains(&axis) {
+                if self.sharding.names(axis) || named.contains(&axis) {
                     return Err(23);
                 }
                 named.push(axis);

@@ -176,6 +176,7 @@ impl Layout<'_> {
         self.sharding.unreduced.contains(&axis)
     }
 
+    /// Explicitly or not: an axis that is to stay replicated counts as one that no list names.
     fn is_replicated(&self, axis: Axis) -> bool {
         let sharded = self.sharding.dims.iter().any(|list| list.contains(&axis));
         !sharded && !self.is_unreduced(axis)

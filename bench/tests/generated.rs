@@ -11,14 +11,18 @@ use bench::spreads::{product, Layout};
 #[test]
 fn accepted_plans_are_accepted() {
     let mut random = Random::new(1);
+    let mut of_edition = [0; 3];
     for _ in 0..3000 {
         let scale = random_scale(&mut random);
         let draft = accepted(&mut random, scale);
+        of_edition[draft.edition()] += 1;
         for one in implementations() {
             let checked = one.check(&draft.encode()).expect("accepted");
             assert_eq!(usize::from(checked.steps), draft.steps.len());
+            assert_eq!(*checked.sharding.replicated, draft.replicated);
         }
     }
+    assert!(of_edition[1] > 1000 && of_edition[2] > 1000);
 }
 
 #[test]

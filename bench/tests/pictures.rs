@@ -60,8 +60,8 @@ fn on_mesh_2x2(start: &[&[u8]], step: Step) -> Draft {
         mesh: vec![2, 2],
         table: vec![4, 4],
         start: lists(start),
-        unreduced: vec![],
         steps: vec![step],
+        ..Draft::default()
     }
 }
 
@@ -108,8 +108,8 @@ fn all_to_all_as_drawn() {
         mesh: vec![3],
         table: vec![3, 3, 2],
         start: lists(&[&[0], &[], &[]]),
-        unreduced: vec![],
         steps: vec![Step::AllToAll(Dim(0), Dim(1), axes(&[0]))],
+        ..Draft::default()
     };
     assert_picture(&draft, &shards(before, 3), &shards(after, 3));
 }

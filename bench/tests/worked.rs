@@ -1,5 +1,5 @@
-//! The worked plans of document 01, and the cases at the limits: those in its ledger's last line, as
-//! document 02 moves them.
+//! The worked plans of document 01, the cases at the limits, those in its ledger's last line, as
+//! document 02 moves them, and the replicated list of edition 2.
 
 use bench::answers::{Device, Dim, Refusal};
 use bench::plans::{axes, lists, mend_length, Draft, Step};
@@ -22,8 +22,8 @@ fn w4(steps: Vec<Step>) -> Vec<u8> {
         mesh: vec![2, 2],
         table: vec![4],
         start: lists(&[&[1, 0]]),
-        unreduced: vec![],
         steps,
+        ..Draft::default()
     };
     draft.encode()
 }
@@ -36,6 +36,7 @@ fn w7(unreduced: &[u8]) -> Vec<u8> {
         start: lists(&[&[]]),
         unreduced: axes(unreduced),
         steps: vec![Step::Reduce(axes(&[0]))],
+        ..Draft::default()
     };
     draft.encode()
 }
@@ -89,8 +90,8 @@ fn w1_is_the_file_of_its_plan() {
         mesh: vec![2, 2],
         table: vec![4, 4],
         start: lists(&[&[0], &[1]]),
-        unreduced: vec![],
         steps: vec![Step::Gather(lists(&[&[], &[1]]))],
+        ..Draft::default()
     };
     assert_eq!(draft.encode(), w1());
 }
@@ -184,8 +185,8 @@ fn w8_moves_an_axis_between_dimensions() {
         mesh: vec![2],
         table: vec![2, 2],
         start: lists(&[&[0], &[]]),
-        unreduced: vec![],
         steps: vec![Step::AllToAll(Dim(0), Dim(1), axes(&[0]))],
+        ..Draft::default()
     };
     for one in implementations() {
         assert_run(one, &draft.encode(), &[1, 2, 3, 4], &[1, 3, 2, 4]);
@@ -263,6 +264,96 @@ fn an_unreduced_axis_is_not_sliced() {
     }
 }
 
+/// A mesh of 2x2x2x2 and a table of 16 with this start.
+fn on_mesh_2x2x2x2(start: &[u8], unreduced: &[u8], replicated: &[u8]) -> Draft {
+    Draft {
+        mesh: vec![2; 4],
+        table: vec![16],
+        start: lists(&[start]),
+        unreduced: axes(unreduced),
+        replicated: axes(replicated),
+        ..Draft::default()
+    }
+}
+
+#[test]
+fn no_step_changes_the_replicated_list() {
+    let mut draft = on_mesh_2x2x2x2(&[2], &[3], &[0, 1]);
+    draft.steps = vec![
+        Step::Gather(lists(&[&[2]])),
+        Step::Reduce(axes(&[3])),
+        Step::Slice(lists(&[&[3, 2]])),
+    ];
+    for one in implementations() {
+        for state in 0..=3 {
+            let placed = one.place(&draft.encode(), state, Device(15));
+            assert_eq!(*placed.expect("placed").sharding.replicated, axes(&[0, 1]));
+        }
+    }
+}
+
+#[test]
+fn an_axis_that_is_to_stay_replicated_is_in_no_step() {
+    let mut draft = on_mesh_2x2x2x2(&[2], &[3], &[0, 1]);
+    let steps = [
+        (Step::Slice(lists(&[&[1]])), 23),
+        (Step::Gather(lists(&[&[1]])), 24),
+        (Step::Reduce(axes(&[1])), 27),
+    ];
+    for (step, number) in steps {
+        draft.steps = vec![step];
+        for one in implementations() {
+            assert_eq!(one.check(&draft.encode()), refusal(number, 1));
+        }
+    }
+}
+
+#[test]
+fn the_replicated_list_is_judged_axis_by_axis() {
+    let cases: [([&[u8]; 3], u8); 9] = [
+        ([&[2], &[], &[0, 2]], 15),
+        ([&[], &[2], &[0, 2]], 15),
+        ([&[], &[], &[2, 2]], 15),
+        ([&[3], &[], &[2, 3, 1]], 15),
+        ([&[], &[], &[2, 1]], 16),
+        ([&[3], &[], &[2, 1, 3]], 16),
+        ([&[], &[1, 0], &[4]], 16),
+        ([&[], &[], &[4]], 14),
+        ([&[], &[], &[1, 4, 0]], 14),
+    ];
+    for one in implementations() {
+        for ([start, unreduced, replicated], number) in cases {
+            let draft = on_mesh_2x2x2x2(start, unreduced, replicated);
+            assert_eq!(one.check(&draft.encode()), refusal(number, 0));
+        }
+        // Each list begins anew.
+        let draft = on_mesh_2x2x2x2(&[3], &[2], &[0, 1]);
+        assert!(one.check(&draft.encode()).is_ok());
+    }
+}
+
+#[test]
+fn a_plan_has_one_edition() {
+    let free = on_mesh_2x2x2x2(&[0], &[], &[]);
+    let kept = on_mesh_2x2x2x2(&[0], &[], &[1]);
+    let mut uneven = free.clone();
+    uneven.table = vec![3];
+    for one in implementations() {
+        let answer = |draft: &Draft, edition| one.check(&draft.encode_as(edition)).map(|_| ());
+        assert_eq!(answer(&free, 1), Ok(()));
+        assert_eq!(answer(&free, 2), refusal(18, 0));
+        assert_eq!(answer(&uneven, 2), refusal(17, 0));
+        assert_eq!(answer(&kept, 2), Ok(()));
+        for edition in [0, 3, 257, 258] {
+            assert_eq!(answer(&kept, edition), refusal(3, 0));
+        }
+        // The list stands before the steps, whose offset tells whether it was to be there.
+        let mut file = kept.encode();
+        file[0] = 1;
+        assert_eq!(one.check(&file), refusal(6, 0));
+    }
+}
+
 #[test]
 fn the_present_shard_size_has_to_divide() {
     // The dimension, 4, could be divided by 4, but its shards of 2 cannot.
@@ -270,8 +361,8 @@ fn the_present_shard_size_has_to_divide() {
         mesh: vec![2, 4],
         table: vec![4],
         start: lists(&[&[0]]),
-        unreduced: vec![],
         steps: vec![Step::Slice(lists(&[&[1]]))],
+        ..Draft::default()
     };
     for one in implementations() {
         assert_eq!(one.check(&draft.encode()), refusal(25, 1));

@@ -34,6 +34,9 @@ struct Tally {
     /// Accepted plans with the most devices, and with the most words.
     most_devices: usize,
     most_words: usize,
+    /// Accepted plans with axes that are to stay replicated, and how many of them were run.
+    edition_2: usize,
+    runs_of_edition_2: usize,
     placements: usize,
     listings: usize,
     runs: usize,
@@ -48,7 +51,7 @@ struct Tally {
     refusals: BTreeSet<u8>,
 }
 
-/// The numbers of all refusals of document 01: those of files, of buffers and of other numbers.
+/// The numbers of all refusals: those of files, of buffers and of other numbers.
 const REFUSALS: usize = FILE_REFUSALS.len() + 5;
 
 impl Tally {
@@ -60,9 +63,11 @@ impl Tally {
     fn see_plan(&mut self, draft: &Draft) {
         self.most_devices += usize::from(product(&draft.mesh) == MOST_DEVICES);
         self.most_words += usize::from(product(&draft.table) == MOST_WORDS);
+        self.edition_2 += usize::from(draft.edition() == 2);
     }
 
     fn see_steps(&mut self, draft: &Draft) {
+        self.runs_of_edition_2 += usize::from(draft.edition() == 2);
         for step in &draft.steps {
             match step {
                 Step::Slice(_) => self.steps[0] += 1,
@@ -585,6 +590,8 @@ impl fmt::Display for Tally {
             f,
             "{devices} plans with {MOST_DEVICES} devices, {words} with {MOST_WORDS} words"
         )?;
+        let (plans, runs) = (self.edition_2, self.runs_of_edition_2);
+        writeln!(f, "{plans} plans of edition 2, {runs} of them run")?;
         let met = self.refusals.len();
         writeln!(f, "{} placements", self.placements)?;
         writeln!(f, "{} group listings", self.listings)?;

@@ -462,8 +462,8 @@ fn slice_and_gather(extent: Extent, on: &'static str, run: usize, group: usize) 
         mesh: extent.mesh(group),
         table: extent.table(row),
         start,
-        unreduced: vec![],
         steps: vec![step.clone()],
+        ..Draft::default()
     };
     let slicing = Case {
         kind: "slice",
@@ -512,8 +512,8 @@ fn all_to_all(extent: Extent, run: usize, group: usize) -> Case {
             mesh: extent.mesh(group),
             table: extent.table(run * group),
             start: axis_on(0),
-            unreduced: vec![],
             steps: vec![step(0, 1)],
+            ..Draft::default()
         },
         back: Some(step(1, 0)),
         words,
@@ -544,6 +544,7 @@ fn reduction(extent: Extent, run: usize, group: usize) -> Case {
             start: vec![Vec::new(); 2],
             unreduced: axes(&[0, 2, 3, 4]),
             steps: vec![Step::Reduce(axes(&[0]))],
+            ..Draft::default()
         },
         back: None,
         words: extent.room(),
@@ -608,8 +609,8 @@ fn steps_file(steps: usize) -> Vec<u8> {
         mesh: vec![2, 2, 4, 2],
         table: vec![16, 16, 16],
         start: vec![axes(&[0]), axes(&[1]), axes(&[])],
-        unreduced: vec![],
         steps: there_and_back.iter().cycle().take(steps).cloned().collect(),
+        ..Draft::default()
     };
     draft.encode()
 }

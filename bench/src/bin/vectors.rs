@@ -4,7 +4,7 @@
 //! what its cases are: `check.txt` or `plans.txt`, `run.txt` or `runs.txt`, `place.txt` or
 //! `placements.txt`, `groups.txt`. Empty lines and lines that begin with `#` are no cases.
 
-use bench::answers::{Axis, Device, Refusal};
+use bench::answers::{Axis, Device, Refusal, Sharding};
 use bench::{hex, implementations, Implementation};
 use std::path::{Path, PathBuf};
 use std::process::ExitCode;
@@ -149,13 +149,20 @@ fn compare_place(implementation: &dyn Implementation, fields: &[&str]) -> Result
     let file = bytes(file)?;
     let answer = implementation.place(&file, number(state)?, Device(number(device)?));
     let line = printed(answer, |placed| {
-        let sharding = placed.sharding;
-        format!(
-            "ok lists {:?} {:?} sizes {:?} first {:?}",
-            sharding.dims, sharding.unreduced, placed.shard, placed.first
-        )
+        let lists = printed_lists(&placed.sharding);
+        let (shard, first) = (placed.shard, placed.first);
+        format!("ok lists {lists} sizes {shard:?} first {first:?}")
     });
     Ok(line == *outcome)
+}
+
+/// The lists of the dimensions, the unreduced list, and the replicated list where it has axes.
+fn printed_lists(sharding: &Sharding) -> String {
+    let lists = format!("{:?} {:?}", sharding.dims, sharding.unreduced);
+    match &*sharding.replicated {
+        [] => lists,
+        replicated => format!("{lists} {replicated:?}"),
+    }
 }
 
 fn compare_groups(implementation: &dyn Implementation, fields: &[&str]) -> Result<bool, String> {
