@@ -620,7 +620,10 @@ fn broken_start(random: &mut Random, mut draft: Draft, number: u8) -> Option<(Ve
         18 => draft.replicated.clear(),
         _ => return None,
     }
-    // An empty list in edition 2 is the last that is wrong with a start.
+    // Steps are judged after the start, and an empty list in edition 2 is the last in it.
+    if random.once_in(4) {
+        draft.steps = vec![no_kind(random)];
+    }
     let empty = number == 18 || (draft.replicated.is_empty() && random.once_in(4));
     let edition = if empty { 2 } else { draft.edition() };
     Some((draft.encode_as(edition), Refusal::whole(number)))
