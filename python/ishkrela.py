@@ -61,7 +61,7 @@ MOST_DEVICES = 1024
 TEXTS = {
     1: "fewer than 18 bytes",
     2: "more than 8,192 bytes",
-    3: "the edition is not 1",
+    3: "the edition is neither 1 nor 2",
     4: "total length is not the number of bytes given",
     5: "number of axes, rank or number of steps outside its limits",
     6: "an offset is wrong",
@@ -74,12 +74,13 @@ TEXTS = {
     13: "the product of table sizes passes 65,536",
     14: "start: no such axis",
     15: "start: an axis named before",
-    16: "start: unreduced list not strictly increasing",
+    16: "start: unreduced or replicated list not strictly increasing",
     17: "start: a dimension is not divisible",
+    18: "start: the replicated list of edition 2 is empty",
     20: "unknown kind of step",
     21: "a step names no axis",
     22: "step: no such axis",
-    23: "all-slice: the axis is not replicated, or was named earlier in this step",
+    23: "all-slice: the axis is in a list of the sharding, or was named earlier in this step",
     24: "the gathered list is not the tail of the dimension's list",
     25: "a dimension's shard size is not divisible",
     26: "all-reduce: list not strictly increasing",
@@ -116,13 +117,14 @@ class Refused(Exception):
 
 @dataclass(frozen=True)
 class Sharding:
-    """For each dimension the axes that split it, outer to inner; and the unreduced axes."""
+    """For each dimension the axes that split it, outer to inner; the unreduced axes; and the axes to stay replicated."""
 
     dims: Lists
     unreduced: Axes = ()
+    replicated: Axes = ()
 
     def __post_init__(self) -> None:
-        _keep(self, dims=_tuples(self.dims), unreduced=tuple(self.unreduced))
+        _keep(self, dims=_tuples(self.dims), unreduced=tuple(self.unreduced), replicated=tuple(self.replicated))
 
 
 @dataclass(frozen=True)
@@ -152,14 +154,16 @@ def check(file: Bytes) -> Checked:
     """Judges a plan file. Answers Checked."""
     answer = _library().ishkrela_check(*_read(file))
     _raise(answer.refusal)
-    return Checked(answer.room, answer.devices, answer.steps, _sharding(answer), _front(answer.shard, answer.rank))
+    sharding, shard = _sharding(answer.sharding, answer.rank), _front(answer.shard, answer.rank)
+    return Checked(answer.room, answer.devices, answer.steps, sharding, shard)
 
 
 def place(file: Bytes, state: int, device: int) -> Placed:
     """Announces a state of a plan (0 is the start) and where a device's shard begins. Answers Placed."""
     answer = _library().ishkrela_place(*_read(file), _number(state, 16), _number(device, 16))
     _raise(answer.refusal)
-    return Placed(_sharding(answer), _front(answer.shard, answer.rank), _front(answer.first, answer.rank))
+    sharding, shard = _sharding(answer.sharding, answer.rank), _front(answer.shard, answer.rank)
+    return Placed(sharding, shard, _front(answer.first, answer.rank))
 
 
 def groups(mesh: Iterable[int], axes: Iterable[int], out: Optional[Lent] = None) -> List[List[int]]:
@@ -193,7 +197,7 @@ def run(file: Bytes, work: Lent, spare: Lent) -> None:
 
 @dataclass(frozen=True)
 class AllSlice:
-    """Splits each dimension further, along replicated axes: a list for each dimension."""
+    """Splits each dimension further, along axes in no list of the sharding: a list for each dimension."""
 
     lists: Lists
 
@@ -248,13 +252,22 @@ class AllToAll:
 Step = Union[AllSlice, AllGather, AllReduce, AllToAll]
 
 
-def plan_file(mesh: Iterable[int], table: Iterable[int], start: Sharding, steps: Iterable[Step] = ()) -> bytes:
+def plan_file(
+    mesh: Iterable[int], table: Iterable[int], start: Sharding, steps: Iterable[Step] = (), edition: Optional[int] = None
+) -> bytes:
     """The bytes of a plan: mesh sizes, table sizes, the Sharding at the start, and steps.
 
     Judges nothing: a plan that the rules refuse has a file too. But a file has no place for how many
     lists there are, so one list for each dimension of the table is asked for (ValueError).
+
+    The edition is 1 where no axis is to stay replicated, and 2 otherwise. Naming another makes a file
+    that is refused; edition 1 has no place for the replicated list (ValueError).
     """
     mesh, table, steps = [*mesh], [*table], [*steps]
+    if edition is None:
+        edition = 2 if start.replicated else 1
+    if edition == 1 and start.replicated:
+        raise ValueError("edition 1 has no place for the replicated list: leave the edition out, or the list")
     _count_lists("the sharding", start.dims, len(table))
     for number, step in enumerate(steps, 1):
         if isinstance(step, (AllSlice, AllGather)):
@@ -262,11 +275,11 @@ def plan_file(mesh: Iterable[int], table: Iterable[int], start: Sharding, steps:
     sections = [
         _numbers(mesh),
         _numbers(table),
-        _lists([*start.dims, start.unreduced]),
+        _lists([*start.dims, start.unreduced] + ([] if edition == 1 else [start.replicated])),
         b"".join(step.encode() for step in steps),
     ]
     ends = list(itertools.accumulate(map(len, sections), initial=18))
-    header = [1, len(mesh), len(table), len(steps), *ends]
+    header = [edition, len(mesh), len(table), len(steps), *ends]
     return _numbers(header) + b"".join(sections)
 
 
@@ -331,19 +344,24 @@ def picture(file: Bytes, state: int, words: Iterable[int]) -> str:
 # ---- inside
 
 
+class _Sharding(ctypes.Structure):
+    _fields_ = [
+        ("counts", ctypes.c_uint8 * (MOST_DIMS + 2)), ("axes", ctypes.c_uint8 * ((MOST_DIMS + 2) * MOST_AXES)),
+    ]
+
+
 class _Checked(ctypes.Structure):
     _fields_ = [
         ("refusal", ctypes.c_uint32), ("room", ctypes.c_uint32), ("devices", ctypes.c_uint16),
         ("steps", ctypes.c_uint16), ("rank", ctypes.c_uint16), ("shard", ctypes.c_uint16 * MOST_DIMS),
-        ("counts", ctypes.c_uint8 * (MOST_DIMS + 1)), ("axes", ctypes.c_uint8 * ((MOST_DIMS + 1) * MOST_AXES)),
+        ("sharding", _Sharding),
     ]
 
 
 class _Placed(ctypes.Structure):
     _fields_ = [
         ("refusal", ctypes.c_uint32), ("rank", ctypes.c_uint16), ("shard", ctypes.c_uint16 * MOST_DIMS),
-        ("first", ctypes.c_uint16 * MOST_DIMS), ("counts", ctypes.c_uint8 * (MOST_DIMS + 1)),
-        ("axes", ctypes.c_uint8 * ((MOST_DIMS + 1) * MOST_AXES)),
+        ("first", ctypes.c_uint16 * MOST_DIMS), ("sharding", _Sharding),
     ]
 
 
@@ -416,9 +434,9 @@ def _front(places: Any, rank: int) -> Tuple[int, ...]:
     return tuple(places[:rank])
 
 
-def _sharding(answer: Any) -> Sharding:
+def _sharding(answer: Any, rank: int) -> Sharding:
     lists = [tuple(answer.axes[MOST_AXES * d:][:count]) for d, count in enumerate(answer.counts)]
-    return Sharding(lists[:answer.rank], lists[MOST_DIMS])
+    return Sharding(lists[:rank], *lists[MOST_DIMS:])
 
 
 def _keep(made: Any, **fields: Any) -> None:

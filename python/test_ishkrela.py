@@ -115,6 +115,47 @@ class Worked(Case):
         self.assertRefused(5, 0, check, plan_file([2], [2], Sharding([[]]), there_and_back + [AllSlice([[0]])]))
 
 
+class Editions(Case):
+    """The axes that are to stay replicated, which files of edition 2 have."""
+
+    def kept(self, *steps):
+        return plan_file([2, 2, 2], [4], Sharding([[1]], [2], [0]), steps)
+
+    def test_the_file_of_a_plan(self):
+        file = plan_file([2, 2], [4], Sharding([[1]], replicated=[0]))
+        self.assertEqual(file.hex(), "02000200010000001200160018001d001d00" "02000200" "0400" "0101" "00" "0100")
+        self.assertEqual(plan_file([2, 2], [4], Sharding([[1]], replicated=[0]), edition=2), file)
+        for edition in (None, 1):
+            free = plan_file([2, 2], [4], Sharding([[1]]), edition=edition)
+            self.assertEqual(free.hex(), "01000200010000001200160018001b001b00" "02000200" "0400" "0101" "00")
+
+    def test_no_step_changes_the_list(self):
+        file = self.kept(AllGather([[1]]), AllReduce([2]), AllSlice([[2, 1]]))
+        shardings = [place(file, state, 7).sharding for state in range(4)]
+        self.assertEqual(shardings, [
+            Sharding([[1]], [2], [0]), Sharding([[]], [2], [0]), Sharding([[]], [], [0]), Sharding([[2, 1]], [], [0]),
+        ])
+        self.assertEqual(check(file).sharding, shardings[3])
+
+    def test_a_spread_and_its_sum(self):
+        file = self.kept(AllGather([[1]]), AllReduce([2]))
+        self.assertEqual(moved(file, spread(file, [10, 20, 30, 40])), 8 * [10, 20, 30, 40])
+
+    def test_no_step_names_such_an_axis(self):
+        for number, step in ((23, AllSlice([[0]])), (24, AllGather([[0]])), (27, AllReduce([0]))):
+            self.assertRefused(number, 1, check, self.kept(step))
+
+    def test_one_plan_has_one_edition(self):
+        self.assertRefused(18, 0, check, plan_file([2], [4], Sharding([[]]), edition=2))
+        self.assertRefused(17, 0, check, plan_file([2], [3], Sharding([[0]]), edition=2))
+        for edition in (0, 3, 257, 258):
+            self.assertRefused(3, 0, check, plan_file([2], [4], Sharding([[]], replicated=[0]), edition=edition))
+
+    def test_the_first_edition_has_no_place_for_the_list(self):
+        with self.assertRaisesRegex(ValueError, "edition 1 has no place"):
+            plan_file([2], [4], Sharding([[]], replicated=[0]), edition=1)
+
+
 class Cases(Case):
     """The cases of tests/, with the answers printed there."""
 
@@ -143,7 +184,8 @@ class Cases(Case):
         except Refused as refused:
             return f"no {refused.number} {refused.step}"
         dims, unreduced = [list(axes) for axes in at.sharding.dims], list(at.sharding.unreduced)
-        return f"ok lists {dims} {unreduced} sizes {list(at.shard)} first {list(at.first)}"
+        replicated = f" {list(at.sharding.replicated)}" if at.sharding.replicated else ""
+        return f"ok lists {dims} {unreduced}{replicated} sizes {list(at.shard)} first {list(at.first)}"
 
     def test_groups(self):
         for mesh, axes, length, answer in cases("groups.txt"):
@@ -181,10 +223,11 @@ class Boundary(Case):
     """What include/ishkrela.h says of the answers and of the memory lent."""
 
     def test_layout(self):
-        checked, placed = ishkrela._Checked, ishkrela._Placed
-        self.assertEqual([ctypes.sizeof(checked), ctypes.sizeof(placed)], [60, 60])
-        self.assertEqual(self.offsets(checked), [0, 4, 8, 10, 12, 14, 22, 27])
-        self.assertEqual(self.offsets(placed), [0, 4, 6, 14, 22, 27])
+        sharding, checked, placed = ishkrela._Sharding, ishkrela._Checked, ishkrela._Placed
+        self.assertEqual([ctypes.sizeof(answer) for answer in (sharding, checked, placed)], [42, 64, 64])
+        self.assertEqual(self.offsets(sharding), [0, 6])
+        self.assertEqual(self.offsets(checked), [0, 4, 8, 10, 12, 14, 22])
+        self.assertEqual(self.offsets(placed), [0, 4, 6, 14, 22])
 
     def offsets(self, answer):
         return [getattr(answer, name).offset for name, _ in answer._fields_]
@@ -201,17 +244,18 @@ class Boundary(Case):
         file = w4(AllGather([[1]]))
         for answer in (library.ishkrela_check(file, len(file)), library.ishkrela_place(file, len(file), 0, 0)):
             self.assertEqual(answer.refusal, 24 + 256)
-            self.assertFalse(any(bytes(answer)[4:57]))
+            self.assertFalse(any(bytes(answer)[4:]))
 
     def test_places_not_used_are_0(self):
         answer = ishkrela._library().ishkrela_check(w4(), len(w4()))
-        self.assertEqual((list(answer.shard), list(answer.counts)), ([1, 0, 0, 0], [2, 0, 0, 0, 0]))
-        self.assertEqual(list(answer.axes), [1, 0] + 28 * [0])
+        self.assertEqual((list(answer.shard), list(answer.sharding.counts)), ([1, 0, 0, 0], [2, 0, 0, 0, 0, 0]))
+        self.assertEqual(list(answer.sharding.axes), [1, 0] + 34 * [0])
 
-    def test_the_unreduced_list_is_the_fifth(self):
-        file = plan_file([2, 2, 2], [2], Sharding([[2]], [0, 1]))
-        answer = ishkrela._library().ishkrela_check(file, len(file))
-        self.assertEqual((list(answer.counts), list(answer.axes)[24:]), ([1, 0, 0, 0, 2], [0, 1, 0, 0, 0, 0]))
+    def test_the_unreduced_and_the_replicated_list_are_the_last(self):
+        file = plan_file([2, 2, 2, 2], [2], Sharding([[2]], [1], [0, 3]))
+        answer = ishkrela._library().ishkrela_check(file, len(file)).sharding
+        self.assertEqual(list(answer.counts), [1, 0, 0, 0, 1, 2])
+        self.assertEqual(list(answer.axes)[24:], [1, 0, 0, 0, 0, 0, 0, 3, 0, 0, 0, 0])
 
     def test_no_bytes_at_no_place(self):
         self.assertEqual(ishkrela._library().ishkrela_check(None, 0).refusal, 1)
@@ -336,7 +380,7 @@ class Given(Case):
         again = [AllSlice(((), (1,))), AllGather([(), [1]]), AllReduce((0,)), AllToAll(0, 1, iter([0]))]
         self.assertEqual(steps, again)
         self.assertEqual(len({*steps, *again}), 4)
-        self.assertEqual(Sharding([[0], []]), Sharding(((0,), ()), []))
+        self.assertEqual(Sharding([[0], []]), Sharding(((0,), ()), [], iter([])))
         self.assertEqual(eval(repr(steps)), steps)
 
     def test_a_refusal_comes_whole_out_of_a_pickle(self):
