@@ -19,36 +19,9 @@ use Rattle.reader.specs.declared.Next.{Next}
 use Rattle.reader.specs.declared.Shape.{Shape}
 use Rattle.reader.specs.declared.Next.the-variants as next
 use Rattle.judge.specs.Step.{Sharded}
-use Rattle.plan.specs.declared.Opening.{Opening}
 use Rattle.plan.specs.declared.Walk.{Walk}
 use Rattle.plan.specs.declared.Whole.{Whole}
 use Rattle.plan.specs.declared.State.{State}
-
--- ---- what stands before the steps
-
-abbrev pub openedBy : Next → Opening → Judged Front
-openedBy (next.At k) r = accept (record {
-  mesh = meshOf (r .mesh);
-  sizes = sizesOf (r .table);
-  start = shardingOf (r .table .rank) (r .start);
-  next = k;
-})
-openedBy (next.Refused x) r = refusedBy x
-
-abbrev pub openRead : Opening → Judged Front
-openRead r = openedBy (r .next) r
-
--- what is read so far: the header, and the sizes up to `at`
-pub record Opens (file : List ℕ) (header : Header) (shape : Shape) (at : ℕ) : Type 0 where
-  pub header-is : headerOf file ≡ accept header
-  pub shape-is : meshAndTableAt (header .axes) (header .rank) file
-      ≡ accept (record { value = record { mesh = meshOf (shape .mesh); sizes = sizesOf (shape .table) }; next = at })
-  pub counted : Counted (shape .devices) (shape .mesh) (shape .table)
-
-pub record Opened (file : List ℕ) (r : Opening) : Type 0 where
-  pub reads : openRead r ≡ judgeFront file
-  pub counted : Counted (r .devices) (r .mesh) (r .table)
-  pub steps-are : (f : Front) → judgeFront file ≡ accept f → r .steps ≡ stepCount file
 
 -- ---- steps in turn
 
@@ -146,7 +119,7 @@ answerOf w = record {
   steps = w .steps;
   rank = w .table .rank;
   sharding = shardingOf (w .table .rank) (w .last);
-  shard = shardSizes (meshOf (w .mesh)) (sizesOf (w .table)) (take (w .table .rank) (dimsOf (w .last)));
+  shard = shardSizes (meshOf (w .mesh)) (sizesOf (w .table)) (take (w .table .rank) (dimsOf (w .last .dims)));
 }
 
 pub record Bounded (w : Whole) : Type 0 where

@@ -1,4 +1,4 @@
-// The check of a plan file: what stands before its steps, the steps in turn, and the answer.
+// The check of a plan file: its steps in turn after what stands before them, and the answer.
 // Order and numbers are those of rules/specs/PlanFile.antt; specs/Parts.antt says what the parts answer.
 ghost use mathlib.Core.Path.{_≡_};
 ghost use mathlib.Core.List.{[]};
@@ -8,22 +8,18 @@ ghost use Rattle.rules.specs.Refusals.{accept, refusedBy};
 ghost use Rattle.rules.specs.Types.{axesOf, shardingOf, meshOf, sizesOf};
 ghost use Rattle.rules.specs.Calls.{checkedOf};
 ghost use Rattle.rules.specs.Promises.{CheckPromise};
-ghost use Rattle.reader.specs.Reading.{NoShape};
 ghost use Rattle.judge.specs.Step.{Sharded};
-ghost use Rattle.plan.specs.Parts.{openRead, Opens, Opened, walkAt, walkRead};
+ghost use Rattle.plan.specs.Parts.{walkAt, walkRead};
 ghost use Rattle.plan.specs.Parts.{wholeOf, WholeTells, Keeps, Bounded, answerOf, stateAt, StateTells, Shaped};
 use dims::lists_within;
 use dims::no_lists;
 use dims::shard_of;
 use dims::sizes_within;
 use dims::words;
-use reader::Header;
-use reader::HeaderRead;
+use opening::Opening;
+use opening::open;
 use reader::Next;
 use reader::Shape;
-use reader::read_header;
-use reader::read_shape;
-use reader::read_sharding;
 use rules::CheckOutcome;
 use rules::Checked;
 use rules::Dim;
@@ -34,22 +30,9 @@ use rules::Sharding;
 use rules::Step;
 use rules::Table;
 use rules::Totals;
-use start::Verdict;
-use start::judge_start;
-use start::refusal_of;
 use taking::larger;
 use taking::shard_words;
 use taking::take_step;
-
-// What stands before the steps, and where they begin.
-struct Opening {
-    next: Next,
-    devices: usize,
-    steps: usize,
-    mesh: Mesh,
-    table: Table,
-    start: Sharding,
-}
 
 // The sharding after some steps, the one that was kept on the way, the most words that a shard had, and where the next byte is.
 struct Walk {
@@ -57,77 +40,6 @@ struct Walk {
     most: usize,
     sharding: Sharding,
     kept: Sharding,
-}
-
-impl Opening {
-    fn refused(refusal: Refusal) -> Opening
-        ensures { λ r. ⌜ (openRead r ≡ refusedBy refusal) × NoShape (r .devices) (r .mesh) (r .table) × (axesOf (r .start .unreduced) ≡ []) ⌝ }
-    {
-        let none = Shape::refused(refusal);
-        let mesh = none.mesh;
-        let table = none.table;
-        let start = Sharding::replicated();
-        Opening {
-            next: Next::Refused(refusal),
-            devices: none.devices,
-            steps: 0,
-            mesh,
-            table,
-            start,
-        }
-    }
-}
-
-// The sharding section, the steps' offset, and the judgement of the start.
-fn open_with(file: &[u8], header: Header, shape: Shape, at: usize) -> Opening
-    requires { ⌜ Opens (now file) header shape at ⌝ }
-    ensures { λ r. ⌜ Opened (now (file .entry)) r ⌝ }
-{
-    let mesh = shape.mesh;
-    let table = shape.table;
-    let n = mesh.n;
-    let rank = table.rank;
-    let offset = u16_at(file, 12);
-    let read = read_sharding(file, at, n, rank, offset);
-    let next = read.next;
-    let Next::At(end) = next else {
-        return Opening::refused(next.refusal());
-    };
-    if u16_at(file, 14) != end {
-        return Opening::refused(Refusal {
-            reason: Reason::WrongOffset,
-            step: 0,
-        });
-    }
-    let start = read.sharding;
-    let verdict = judge_start(start, mesh, table);
-    let Verdict::Fine = verdict else {
-        return Opening::refused(refusal_of(verdict));
-    };
-    Opening {
-        next: Next::At(end),
-        devices: shape.devices,
-        steps: header.steps,
-        mesh,
-        table,
-        start,
-    }
-}
-
-// What stands before the steps.
-fn open(file: &[u8]) -> Opening
-    ensures { λ r. ⌜ Opened (now (file .entry)) r ⌝ }
-{
-    let read = read_header(file);
-    let HeaderRead::Is(header) = read else {
-        return Opening::refused(read.refusal());
-    };
-    let shape = read_shape(file, header);
-    let next = shape.next;
-    let Next::At(at) = next else {
-        return Opening::refused(next.refusal());
-    };
-    open_with(file, header, shape, at)
 }
 
 impl Walk {
@@ -300,7 +212,7 @@ fn passed(whole: Whole) -> Checked
     let mesh = whole.mesh;
     let table = whole.table;
     let last = whole.last;
-    let shard = sizes_within(shard_of(table, last, mesh));
+    let shard = sizes_within(shard_of(table, last.dims, mesh));
     let sharding = lists_within(last, table.rank);
     let room = whole.devices * whole.most;
     let totals = Totals {
@@ -346,7 +258,7 @@ impl State {
         let none = Shape::refused(refusal);
         let mesh = none.mesh;
         let table = none.table;
-        let sharding = Sharding::replicated();
+        let sharding = Sharding::none();
         State {
             next: Next::Refused(refusal),
             devices: none.devices,
@@ -375,7 +287,7 @@ pub fn state_after(file: &[u8], state: usize) -> State
     let mesh = whole.mesh;
     let table = whole.table;
     let sharding = keeping.kept;
-    let shard = shard_of(table, sharding, mesh);
+    let shard = shard_of(table, sharding.dims, mesh);
     State {
         next: Next::At(first),
         devices: whole.devices,

@@ -12,7 +12,9 @@ use dims::span_dims;
 use judge::judge_step;
 use reader::Next;
 use reader::read_step;
+use rules::AxisList;
 use rules::Dim;
+use rules::DimLists;
 use rules::Kind;
 use rules::Mesh;
 use rules::Refusal;
@@ -34,7 +36,8 @@ impl Taken {
     fn refused(refusal: Refusal, sharding: Sharding) -> Taken
         ensures { λ r. ⌜ ((rank : ℕ) → TakenTells rank (shardingOf rank sharding) (refusedBy refusal) r) ⌝ }
     {
-        let lists = Sharding::replicated();
+        let lists = DimLists::empty();
+        let list = AxisList::empty();
         Taken {
             next: Next::Refused(refusal),
             step: Step {
@@ -42,6 +45,7 @@ impl Taken {
                 source: Dim(0),
                 target: Dim(0),
                 lists,
+                list,
             },
             sharding,
         }
@@ -90,7 +94,7 @@ pub fn larger(a: usize, b: usize) -> usize
 // The words of one shard of a table of so many words. The table's words are divided once, by the span of all axes that split it.
 pub fn shard_words(total: usize, mesh: Mesh, table: Table, sharding: Sharding) -> usize
     requires { ⌜ Sharded mesh table sharding × (total ≡ product (sizesOf table)) ⌝ }
-    ensures { λ r. ⌜ r ≡ product (shardSizes (meshOf mesh) (sizesOf table) (take (table .rank) (dimsOf sharding))) ⌝ }
+    ensures { λ r. ⌜ r ≡ product (shardSizes (meshOf mesh) (sizesOf table) (take (table .rank) (dimsOf (sharding .dims)))) ⌝ }
 {
-    total / span_dims(sharding, table.rank, mesh)
+    total / span_dims(sharding.dims, table.rank, mesh)
 }
