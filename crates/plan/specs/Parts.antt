@@ -1,5 +1,4 @@
--- What the parts of the check (src/lib.rt) answer, in the rules' own judgements: what stands before the steps, so many
--- steps in turn, the whole file, a state. A mesh is told by its n sizes, a table by the sizes up to its rank, a sharding by the lists up to the rank,
+-- What the parts of the check (src/lib.rt) answer, in the rules' own judgements: so many steps in turn, the whole file, a state. A mesh is told by its n sizes, a table by the sizes up to its rank, a sharding by the lists up to the rank,
 -- a list by the axes up to its count; the places past these are free, and nothing reads them. Assumes nothing.
 use Prim.Native.Nat.{ℕ, _*_, _≤_}
 use mathlib.Core.Path.{_≡_}
@@ -8,16 +7,12 @@ use lib.ListN.{length, take}
 use Rattle.rules.specs.Mesh.{devices as devicesOf}
 use Rattle.rules.specs.Sharding.{Sharding, shardSizes}
 use Rattle.rules.specs.Limits.{mostAxes, mostDevices, mostWords, mostDims, mostSteps}
-use Rattle.rules.specs.Refusals.{Judged, accept, _>>=_, refusedBy}
-use Rattle.rules.specs.PlanFile.{Read, meshAndTableAt, stepCount, stepsAt, Front, judgeFront, Plan, judge, announced, largestShard, room, StateAnswer, stateOf}
+use Rattle.rules.specs.Refusals.{Judged, accept, _>>=_}
+use Rattle.rules.specs.PlanFile.{Read, stepsAt, judgeFront, Plan, judge, announced, largestShard, room, StateAnswer, stateOf}
 use Rattle.rules.specs.Types.{dimsOf, shardingOf, meshOf, sizesOf, WithinPlaces}
 use Rattle.rules.specs.Calls.{CheckAnswer}
 use Rattle.rules.specs.declared.Sharding as code
-use Rattle.reader.specs.Reading.{reading, Tells, noLists, headerOf, Counted}
-use Rattle.reader.specs.declared.Header.{Header}
-use Rattle.reader.specs.declared.Next.{Next}
-use Rattle.reader.specs.declared.Shape.{Shape}
-use Rattle.reader.specs.declared.Next.the-variants as next
+use Rattle.reader.specs.Reading.{reading, Tells, noLists, Counted}
 use Rattle.judge.specs.Step.{Sharded}
 use Rattle.plan.specs.declared.Walk.{Walk}
 use Rattle.plan.specs.declared.Whole.{Whole}

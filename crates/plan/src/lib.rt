@@ -1,11 +1,10 @@
 // The check of a plan file: its steps in turn after what stands before them, and the answer.
 // Order and numbers are those of rules/specs/PlanFile.antt; specs/Parts.antt says what the parts answer.
 ghost use mathlib.Core.Path.{_≡_};
-ghost use mathlib.Core.List.{[]};
 ghost use Prim.Native.Nat.{ℕ, _≤_, _<_};
 ghost use Rattle.rules.specs.Limits.{mostSteps};
 ghost use Rattle.rules.specs.Refusals.{accept, refusedBy};
-ghost use Rattle.rules.specs.Types.{axesOf, shardingOf, meshOf, sizesOf};
+ghost use Rattle.rules.specs.Types.{shardingOf, meshOf, sizesOf};
 ghost use Rattle.rules.specs.Calls.{checkedOf};
 ghost use Rattle.rules.specs.Promises.{CheckPromise};
 ghost use Rattle.judge.specs.Step.{Sharded};

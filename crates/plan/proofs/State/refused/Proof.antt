@@ -8,7 +8,7 @@ use Rattle.plan.proofs.State.refused.Tie as tie
 
 pub refused-spec : {M : Type 1} → statement M
 refused-spec = tie.close (tie.spec (λ c κs. search needs) (λ c κs. search needs) (λ c. let h = c .before .before .before .refused .ensures .1 in
-    let s = no-sharding (c .replicated .result) (h .rank-is) (c .replicated .ensures .1) in (
+    let s = no-sharding (c .none .result) (h .rank-is) (c .none .ensures .1, c .none .ensures .2) in (
       record { reads = refl; beside = λ i. record { mesh = no-mesh h i; sizes = no-sizes h i; sharding = s i; shard = no-sizes h i } },
       record { counted = no-counted h; rank-is = refl; rank-few = omega (arith, h .rank-is); axes-few = omega (arith, h .n-is) },
     )))
