@@ -286,10 +286,12 @@ module _ (mesh shape : List ℕ) (Gs Ss : List (List ℕ)) (v : Step mesh shape 
       → Copy (stepDigits mesh shape Gs Ss) (product mesh * R) 0 room
   copy-ok room h k = record {
     some = h;
-    nested = step-nested;
-    whole = sym step-counted;
-    filled = mul-pos (v .some) (v .new-pos);
-    inside = λ t q. omega (arith, leads t q, source-in (t / R) (t % R) (div-lt (product mesh) R q) (mod-lt t (v .new-pos)));
+    counts = record {
+      nested = step-nested;
+      whole = sym step-counted;
+      filled = mul-pos (v .some) (v .new-pos);
+      inside = λ t q. omega (arith, leads t q, source-in (t / R) (t % R) (div-lt (product mesh) R q) (mod-lt t (v .new-pos)));
+    };
   }
 
   pub copied-is : {W : Type 0} (z : W) (old : List W) → copied z (stepDigits mesh shape Gs Ss) (product mesh * R) 0 old ≡ moved z mesh Gs Ss shape old

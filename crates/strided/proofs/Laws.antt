@@ -1,5 +1,5 @@
--- Laws of copies with strides: what one digit, two digits and one turn of the loop over the first digit copy (`row-is`, `rows-are`, `turn-words`),
--- and that each finds its words where the whole copy does (`turn`, `rows-in`). Assumes nothing.
+-- Laws of digits: what one turn of a loop over the first one finds (`turn`, `turn-places`). Then of copies with strides: what one digit and two
+-- digits copy (`row-is`, `rows-are`), and that they find their words where the whole copy does (`row-in`, `rows-in`). Assumes nothing.
 use Prim.Native.Nat.{ℕ, zero, suc, _+_, _*_, _/_, _%_, _≤_, _<_, _-_}
 use mathlib.Core.Path.{_≡_, refl, ap, _∙_}
 use mathlib.Core.Logic.{_≢_}
@@ -25,7 +25,7 @@ use lib.Arith.{digits-div, digits-mod}
 use Rattle.rules.specs.Lists.{tab}
 use Rattle.rules.proofs.Lists.{tab-cong}
 use Rattle.rules.proofs.Fronts.{part-tab}
-use Rattle.strided.specs.Strided.{counted, offset, Nested, Row, Rows, Copy, row, rows, copied}
+use Rattle.strided.specs.Strided.{offset, Nested, Row, Rows, Counts, Copy, row, rows, copied}
 
 -- ---- one digit
 
@@ -90,21 +90,16 @@ rows-offset (s ∷ m ∷ z ∷ r) t h e = ap (λ (o : ℕ). t / m * z + o) (last
 
 -- what one turn of the loop over the first digit finds
 pub record Turn (digits : List ℕ) (words at room i size inner stride : ℕ) : Type 0 where
-  pub filled : 0 < inner
   pub part : i * inner + inner ≤ words
   pub few : size ≤ words
   pub first : at + i * stride < room
-  pub rest : Copy (drop 3 digits) inner (at + i * stride) room
+  pub rest : Counts (drop 3 digits) inner (at + i * stride) room
   pub less : length (drop 3 digits) < length digits
-  pub word : (o : ℕ) → o < inner → offset digits (i * inner + o) ≡ i * stride + offset (drop 3 digits) o
+  pub place : (o : ℕ) → o < inner → offset digits (i * inner + o) ≡ i * stride + offset (drop 3 digits) o
 
 pub pos-right : (a b : ℕ) → 0 < a * b → 0 < b
 pos-right a zero h = omega (arith, mul-zero a)
 pos-right a (suc b) h = omega arith
-
-some-rest : (r : List ℕ) (m : ℕ) → m ≡ counted r → m ≢ 1 → 0 < length r
-some-rest [] m e h = absurd (h e)
-some-rest (a ∷ r) m e h = omega arith
 
 pub one-digit : (digits : List ℕ) → 0 < length digits → Nested digits → 3 ≤ length digits
 one-digit [] h c = omega arith
@@ -113,54 +108,53 @@ one-digit (s ∷ m ∷ []) h c = absurd c
 one-digit (s ∷ m ∷ z ∷ r) h c = omega arith
 
 module _ {words at room : ℕ} where
-  pub two-digits : (digits : List ℕ) → Copy digits words at room → getD digits 1 0 ≢ 1 → 6 ≤ length digits
-  two-digits [] c h = omega (arith, c .some)
-  two-digits (s ∷ []) c h = absurd (c .nested)
-  two-digits (s ∷ m ∷ []) c h = absurd (c .nested)
-  two-digits (s ∷ m ∷ z ∷ []) c h = absurd (h (c .nested .0))
-  two-digits (s ∷ m ∷ z ∷ a ∷ []) c h = absurd (c .nested .1)
-  two-digits (s ∷ m ∷ z ∷ a ∷ b ∷ []) c h = absurd (c .nested .1)
-  two-digits (s ∷ m ∷ z ∷ a ∷ b ∷ d ∷ r) c h = omega arith
+  pub words-are : (digits : List ℕ) → 0 < length digits → Counts digits words at room → words ≡ getD digits 0 0 * getD digits 1 0
+  words-are [] h c = absurd (omega arith)
+  words-are (s ∷ []) h c = absurd (c .nested)
+  words-are (s ∷ m ∷ []) h c = absurd (c .nested)
+  words-are (s ∷ m ∷ z ∷ r) h c = c .whole
 
-  pub words-are : (digits : List ℕ) → Copy digits words at room → words ≡ getD digits 0 0 * getD digits 1 0
-  words-are [] c = absurd (omega (arith, c .some))
-  words-are (s ∷ []) c = absurd (c .nested)
-  words-are (s ∷ m ∷ []) c = absurd (c .nested)
-  words-are (s ∷ m ∷ z ∷ r) c = c .whole
-
-  pub turn : (digits : List ℕ) (i : ℕ) → Copy digits words at room → getD digits 1 0 ≢ 1 → i < getD digits 0 0
+  pub turn : (digits : List ℕ) (i : ℕ) → 0 < length digits → Counts digits words at room → i < getD digits 0 0
       → Turn digits words at room i (getD digits 0 0) (getD digits 1 0) (getD digits 2 0)
-  turn [] i c h l = absurd (omega (arith, c .some))
-  turn (s ∷ []) i c h l = absurd (c .nested)
-  turn (s ∷ m ∷ []) i c h l = absurd (c .nested)
-  turn (s ∷ m ∷ z ∷ r) i c h l =
+  turn [] i h c l = absurd (omega arith)
+  turn (s ∷ []) i h c l = absurd (c .nested)
+  turn (s ∷ m ∷ []) i h c l = absurd (c .nested)
+  turn (s ∷ m ∷ z ∷ r) i h c l =
       let p : 0 < m = pos-right s m (rw (c .whole) at (c .filled)) in
       let q : i * m + m ≤ words = rw (c .whole) (omega (arith, suc-mul i m, mul-le-mul-right {m = suc i} {n = s} m l)) in
       let w : (o : ℕ) → o < m → offset (s ∷ m ∷ z ∷ r) (i * m + o) ≡ i * z + offset r o = λ o g. rw (digits-div i g, digits-mod i g) in
       let b : (o : ℕ) → o < m → at + i * z + offset r o < room = λ o g.
       rw (add-assoc at (i * z) (offset r o), ← w o g) (c .inside (i * m + o) (omega arith)) in
       record {
-        filled = p;
         part = q;
         few = rw (c .whole) (le-mul-of-pos-right s p);
         first = omega (arith, b 0 p);
-        rest = record { some = some-rest r m (c .nested .0) h; nested = c .nested .1; whole = c .nested .0; filled = p; inside = b };
+        rest = record { nested = c .nested .1; whole = c .nested .0; filled = p; inside = b };
         less = omega arith;
-        word = w;
+        place = w;
       }
 
-  pub turn-words : {W : Type 0} (z : W) (old : List W) (digits : List ℕ) (i size inner stride : ℕ) → Turn digits words at room i size inner stride
-      → copied z (drop 3 digits) inner (at + i * stride) old ≡ tab inner (λ o. getD old (at + offset digits (i * inner + o)) z)
-  unfolding copied
-  turn-words z old digits i size inner stride c =
-      tab-cong inner (λ o. getD old (at + i * stride + offset (drop 3 digits) o) z) (λ o. getD old (at + offset digits (i * inner + o)) z)
-      (λ o g. rw (c .word o g, add-assoc at (i * stride) (offset (drop 3 digits) o)))
+  -- the places of the turn, whatever stands there
+  pub turn-places : {A : Type 0} (f : ℕ → A) (digits : List ℕ) (i size inner stride : ℕ) → Turn digits words at room i size inner stride
+      → tab inner (λ o. f (at + i * stride + offset (drop 3 digits) o)) ≡ tab inner (λ o. f (at + offset digits (i * inner + o)))
+  turn-places f digits i size inner stride c =
+      tab-cong inner (λ o. f (at + i * stride + offset (drop 3 digits) o)) (λ o. f (at + offset digits (i * inner + o)))
+      (λ o g. rw (c .place o g, add-assoc at (i * stride) (offset (drop 3 digits) o)))
+
+  pub two-digits : (digits : List ℕ) → Copy digits words at room → getD digits 1 0 ≢ 1 → 6 ≤ length digits
+  two-digits [] c h = omega (arith, c .some)
+  two-digits (s ∷ []) c h = absurd (c .counts .nested)
+  two-digits (s ∷ m ∷ []) c h = absurd (c .counts .nested)
+  two-digits (s ∷ m ∷ z ∷ []) c h = absurd (h (c .counts .nested .0))
+  two-digits (s ∷ m ∷ z ∷ a ∷ []) c h = absurd (c .counts .nested .1)
+  two-digits (s ∷ m ∷ z ∷ a ∷ b ∷ []) c h = absurd (c .counts .nested .1)
+  two-digits (s ∷ m ∷ z ∷ a ∷ b ∷ d ∷ r) c h = omega arith
 
   -- the last digit alone, and the last two, as the code's leaves have them
   pub row-in : (digits : List ℕ) → Copy digits words at room → getD digits 1 0 ≡ 1 → Row words (getD digits 2 0) at room
   row-in digits c e = record {
-    filled = c .filled;
-    inside = λ t l. rw (← last-offset digits t (one-digit digits (c .some) (c .nested)) e) (c .inside t l);
+    filled = c .counts .filled;
+    inside = λ t l. rw (← last-offset digits t (one-digit digits (c .some) (c .counts .nested)) e) (c .counts .inside t l);
   }
 
   pub row-is : {W : Type 0} (z : W) (old : List W) (digits : List ℕ) → Copy digits words at room → getD digits 1 0 ≡ 1
@@ -168,7 +162,7 @@ module _ {words at room : ℕ} where
   unfolding row copied
   row-is z old digits c e =
       tab-cong words (λ t. getD old (at + t * getD digits 2 0) z) (λ t. getD old (at + offset digits t) z)
-      (λ t l. rw (last-offset digits t (one-digit digits (c .some) (c .nested)) e))
+      (λ t l. rw (last-offset digits t (one-digit digits (c .some) (c .counts .nested)) e))
 
   pub rows-in : (digits : List ℕ) → Copy digits words at room → getD digits 1 0 ≢ 1 → getD digits 4 0 ≡ 1
       → Rows words (getD digits 0 0) (getD digits 1 0) (getD digits 2 0) (getD digits 5 0) at room
@@ -176,12 +170,12 @@ module _ {words at room : ℕ} where
       let n : ℕ = getD digits 0 0 in
       let m : ℕ = getD digits 1 0 in
       record {
-        filled = pos-right n m (rw (words-are digits c) at (c .filled));
-        whole = words-are digits c;
+        filled = pos-right n m (rw (words-are digits (c .some) (c .counts)) at (c .counts .filled));
+        whole = words-are digits (c .some) (c .counts);
         inside = λ i t li lt.
             let w : offset digits (i * m + t) ≡ i * getD digits 2 0 + t * getD digits 5 0 =
             rows-offset digits (i * m + t) (two-digits digits c h) e ∙ rw (digits-div i lt, digits-mod i lt) in
-            omega (arith, c .inside (i * m + t) (omega (arith, turn digits i c h li .part)));
+            omega (arith, c .counts .inside (i * m + t) (omega (arith, turn digits i (c .some) (c .counts) li .part)));
       }
 
   pub rows-are : {W : Type 0} (z : W) (old : List W) (digits : List ℕ) → Copy digits words at room → getD digits 1 0 ≢ 1 → getD digits 4 0 ≡ 1

@@ -2,10 +2,10 @@
 -- inner is the number of words that the digits after it count; one step of the digit goes a stride further in the words that are copied. Word t of
 -- the copy is at `offset digits t` there. Other digits can copy the same words (`Alike`): fewer of them, with longer runs. Knows nothing of meshes.
 -- Assumes nothing.
-use Prim.Native.Nat.{ℕ, _+_, _*_, _-_, _/_, _%_, _^_, _≤_, _<_}
+use Prim.Native.Nat.{ℕ, _+_, _*_, _/_, _%_, _^_, _≤_, _<_}
 use mathlib.Core.Path.{_≡_}
 use mathlib.Core.List.{List, [], _∷_}
-use lib.ListN.{length, getD, take, drop}
+use lib.ListN.{length, getD}
 use Rattle.rules.specs.Lists.{tab}
 
 -- the words that the digits count
@@ -40,13 +40,17 @@ pub record Rows (words count len apart stride at room : ℕ) : Type 0 where
   pub whole : words ≡ count * len
   pub inside : (i t : ℕ) → i < count → t < len → at + i * apart + t * stride < room
 
--- of any number of them.
-pub record Copy (digits : List ℕ) (words at room : ℕ) : Type 0 where
-  pub some : 0 < length digits
+-- of any number of them;
+pub record Counts (digits : List ℕ) (words at room : ℕ) : Type 0 where
   pub nested : Nested digits
   pub whole : words ≡ counted digits
   pub filled : 0 < words
   pub inside : (t : ℕ) → t < words → at + offset digits t < room
+
+-- of a copy, which has a digit.
+pub record Copy (digits : List ℕ) (words at room : ℕ) : Type 0 where
+  pub some : 0 < length digits
+  pub counts : Counts digits words at room
 
 -- The words that the code leaves; z is read outside the words, which no copy does.
 unfoldable pub row : {W : Type 0} → W → ℕ → ℕ → ℕ → List W → List W

@@ -25,7 +25,7 @@ use native.Mathlib.Omega.{arith}
 use lib.ListN.{length, getD, set}
 use lib.Seq.{set-comm, getD-set-other}
 use Rattle.rules.specs.Lists.{tab, product, In, Distinct, Below}
-use Rattle.rules.specs.Mesh.{number, coords, devices, span, position, member, members, remaining, IsGroup}
+use Rattle.rules.specs.Mesh.{number, coords, span, position, member, members, remaining, IsGroup}
 use Rattle.rules.specs.Spread.{tabulate, held}
 use Rattle.rules.specs.Collectives.{Place, made, reducePlaces, word}
 use Rattle.rules.proofs.Lists.{length-tab, getD-tab, tab-cong, map-tab}
@@ -33,7 +33,7 @@ use Rattle.rules.proofs.Positions.{div-lt, pos-of-lt, span-append, below-member
 use Rattle.rules.proofs.Buffers.{number-lt, coords-number, below-coords, number-coords}
 use Rattle.rules.proofs.Groups.{group-by-position, span-remaining}
 use Rattle.rules.proofs.Fronts.{part-in}
-use Rattle.strided.specs.Strided.{offset}
+use Rattle.strided.specs.Strided.{offset, mostPlaces, Counts}
 use Rattle.digits.specs.Digits.{mostRoom, meshStrides, dot, cleared, axisDigits, meshDigits, HasStrides}
 use Rattle.digits.proofs.Strides.{
   memberPart,
@@ -50,7 +50,7 @@ use Rattle.digits.proofs.Strides.{
   nested-mesh,
 }
 use Rattle.mesh.proofs.Sizes.{group-pos}
-use Rattle.sums.specs.Sums.{groupWord, reducedWord, firstWords, shiftWords, Offsets, Groups, Shifting, Firsts, Tables}
+use Rattle.sums.specs.Sums.{groupWord, reducedWord, firstWords, shiftWords, Groups, Shifting, Firsts, Tables}
 
 -- ---- cleared strides
 
@@ -327,20 +327,20 @@ group-few mesh L some once of-mesh =
 
 -- ---- what the listing of places is asked, and what it leaves
 
-pub mesh-offsets : {firsts strides mesh : List ℕ} → Firsts firsts strides mesh → Offsets (meshDigits mesh strides []) (length firsts) 0
+pub mesh-offsets : {firsts strides mesh : List ℕ} → Firsts firsts strides mesh → Counts (meshDigits mesh strides []) (length firsts) 0 mostPlaces
 mesh-offsets {firsts} {strides} {mesh} p = record {
   nested = nested-mesh mesh strides [] tt;
   whole = p .room ∙ sym (counted-mesh mesh strides [] (p .has .places) ∙ mul-one (product mesh));
   filled = rw (p .room) (p .has .on .devices-pos);
-  few = λ t l. omega (arith, p .few t (subst (λ n. t < n) (p .room) l));
+  inside = λ t l. omega (arith, p .few t (subst (λ n. t < n) (p .room) l));
 }
 
-pub axes-offsets : {shifts strides mesh L : List ℕ} → Shifting shifts strides mesh L → Offsets (axisDigits mesh L strides []) (span mesh L) 0
+pub axes-offsets : {shifts strides mesh L : List ℕ} → Shifting shifts strides mesh L → Counts (axisDigits mesh L strides []) (span mesh L) 0 mostPlaces
 axes-offsets {strides} {mesh} {L} p = record {
   nested = nested-axes mesh L strides [] tt;
   whole = sym (counted-axes mesh L strides [] ∙ mul-one (span mesh L));
   filled = group-pos mesh L (p .has .on .devices-pos);
-  few = λ t l. omega (arith, p .few t l);
+  inside = λ t l. omega (arith, p .few t l);
 }
 
 pub from-zero : (n : ℕ) (digits : List ℕ) → tab n (λ t. 0 + offset digits t) ≡ tab n (offset digits)

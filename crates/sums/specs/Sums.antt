@@ -12,7 +12,7 @@ use Rattle.rules.specs.Mesh.{devices, span, OnMesh}
 use Rattle.rules.specs.Spread.{tabulate, held}
 use Rattle.rules.specs.Collectives.{made, reducePlaces}
 use Rattle.rules.specs.Limits.{mostAxes, mostDevices, mostWords}
-use Rattle.strided.specs.Strided.{counted, offset, Nested}
+use Rattle.strided.specs.Strided.{offset}
 use Rattle.digits.specs.Digits.{mostRoom, meshStrides, cleared, axisDigits, meshDigits, HasStrides}
 
 -- the words with g 0, g 1, .., g (m - 1) written from `at` on
@@ -54,13 +54,6 @@ abbrev pub axisRoom : ℕ
 axisRoom = 3 * mostAxes
 
 -- ---- what the code asks
-
--- digits that count n places, from `at` on
-pub record Offsets (digits : List ℕ) (n at : ℕ) : Type 0 where
-  pub nested : Nested digits
-  pub whole : n ≡ counted digits
-  pub filled : 0 < n
-  pub few : (t : ℕ) → t < n → at + offset digits t ≤ mostRoom
 
 -- two shards of m words within the words: the one at a lies behind the one at `at`
 pub record Behind (at a m words : ℕ) : Type 0 where

@@ -14,10 +14,10 @@ ghost use Rattle.rules.specs.Lists.{tab, product};
 ghost use Rattle.rules.specs.Mesh.{span};
 ghost use Rattle.rules.specs.Spread.{addWords};
 ghost use Rattle.rules.specs.Types.{axesOf};
-ghost use Rattle.strided.specs.Strided.{offset};
+ghost use Rattle.strided.specs.Strided.{offset, mostPlaces, Counts};
 ghost use Rattle.digits.specs.Digits.{cleared, axisDigits, meshDigits};
 ghost use Rattle.sums.specs.Sums.{written, partWord, groupWord, reducedWord, reducedBuffer, firstWords, shiftWords};
-ghost use Rattle.sums.specs.Sums.{Offsets, Behind, Group, Shared, Groups, Shifting, Firsts, Tables, Reducing};
+ghost use Rattle.sums.specs.Sums.{Behind, Group, Shared, Groups, Shifting, Firsts, Tables, Reducing};
 
 // The numbers of the digits of a group's axes, or of all devices.
 const ROOM: usize = 3 * rules::Axis::MOST;
@@ -165,7 +165,7 @@ fn reduce_groups(words: &mut [u32], firsts: &[usize], shifts: &[usize], m: usize
 
 // The places that the digits count, from at on.
 fn list_offsets(to: &mut [usize], digits: &[usize], at: usize)
-    requires { ⌜ Offsets (now digits) (length (now to)) at ⌝ }
+    requires { ⌜ Counts (now digits) (length (now to)) at mostPlaces ⌝ }
     ensures { λ _. ⌜ now (to .exit) ≡ tab (length (now (to .entry))) (λ t. at + offset (now (digits .entry)) t) ⌝ }
 {
     if digits.len() == 0 {

@@ -2,13 +2,13 @@ use native.Mathlib.Omega.{arith}
 use native.Mathlib.Nat.{zero-mul}
 use Prim.Native.Nat.{ℕ, _≤_, _<_, _*_, _-_, _+_}
 use mathlib.Core.Path.{_≡_, _∙_}
-use lib.ListN.{length, getD, take, drop}
+use lib.ListN.{length, getD, take, drop, length-drop}
 use denote.Ref.{now}
 use borrow.Fn.Kinds.{In}
 use borrow.Fn.PlainCycle.{Measures, is, falls, and}
 use Rattle.rules.proofs.Fronts.{Filled, fill-start, fill-part, fill-end, part-length, next-part, tail-all}
 use Rattle.strided.specs.Strided.{Copy, offset, copied}
-use Rattle.strided.proofs.Laws.{Turn, one-digit, two-digits, words-are, turn, turn-words, row-in, row-is, rows-in, rows-are}
+use Rattle.strided.proofs.Laws.{Turn, one-digit, two-digits, words-are, turn, turn-places, row-in, row-is, rows-in, rows-are}
 use Rattle.strided.proofs.copy_strided.Reads as reads
 use Rattle.strided.proofs.copy_strided.Kinds as kinds
 use Rattle.strided.proofs.+copy_strided.Lts-copy_strided as lts
@@ -47,7 +47,7 @@ copies : (t : ℕ) (s : Start t) → Copy (now (s .args .digits)) (length (now (
 copies t s = s .pre .1
 
 long : (t : ℕ) (s : Start t) → 3 ≤ length (now (s .args .digits))
-long t s = one-digit (now (s .args .digits)) (s .pre .1 .some) (s .pre .1 .nested)
+long t s = one-digit (now (s .args .digits)) (s .pre .1 .some) (s .pre .1 .counts .nested)
 
 turning : (t : ℕ) (c : lts.In-loop (calls t) (asked t) reads.Post Inv-loop μ-loop)
     → (let s = c .before .before .before .before .before .before .before .before .before .before .before in
@@ -55,7 +55,7 @@ turning : (t : ℕ) (c : lts.In-loop (calls t) (asked t) reads.Post Inv-loop μ-
     Turn d (length (now (s .args .to))) (s .args .at) (length (now (s .args .from))) (c .before .loop .i) (getD d 0 0) (getD d 1 0) (getD d 2 0))
 turning t c =
     let s = c .before .before .before .before .before .before .before .before .before .before .before in
-    turn (now (s .args .digits)) (c .before .loop .i) (s .pre .1) (c .before .before .before .before .if1 .left) (c .loop-test .taken)
+    turn (now (s .args .digits)) (c .before .loop .i) (s .pre .1 .some) (s .pre .1 .counts) (c .loop-test .taken)
 
 -- the digits after the first, as they are lent
 rest-is : (t : ℕ) (s : Start t) → (let d = now (s .args .digits) in take (length d - 3) (drop 3 d) ≡ drop 3 d)
@@ -103,9 +103,11 @@ unfolding copied
     let s = x .before .before .before .before .before .before .before .before .before .before .before in
     let u = turning t x in
     let d = now (s .args .digits) in
-    let m = getD d 1 0 in (
+    let m = getD d 1 0 in
+    let n = two-digits d (copies t s) (x .before .before .before .before .if1 .left) in (
       rw (rest-is t s, ← s .pre .0) (u .less),
-      rw (rest-is t s, part-length (x .before .loop .to) (x .before .loop .i * m) m (omega (arith, u .part, x .before .loop .inv .1 .size))) (u .rest),
+      rw (rest-is t s, part-length (x .before .loop .to) (x .before .loop .i * m) m (omega (arith, u .part, x .before .loop .inv .1 .size)))
+          (record { some = omega (arith, length-drop 3 d); counts = u .rest }),
     ))
     (λ c. let u = turning t (c .before .before .before .before .before) in omega arith)
     (λ c. omega arith)
@@ -120,11 +122,11 @@ unfolding copied
     let r = c .before .before .copy-strided in (
       omega (arith, x .loop-test .taken),
       rw (next-part (l .loop .i) m) (fill-part m (l .loop .inv .1) (u .part) (r .kept .0)
-          (rw (k, rest-is t s) at (r .ensures) ∙ turn-words 0 (now (s .args .from)) d (l .loop .i) (getD d 0 0) m (getD d 2 0) u)),
+          (rw (k, rest-is t s) at (r .ensures) ∙ turn-places (λ k. getD (now (s .args .from)) k 0) d (l .loop .i) (getD d 0 0) m (getD d 2 0) u)),
     ))
     (λ c. c .before .loop .inv .1 .size)
     (λ c. let l = c .before in
     let s = c .before .before .before .before .before .before .before .before .before .before .before in
     let d = now (s .args .digits) in
     let e : l .loop .i ≡ getD d 0 0 = omega (arith, c .loop-test .left) in
-    fill-end (l .loop .inv .1) (rw e (omega (arith, words-are d (copies t s)))))
+    fill-end (l .loop .inv .1) (rw e (omega (arith, words-are d (s .pre .1 .some) (s .pre .1 .counts)))))

@@ -7,9 +7,9 @@ use denote.Ref.{now}
 use borrow.Fn.Kinds.{In}
 use borrow.Fn.PlainCycle.{Measures, is, falls, and}
 use Rattle.rules.proofs.Fronts.{Filled, fill-start, fill-part, fill-end, part-length, next-part, tail-all}
-use Rattle.strided.specs.Strided.{offset}
-use Rattle.strided.proofs.Laws.{one-digit}
-use Rattle.sums.proofs.Listing.{Turn, no-digits, places-are, turn, turn-places, one-place}
+use Rattle.strided.specs.Strided.{mostPlaces, offset}
+use Rattle.strided.proofs.Laws.{Turn, one-digit, words-are, turn, turn-places}
+use Rattle.sums.proofs.Listing.{no-digits, one-place}
 use Rattle.sums.proofs.list_offsets.Reads as reads
 use Rattle.sums.proofs.list_offsets.Kinds as kinds
 use Rattle.sums.proofs.+list_offsets.Lts-list_offsets as lts
@@ -41,10 +41,10 @@ long t s h = one-digit (now (s .args .digits)) (omega (arith, h)) (s .pre .1 .ne
 turning : (t : ℕ) (c : lts.In-loop (calls t) (asked t) reads.Post Inv-loop μ-loop)
     → (let s = c .before .before .before .before .before .before .before .before in
     let digits = now (s .args .digits) in
-    Turn digits (length (now (s .args .to))) (s .args .at) (c .before .loop .i) (getD digits 0 0) (getD digits 1 0) (getD digits 2 0))
+    Turn digits (length (now (s .args .to))) (s .args .at) mostPlaces (c .before .loop .i) (getD digits 0 0) (getD digits 1 0) (getD digits 2 0))
 turning t c =
     let s = c .before .before .before .before .before .before .before .before in
-    turn (now (s .args .digits)) (c .before .loop .i) (s .pre .1) (c .before .before .before .before .before .if1 .left) (c .loop-test .taken)
+    turn (now (s .args .digits)) (c .before .loop .i) (omega (arith, c .before .before .before .before .before .if1 .left)) (s .pre .1) (c .loop-test .taken)
 
 -- the digits after the first, as they are lent
 rest-is : (t : ℕ) (s : Start t) → (let digits = now (s .args .digits) in take (length digits - 3) (drop 3 digits) ≡ drop 3 digits)
@@ -107,11 +107,11 @@ pub +list-offsets-spec : {M : Type 1} → statement M
     let r = c .before .before .list-offsets in (
       omega (arith, x .loop-test .taken),
       rw (next-part (l .loop .i) m) (fill-part m (l .loop .inv .1) (u .part) (r .kept .0)
-          (rw (k, rest-is t s) at (r .ensures) ∙ turn-places digits (l .loop .i) (getD digits 0 0) m (getD digits 2 0) u)),
+          (rw (k, rest-is t s) at (r .ensures) ∙ turn-places (λ k. k) digits (l .loop .i) (getD digits 0 0) m (getD digits 2 0) u)),
     ))
     (λ c. c .before .loop .inv .1 .size)
     (λ c. let l = c .before in
     let s = c .before .before .before .before .before .before .before .before in
     let digits = now (s .args .digits) in
     let e : l .loop .i ≡ getD digits 0 0 = omega (arith, c .loop-test .left) in
-    fill-end (l .loop .inv .1) (rw e (omega (arith, places-are digits (s .pre .1) (c .before .before .before .before .before .if1 .left)))))
+    fill-end (l .loop .inv .1) (rw e (omega (arith, words-are digits (omega (arith, c .before .before .before .before .before .if1 .left)) (s .pre .1)))))
