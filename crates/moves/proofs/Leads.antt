@@ -13,7 +13,7 @@ use Rattle.rules.specs.Sharding.{shardSizes, firstIndexes}
 use Rattle.rules.specs.Spread.{from, tabulate, held}
 use Rattle.rules.specs.Collectives.{grown, owner, within, moved}
 use Rattle.rules.proofs.Lists.{distinct-split, tab-cong}
-use Rattle.rules.proofs.Positions.{div-lt, position-lt, length-member}
+use Rattle.rules.proofs.Positions.{pos-of-lt, div-lt, position-lt, length-member}
 use Rattle.rules.proofs.Shapes.{Cut, cut, uncut, below-owner, owner-member}
 use Rattle.rules.proofs.Buffers.{number-lt, below-coords}
 use Rattle.strided.specs.Strided.{counted, offset, Nested, Copy, copied}
@@ -21,7 +21,6 @@ use Rattle.digits.specs.Digits.{meshStrides, dot, push, cleared, axisDigits}
 use Rattle.mesh.proofs.Sizes.{mod-div, mod-mod-right}
 use Rattle.digits.proofs.Strides.{
   pos-left,
-  pos-right,
   div-mul,
   strides-length,
   coords-length,
@@ -126,8 +125,8 @@ offset-dims mesh (n ∷ ns) (w ∷ ws) (G ∷ Gs) strides o x h g k p q d =
     let rest : List ℕ = coords (grown mesh Gs ws) (o % R) in
     let s : Distinct G × Distinct (flat Gs) × ((a : ℕ) → In a G → ¬ In a (flat Gs)) = distinct-split G (flat Gs) d in
     let tr : counted r ≡ R = counted-dims mesh ns ws Gs strides (omega arith) (omega arith) in
-    let pr : 0 < R = pos-right (e * w) R p in
-    let pw : 0 < w = pos-right e w (pos-left (e * w) R p) in
+    let pr : 0 < R = pos-of-lt (e * w) R p in
+    let pw : 0 < w = pos-of-lt e w (pos-left (e * w) R p) in
     let pe : 0 < e = pos-left e w (pos-left (e * w) R p) in
     let ih : dot strides (owner mesh Gs ws rest y) + number ns (within ws rest) ≡ dot (left Gs strides) y + offset r (o % R) =
     offset-dims mesh ns ws Gs strides (o % R) y (omega arith) (omega arith) (length-member mesh G (i / w) x ∙ k) pr (mod-lt o pr) (s .1) in
@@ -191,10 +190,10 @@ index-below mesh (n ∷ ns) [] (S ∷ Ss) some bx g s b p = absurd (omega arith)
 index-below mesh (n ∷ ns) (G ∷ Gs) (S ∷ Ss) {x} some bx g s (more {x = t} l b) p =
     let w : ℕ = n / span mesh S in
     let R : ℕ = product (grown mesh Gs (shardSizes mesh ns Ss)) in
-    let pw : 0 < w = pos-right (span mesh G) w (pos-left (span mesh G * w) R p) in
+    let pw : 0 < w = pos-of-lt (span mesh G) w (pos-left (span mesh G * w) R p) in
     let u : position mesh S x * w + t % w < span mesh S * w = digits-lt (position-lt mesh S bx) (mod-lt t pw) in
     let inside : position mesh S x * w + t % w < n = omega (arith, u, mul-comm (span mesh S) w, div-mul-le-self n (span mesh S)) in
-    more inside (index-below mesh ns Gs Ss some bx (omega arith) (omega arith) b (pos-right (span mesh G * w) R p))
+    more inside (index-below mesh ns Gs Ss some bx (omega arith) (omega arith) b (pos-of-lt (span mesh G * w) R p))
 
 -- ---- a whole step
 

@@ -9,11 +9,12 @@ use lib.ListN.{length, getD, set, drop, replicate, length-replicate}
 use Rattle.rules.specs.Lists.{flat, product}
 use Rattle.rules.specs.Spread.{from}
 use Rattle.rules.proofs.Lists.{few-distinct}
+use Rattle.rules.proofs.Positions.{pos-of-lt}
 use Rattle.strided.specs.Strided.{counted, Copy, copied}
 use Rattle.mesh.specs.Fitting.{Factors}
 use Rattle.mesh.proofs.Sizes.{fit-sizes}
 use Rattle.digits.specs.Digits.{mostRoom, meshStrides, cleared, meshDigits, HasStrides, Devices}
-use Rattle.digits.proofs.Strides.{pos-left, pos-right, strides-length}
+use Rattle.digits.proofs.Strides.{pos-left, strides-length}
 use Rattle.rules.specs.Collectives.{moved}
 use Rattle.moves.specs.Moves.{left, deviceStrides, stepDigits, Adding, Dimensions, DimensionsAt, Setting}
 use Rattle.moves.proofs.Leads.{Step, shard-length, counted-dims, left-length, device-length, copy-ok, copied-is}
@@ -42,7 +43,7 @@ strides-le (s ∷ ss) m zero h =
     mul-le-mul-right {m = product ss} {n = s * product ss} m p
 strides-le (s ∷ ss) m (suc k) h =
     let p : product ss ≤ s * product ss = rw (mul-comm s (product ss)) (le-mul-of-pos-right (product ss) (pos-left s (product ss) h)) in
-    omega (arith, strides-le ss m k (pos-right s (product ss) h), mul-le-mul-right {m = product ss} {n = s * product ss} m p)
+    omega (arith, strides-le ss m k (pos-of-lt s (product ss) h), mul-le-mul-right {m = product ss} {n = s * product ss} m p)
 
 zeros-at : (n k : ℕ) → getD {A = ℕ} (replicate n 0) k 0 ≡ 0
 zeros-at zero k = refl

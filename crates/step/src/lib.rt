@@ -27,7 +27,7 @@ pub fn in_place(kind: Kind) -> bool
     }
 }
 
-// All-reduce in the buffer of the old state. The other buffer, lent as it is to every step, stays.
+// All-reduce, in the buffer of the old state. The other buffer is lent too, as to every step, and stays.
 fn reduce_here(here: &mut [u32], there: &mut [u32], mesh: &[u16], shape: &[u16], axes: AxisList)
     requires { ⌜ Reducing (now mesh) (now shape) (axesOf axes) (length (now here)) ⌝ }
     ensures { λ _. ⌜ now (here .exit) ≡ reducedBuffer addWords 0 (now (mesh .entry)) (now (shape .entry)) (axesOf axes) (now (here .entry)) ⌝ }

@@ -1,6 +1,6 @@
 -- Laws of digits: what one turn of a loop over the first one finds (`turn`, `turn-places`). Then of copies with strides: what one digit and two
 -- digits copy (`row-is`, `rows-are`), and that they find their words where the whole copy does (`row-in`, `rows-in`). Assumes nothing.
-use Prim.Native.Nat.{ℕ, zero, suc, _+_, _*_, _/_, _%_, _≤_, _<_, _-_}
+use Prim.Native.Nat.{ℕ, suc, _+_, _*_, _/_, _%_, _≤_, _<_, _-_}
 use mathlib.Core.Path.{_≡_, refl, ap, _∙_}
 use mathlib.Core.Logic.{_≢_}
 use mathlib.Core.List.{List, [], _∷_}
@@ -8,7 +8,6 @@ use native.Mathlib.Nat.{
   add-zero,
   add-assoc,
   zero-mul,
-  mul-zero,
   mul-one,
   one-mul,
   suc-mul,
@@ -24,6 +23,7 @@ use lib.ListN.{length, getD, take, drop}
 use lib.Arith.{digits-div, digits-mod}
 use Rattle.rules.specs.Lists.{tab}
 use Rattle.rules.proofs.Lists.{tab-cong}
+use Rattle.rules.proofs.Positions.{pos-of-lt}
 use Rattle.rules.proofs.Fronts.{part-tab}
 use Rattle.strided.specs.Strided.{offset, Nested, Row, Rows, Counts, Copy, row, rows, copied}
 
@@ -97,10 +97,6 @@ pub record Turn (digits : List ℕ) (words at room i size inner stride : ℕ) : 
   pub less : length (drop 3 digits) < length digits
   pub place : (o : ℕ) → o < inner → offset digits (i * inner + o) ≡ i * stride + offset (drop 3 digits) o
 
-pub pos-right : (a b : ℕ) → 0 < a * b → 0 < b
-pos-right a zero h = omega (arith, mul-zero a)
-pos-right a (suc b) h = omega arith
-
 pub one-digit : (digits : List ℕ) → 0 < length digits → Nested digits → 3 ≤ length digits
 one-digit [] h c = omega arith
 one-digit (s ∷ []) h c = absurd c
@@ -120,7 +116,7 @@ module _ {words at room : ℕ} where
   turn (s ∷ []) i h c l = absurd (c .nested)
   turn (s ∷ m ∷ []) i h c l = absurd (c .nested)
   turn (s ∷ m ∷ z ∷ r) i h c l =
-      let p : 0 < m = pos-right s m (rw (c .whole) at (c .filled)) in
+      let p : 0 < m = pos-of-lt s m (rw (c .whole) at (c .filled)) in
       let q : i * m + m ≤ words = rw (c .whole) (omega (arith, suc-mul i m, mul-le-mul-right {m = suc i} {n = s} m l)) in
       let w : (o : ℕ) → o < m → offset (s ∷ m ∷ z ∷ r) (i * m + o) ≡ i * z + offset r o = λ o g. rw (digits-div i g, digits-mod i g) in
       let b : (o : ℕ) → o < m → at + i * z + offset r o < room = λ o g.
@@ -170,7 +166,7 @@ module _ {words at room : ℕ} where
       let n : ℕ = getD digits 0 0 in
       let m : ℕ = getD digits 1 0 in
       record {
-        filled = pos-right n m (rw (words-are digits (c .some) (c .counts)) at (c .counts .filled));
+        filled = pos-of-lt n m (rw (words-are digits (c .some) (c .counts)) at (c .counts .filled));
         whole = words-are digits (c .some) (c .counts);
         inside = λ i t li lt.
             let w : offset digits (i * m + t) ≡ i * getD digits 2 0 + t * getD digits 5 0 =

@@ -1,10 +1,9 @@
 use native.Mathlib.Omega.{arith}
 use native.Mathlib.Nat.{zero-mul, le-mul-of-pos-right}
-use Prim.Native.Nat.{ℕ, _≤_, _<_, _*_, _-_, _+_, _/_, _%_}
-use mathlib.Core.Path.{_≡_, refl, sym, ap, _∙_, subst}
+use Prim.Native.Nat.{_≤_, _<_, _*_, _-_, _+_, _/_, _%_}
+use mathlib.Core.Path.{_≡_, _∙_}
 use lib.ListN.{length, getD}
 use denote.Ref.{now}
-use Rattle.rules.specs.Lists.{tab}
 use Rattle.rules.proofs.Fronts.{next-part, part-in}
 use Rattle.strided.specs.Strided.{rows}
 use Rattle.rules.proofs.Fronts.{Filled, fill-start, fill-part, fill-end, part-length}
