@@ -78,12 +78,12 @@ within file k d a e l =
     )
 
 pub placing : (file : List ℕ) (k d : ℕ) (r : code.State) {at : ℕ} → StateTells (stateAt file k) r → Shaped r → r .next ≡ next.At at
-    → d < r .devices → Placing (meshOf (r .mesh)) (r .sharding) (r .shard) d
+    → d < r .devices → Placing (meshOf (r .mesh)) (r .sharding .dims) (r .shard) d
 unfolding Within
 placing file k d r e s h l =
     let w = within file k d (stateAnswer r) (state-on file k r e h) (subst (λ (n : ℕ). d < n) (s .counted .devices-are) l) in
     let mesh = meshOf (r .mesh) in
-    let Few : ℕ → Type 0 = λ n. (j : ℕ) → position mesh (getD (take n (dimsOf (r .sharding))) j []) (deviceCoords mesh d) * getD (sizesOf (r .shard)) j 0 < mostWords in
+    let Few : ℕ → Type 0 = λ n. (j : ℕ) → position mesh (getD (take n (dimsOf (r .sharding .dims))) j []) (deviceCoords mesh d) * getD (sizesOf (r .shard)) j 0 < mostWords in
     record { device = w .0; rank = s .rank-few; few = subst Few (sym (s .rank-is)) (w .1) }
 
 -- ---- the placement of a device in a state
@@ -102,12 +102,12 @@ module _ (file : List ℕ) (k d : ℕ) (r : code.State) (e : StateTells (stateAt
       rank = r .shard .rank;
       sharding = shardingOf (r .shard .rank) (r .sharding);
       shard = sizesOf (r .shard);
-      first = firstIndexes (meshOf (r .mesh)) (take (r .shard .rank) (dimsOf (r .sharding))) (sizesOf (r .shard)) (deviceCoords (meshOf (r .mesh)) d);
+      first = firstIndexes (meshOf (r .mesh)) (take (r .shard .rank) (dimsOf (r .sharding .dims))) (sizesOf (r .shard)) (deviceCoords (meshOf (r .mesh)) d);
     })
     unfolding placeOf
     place-found l =
         let mesh = meshOf (r .mesh) in
-        let indexes : ℕ → List ℕ = λ n. firstIndexes mesh (take n (dimsOf (r .sharding))) (sizesOf (r .shard)) (deviceCoords mesh d) in
+        let indexes : ℕ → List ℕ = λ n. firstIndexes mesh (take n (dimsOf (r .sharding .dims))) (sizesOf (r .shard)) (deviceCoords mesh d) in
         let answer : placeOf file k d ≡ accept (record {
           rank = length (sizesOf (r .table));
           sharding = shardingOf (r .table .rank) (r .sharding);

@@ -5,12 +5,12 @@ use lib.ListN.{getD, take}
 use Rattle.rules.specs.Mesh.{position, deviceCoords}
 use Rattle.rules.specs.Limits.{mostDims, mostWords}
 use Rattle.rules.specs.Types.{dimsOf, sizesOf}
-use Rattle.rules.specs.declared.Sharding as code
+use Rattle.rules.specs.declared.DimLists.{DimLists}
 use Rattle.rules.specs.declared.Table.{Table}
 use Rattle.mesh.specs.Fitting.{IsPlace}
 
 -- a device of the mesh, and shard sizes whose blocks begin within the table
-pub record Placing (mesh : List ℕ) (sharding : code.Sharding) (shard : Table) (d : ℕ) : Type 0 where
+pub record Placing (mesh : List ℕ) (dims : DimLists) (shard : Table) (d : ℕ) : Type 0 where
   pub device : IsPlace mesh d
   pub rank : shard .rank ≤ mostDims
-  pub few : (j : ℕ) → position mesh (getD (take (shard .rank) (dimsOf sharding)) j []) (deviceCoords mesh d) * getD (sizesOf shard) j 0 < mostWords
+  pub few : (j : ℕ) → position mesh (getD (take (shard .rank) (dimsOf dims)) j []) (deviceCoords mesh d) * getD (sizesOf shard) j 0 < mostWords

@@ -20,11 +20,11 @@ use plan::state_after;
 use reader::Next;
 use rules::Device;
 use rules::Dim;
+use rules::DimLists;
 use rules::PlaceOutcome;
 use rules::Placed;
 use rules::Reason;
 use rules::Refusal;
-use rules::Sharding;
 use rules::Table;
 
 // "its first index there is block number times shard size"
@@ -37,16 +37,16 @@ fn first_index(block: usize, size: u16) -> u16
 }
 
 // The first indexes of a device.
-fn first_indexes(mesh: &[u16], sharding: Sharding, shard: Table, device: Device) -> Table
-    requires { ⌜ Placing (now mesh) sharding shard (device .0) ⌝ }
-    ensures { λ r. ⌜ (r .rank ≡ shard .rank) × (sizesOf r ≡ firstIndexes (now (mesh .entry)) (take (shard .rank) (dimsOf sharding))
+fn first_indexes(mesh: &[u16], dims: DimLists, shard: Table, device: Device) -> Table
+    requires { ⌜ Placing (now mesh) dims shard (device .0) ⌝ }
+    ensures { λ r. ⌜ (r .rank ≡ shard .rank) × (sizesOf r ≡ firstIndexes (now (mesh .entry)) (take (shard .rank) (dimsOf dims))
         (sizesOf shard) (deviceCoords (now (mesh .entry)) (device .0))) ⌝ }
 {
     let rank = shard.rank;
     let mut first = shard;
     let mut d: usize = 0;
     while d < rank {
-        let list = sharding.list(Dim(d as u8));
+        let list = dims.at(Dim(d as u8));
         let size = shard.sizes[d];
         first.sizes[d] = first_index(position_of(mesh, list, device.0 as usize), size);
         d += 1;
@@ -84,7 +84,7 @@ pub fn place(file: &[u8], state: u16, device: Device) -> Placed
     let mesh = found.mesh.sizes;
     let announced = found.sharding;
     let sizes = found.shard;
-    let indexes = first_indexes(&mesh[..n], announced, sizes, device);
+    let indexes = first_indexes(&mesh[..n], announced.dims, sizes, device);
     let sharding = lists_within(announced, sizes.rank);
     let shard = sizes_within(sizes);
     let first = sizes_within(indexes);

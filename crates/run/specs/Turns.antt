@@ -27,7 +27,7 @@ use Rattle.step.specs.Stepping.{Stepping, inPlace}
 
 -- the shard sizes of a sharding
 abbrev pub shapeOf : Mesh → Table → code.Sharding → List ℕ
-shapeOf mesh table s = shardSizes (meshOf mesh) (sizesOf table) (take (table .rank) (dimsOf s))
+shapeOf mesh table s = shardSizes (meshOf mesh) (sizesOf table) (take (table .rank) (dimsOf (s .dims)))
 
 -- step k, which is read at `at` and accepted of the sharding s, and what it asks of a buffer of `old` words with the state before it and of another one
 -- of `new` words

@@ -68,9 +68,9 @@ fn do_step(
     ensures { λ r. ⌜ Turned (now (file .entry)) at k mesh table sharding (now (here .entry)) (now (there .entry)) (now (here .exit)) (now (there .exit)) r ⌝ }
 {
     let taken = take_step(file, at, k, mesh, table, sharding);
-    let before = shard_of(table, sharding, mesh);
+    let before = shard_of(table, sharding.dims, mesh);
     let after = taken.sharding;
-    let size = words(shard_of(table, after, mesh));
+    let size = words(shard_of(table, after.dims, mesh));
     let n = mesh.n;
     let axes = mesh.sizes;
     let rank = before.rank;
@@ -166,7 +166,7 @@ fn last_words(whole: Whole) -> usize
     requires { ⌜ Bounded whole × (whole .devices * product (answerOf whole .shard) ≤ mostDevices * mostWords) ⌝ }
     ensures { λ r. ⌜ r ≡ whole .devices * product (answerOf whole .shard) ⌝ }
 {
-    let shard = shard_of(whole.table, whole.last, whole.mesh);
+    let shard = shard_of(whole.table, whole.last.dims, whole.mesh);
     whole.devices * words(shard)
 }
 

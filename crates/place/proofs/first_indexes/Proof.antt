@@ -14,12 +14,12 @@ use Rattle.place.proofs.first_indexes.Statement.{statement}
 use Rattle.place.proofs.first_indexes.Tie as tie
 
 abbrev Inv-loop : tie.InvT-loop
-Inv-loop mesh sharding device shard rank first₀ d₀ first d =
-    Making (λ (n : ℕ) (l : List ℕ). position mesh l (deviceCoords mesh (device .0)) * n) (sizesOf shard) (take rank (dimsOf sharding)) (first .sizes) rank d
+Inv-loop mesh dims device shard rank first₀ d₀ first d =
+    Making (λ (n : ℕ) (l : List ℕ). position mesh l (deviceCoords mesh (device .0)) * n) (sizesOf shard) (take rank (dimsOf dims)) (first .sizes) rank d
     × (first .rank ≡ shard .rank)
 
 abbrev μ-loop : tie.MeasureT-loop
-μ-loop mesh sharding device shard rank first₀ d₀ first d = rank - d
+μ-loop mesh dims device shard rank first₀ d₀ first d = rank - d
 
 pub first-indexes-spec : {M : Type 1} → statement M
 first-indexes-spec =
@@ -30,7 +30,7 @@ first-indexes-spec =
     (λ c. let a = c .before .args in
     let s = simp length-map at (c .before .good .1 .1 .0 .1 .1 .1 .0 .1 .0 .1) in (
       making _ _ _ _ (a .t3 .rank) (length-take-le (a .t3 .rank) (a .t3 .sizes) (omega (arith, s, c .before .pre .rank)))
-          (dims-length (a .sharding) (a .t3 .rank) (simp length-map at (c .before .good .1 .0 .1 .1 .0 .1 .0 .1)) (c .before .pre .rank))
+          (dims-length (a .dims) (a .t3 .rank) (simp length-map at (c .before .good .1 .0 .1 .1 .0 .1 .0 .1)) (c .before .pre .rank))
           (omega (arith, s, c .before .pre .rank)),
       refl,
     ))
@@ -45,7 +45,7 @@ first-indexes-spec =
     let d = c .before .before .before .before .before .loop .d in
     let h = c .before .before .before .before .loop-test .taken in
     let p = getD-take (a .t3 .rank) (a .t3 .sizes) d 0 h in
-    let q = list-at (a .sharding) (a .t3 .rank) d _ h (c .before .before .before .list .ensures) in
+    let q = list-at (a .dims) (a .t3 .rank) d _ h (c .before .before .before .at .ensures) in
     rw (c .position-of .ensures, q, ← p) (c6 .pre .few d))
     (λ c. search needs)
     (λ c. search needs)
@@ -58,7 +58,7 @@ first-indexes-spec =
     let i = c5 .loop .inv in
     let h = c4 .loop-test .taken in
     let p = sym (getD-take (a .t3 .rank) (a .t3 .sizes) (c5 .loop .d) 0 h) in
-    let q = list-at (a .sharding) (a .t3 .rank) (c5 .loop .d) _ h (c3 .list .ensures) in
+    let q = list-at (a .dims) (a .t3 .rank) (c5 .loop .d) _ h (c3 .at .ensures) in
     (makes (i .0) h _ 0 p _ [] q _ _ refl (rw (← (c .before .position-of .ensures)) (c .first-index .ensures)), i .1))
     (λ c. let i = c .before .loop .inv in
     (i .1, rw (i .1) (all-made (i .0) (c .loop-test .left)))))
