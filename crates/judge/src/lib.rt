@@ -109,11 +109,11 @@ fn gather_off(lists: DimLists, k: u16, sharding: Sharding, rank: usize) -> After
     if !tails(sharding.dims, lists, rank) {
         return refused_step(Reason::NotTail, k, sharding);
     }
-    let mut next = sharding;
-    next.dims = cut_tails(sharding.dims, lists, rank);
+    let mut cut = sharding;
+    cut.dims = cut_tails(sharding.dims, lists, rank);
     After {
         verdict: Verdict::Fine,
-        sharding: next,
+        sharding: cut,
     }
 }
 
@@ -127,11 +127,11 @@ fn slice_on(lists: DimLists, k: u16, sharding: Sharding, mesh: Mesh, table: Tabl
     if !divisible(shard, lists, mesh) {
         return refused_step(Reason::ShardNotDivisible, k, sharding);
     }
-    let mut next = sharding;
-    next.dims = join_lists(sharding.dims, lists, table.rank);
+    let mut joined = sharding;
+    joined.dims = join_lists(sharding.dims, lists, table.rank);
     After {
         verdict: Verdict::Fine,
-        sharding: next,
+        sharding: joined,
     }
 }
 
