@@ -148,11 +148,11 @@ impl HeaderRead {
     }
 }
 
-// Whether a count is from 1 to the most.
-fn in_limits(count: usize, most: usize) -> bool
-    ensures { λ r. ⌜ r ≡ leb 1 count && leb count most ⌝ }
+// Whether a number is from 1 to the most.
+fn in_limits(number: usize, most: usize) -> bool
+    ensures { λ r. ⌜ r ≡ leb 1 number && leb number most ⌝ }
 {
-    1 <= count && count <= most
+    1 <= number && number <= most
 }
 
 // The numbers of a header, none of them judged.
@@ -336,13 +336,12 @@ pub fn read_shape(file: &[u8], header: Header) -> Shape
     let Next::At(end) = last else {
         return Shape::refused(last.refusal());
     };
-    let devices = first.product;
     let sizes = first.sizes;
     let tensor = second.sizes;
     let table = table_of(rank, tensor);
     Shape {
         next: Next::At(end),
-        devices,
+        devices: first.product,
         mesh: Mesh { n, sizes },
         table,
     }

@@ -1,15 +1,33 @@
 use borrow.Author.Needs.{needs}
-use mathlib.Core.Path.{sym, ap, _∙_}
+use mathlib.Core.Path.{_≡_, sym, ap, _∙_}
 use native.Mathlib.Omega.{arith}
 use lib.Dec.{lit≤}
-use lib.ListN.{length}
+use lib.ListN.{length, take}
+use denote.Ref.{now}
+use Rattle.rules.specs.Limits.{mostDevices, mostWords}
+use Rattle.rules.specs.Refusals.{accept}
+use Rattle.rules.specs.PlanFile.{sizesAt}
 use Rattle.rules.proofs.Accepted.{section-facts, mesh-and-table-facts}
-use Rattle.rules.specs.Limits.{mostDevices}
 use Rattle.reader.proofs.Answers.{read-on, read-stopped}
 use Rattle.reader.proofs.Heading.{headed}
 use Rattle.reader.proofs.Shaping.{no-counted, mesh-stops, tensor-stops, shape-is}
 use Rattle.reader.proofs.read_shape.Statement.{statement}
 use Rattle.reader.proofs.read_shape.Tie as tie
+
+-- the sizes of the mesh, and those of the table
+mesh-is : (c : tie.After-next)
+    → let a = c .before .before .before .before .args in
+    let sizes = take (a .header .axes) (c .before .before .read-sizes .result .sizes) in
+    sizesAt mostDevices 10 11 (a .header .axes) (a .header .«mesh_at») (now (a .file)) 18 ≡ accept (record { value = sizes; next = c .next .given .0 .0 })
+mesh-is c = read-on _ (c .before .before .read-sizes .ensures .0 .reads) (c .next .given .1)
+
+table-is : (c : tie.After-last)
+    → let m = c .before .before .before .before in
+    let a = m .before .before .before .before .args in
+    let sizes = take (a .header .rank) (c .before .before .read-sizes2 .result .sizes) in
+    sizesAt mostWords 12 13 (a .header .rank) (a .header .«table_at») (now (a .file)) (m .next .given .0 .0)
+    ≡ accept (record { value = sizes; next = c .last .given .0 .0 })
+table-is c = read-on _ (c .before .before .read-sizes2 .ensures .0 .reads) (c .last .given .1)
 
 enum-told : tie.Need-enum-told
 enum-told c = search needs
@@ -28,32 +46,26 @@ read-shape-spec =
     let h = headed _ _ (p .before .before .pre) in
     let stop = read-stopped _ (p .read-sizes .ensures .0 .reads) (c .before .before .enum-told .given .1) (c .before .refusal .ensures) in
     (c .refused .ensures .0 ∙ sym (mesh-stops _ _ _ (h .mesh-at) stop), no-counted (c .refused .ensures .1)))
-    (λ c κs. let p = c .before .before .before in
-    let h = headed _ _ (p .before .before .pre) in
-    let m = read-on _ (p .read-sizes .ensures .0 .reads) (c .before .next .given .1) in
-    let f = section-facts mostDevices 10 11 _ _ _ 18 _ (lit≤ tt) m in
+    (λ c κs. let h = headed _ _ (c .before .before .before .before .before .pre) in
+    let f = section-facts mostDevices 10 11 _ _ _ 18 _ (lit≤ tt) (mesh-is (c .before)) in
     (omega (arith, f .inside), omega (arith, h .facts .rank-few, h .rank-is), lit≤ tt))
     (λ c. search needs)
     (λ c. search needs)
     (λ c κs. search needs)
     (λ c κs. search needs)
     (λ c. let p = c .before .before .before .before in
-    let q = p .before .before .before .before in
-    let h = headed _ _ (q .before .before .pre) in
-    let m = read-on _ (q .read-sizes .ensures .0 .reads) (p .before .before .next .given .1) in
+    let m = p .before .before in
+    let h = headed _ _ (m .before .before .before .before .pre) in
     let stop = read-stopped _ (p .read-sizes2 .ensures .0 .reads) (c .before .before .enum-told2 .given .1) (c .before .refusal2 .ensures) in
-    (c .refused2 .ensures .0 ∙ sym (tensor-stops _ _ _ (h .mesh-at) m (h .table-at) stop), no-counted (c .refused2 .ensures .1)))
+    (c .refused2 .ensures .0 ∙ sym (tensor-stops _ _ _ (h .mesh-at) (mesh-is m) (h .table-at) stop), no-counted (c .refused2 .ensures .1)))
     (λ c κs. let h = headed _ _ (c .before .before .before .before .before .before .before .before .before .before .before .pre) in
     omega (arith, h .facts .rank-few, h .rank-is))
-    (λ c. let l = c .before .before .before .before in
-    let p = l .before .before in
-    let q = p .before .before .before .before in
-    let h = headed _ _ (q .before .before .pre) in
-    let m = read-on _ (q .read-sizes .ensures .0 .reads) (p .before .before .next .given .1) in
-    let t = read-on _ (p .read-sizes2 .ensures .0 .reads) (l .last .given .1) in
-    let is = shape-is _ _ _ (h .mesh-at) m (h .table-at) t in
+    (λ c. let t = c .before .before .before .before in
+    let m = t .before .before .before .before in
+    let h = headed _ _ (m .before .before .before .before .pre) in
+    let is = shape-is _ _ _ (h .mesh-at) (mesh-is m) (h .table-at) (table-is t) in
     let table = c .table-of .ensures in
     let f = mesh-and-table-facts _ _ _ _ is in (
       rw (table .1) (sym is),
-      record { devices-are = q .read-sizes .ensures .1; n-is = sym (f .axes-many); rank-is = table .0 ∙ sym (ap length (table .1) ∙ f .rank-many) },
+      record { devices-are = m .before .before .read-sizes .ensures .1; n-is = sym (f .axes-many); rank-is = table .0 ∙ sym (ap length (table .1) ∙ f .rank-many) },
     )))
