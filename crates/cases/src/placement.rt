@@ -1,5 +1,5 @@
 // Call 2, the placement: a plan file, and the state and the device in two bytes each. Prints `no NUMBER STEP`, or
-// `ok lists DIMS UNREDUCED sizes SHARD first INDEXES`.
+// `ok lists DIMS UNREDUCED sizes SHARD first INDEXES`, the replicated axes after the unreduced ones where there are any.
 use super::input::next_number;
 use super::input::read_file;
 use super::printing::print_list;
@@ -7,19 +7,28 @@ use super::printing::print_lists;
 use super::printing::print_sizes;
 use super::printing::print_text;
 use answer::print_refusal;
+use ishkrela::AxisList;
 use ishkrela::Device;
 use ishkrela::PlaceOutcome;
 use ishkrela::Placed;
 use ishkrela::place;
+
+fn print_replicated(list: AxisList) {
+    if list.len() != 0 {
+        print_text(b" ");
+        print_list(list);
+    }
+}
 
 fn print_found(placed: Placed, rank: usize) {
     let sharding = placed.sharding;
     let shard = placed.shard;
     let first = placed.first;
     print_text(b"ok lists ");
-    print_lists(sharding, rank);
+    print_lists(sharding.dims, rank);
     print_text(b" ");
     print_list(sharding.unreduced);
+    print_replicated(sharding.replicated);
     print_text(b" sizes ");
     print_sizes(shard, rank);
     print_text(b" first ");

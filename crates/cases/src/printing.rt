@@ -2,7 +2,7 @@
 use ishkrela::Axis;
 use ishkrela::AxisList;
 use ishkrela::Dim;
-use ishkrela::Sharding;
+use ishkrela::DimLists;
 use libc::STDOUT_FILENO;
 
 pub(crate) fn print_text(text: &[u8]) {
@@ -58,23 +58,23 @@ pub(crate) fn print_list(list: AxisList) {
 }
 
 // Nothing past the rank, here and below.
-fn print_dim(sharding: Sharding, rank: usize, i: usize) {
+fn print_dim(lists: DimLists, rank: usize, i: usize) {
     if i < rank && i < Dim::MOST {
         print_comma(i);
-        print_list(sharding.dims[i]);
+        print_list(lists.at(Dim(i as u8)));
     }
 }
 
-fn print_dims(sharding: Sharding, rank: usize) {
+fn print_dims(lists: DimLists, rank: usize) {
     for i in 0..Dim::MOST {
-        print_dim(sharding, rank, i);
+        print_dim(lists, rank, i);
     }
 }
 
 // Prints the lists of the dimensions.
-pub(crate) fn print_lists(sharding: Sharding, rank: usize) {
+pub(crate) fn print_lists(lists: DimLists, rank: usize) {
     print_text(b"[");
-    print_dims(sharding, rank);
+    print_dims(lists, rank);
     print_text(b"]");
 }
 

@@ -7,6 +7,7 @@ pub use rules::CheckOutcome;
 pub use rules::Checked;
 pub use rules::Device;
 pub use rules::Dim;
+pub use rules::DimLists;
 pub use rules::GroupsOutcome;
 pub use rules::PlaceOutcome;
 pub use rules::Placed;

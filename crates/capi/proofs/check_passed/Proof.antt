@@ -5,7 +5,7 @@ use Rattle.capi.proofs.check_passed.Tie as tie
 pub check-passed-spec : {M : Type 1} → statement M
 check-passed-spec =
     tie.close
-    (tie.spec (λ c κs. search needs) (λ c κs. search needs) (λ c. search needs) (λ c. let s = c .before .before .before .before .before .args in
+    (tie.spec (λ c κs. search needs) (λ c. search needs) (λ c. let s = c .before .before .before .args in
     let t = s .totals in
     (λ i. record {
       refusal = 0;
@@ -14,6 +14,5 @@ check-passed-spec =
       steps = t .steps;
       rank = t .rank;
       shard = s .checked .shard;
-      counts = c .before .before .five-counts .ensures i;
-      axes = c .before .thirty-axes .ensures i;
+      sharding = c .before .before .sharding-reply .ensures i;
     })))

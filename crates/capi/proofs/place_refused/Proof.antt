@@ -4,4 +4,4 @@ use Rattle.capi.proofs.place_refused.Statement.{statement}
 use Rattle.capi.proofs.place_refused.Tie as tie
 
 pub place-refused-spec : {M : Type 1} → statement M
-place-refused-spec = tie.close (tie.spec (λ c κs. search needs) (λ c. rw (c .code-of .ensures) refl))
+place-refused-spec = tie.close (tie.spec (λ c κs. search needs) (λ c κs. search needs) (λ c. rw (c .code-of .ensures, c .before .no-sharding .ensures) refl))
