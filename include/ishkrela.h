@@ -117,8 +117,8 @@
  * is 0, so it may be null. The calls keep no state of their own: threads may call at once where none
  * lends memory for writing that another uses.
  *
- * A call takes less than 20 KiB of stack: on the cases of tests/ at most 18,680 bytes for a run, 2,160
- * for a placement, 2,144 for a check, 208 for a group listing (tests/stack.c, which tools/try_c runs).
+ * A call takes less than 20 KiB of stack: on the cases of tests/ at most 18,696 bytes for a run, 2,240
+ * for a placement, 2,224 for a check, 208 for a group listing (tests/stack.c, which tools/try_c runs).
  */
 #ifndef ISHKRELA_H
 #define ISHKRELA_H
