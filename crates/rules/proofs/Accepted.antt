@@ -10,6 +10,7 @@ use native.Mathlib.Omega.{arith}
 use lib.ListN.{length, getD}
 use lib.Dec.{T, ltb, leb, eqb, ltb→lt, leb→le, lit<, lit≤}
 use Rattle.rules.specs.Lists.{tab, pick, flat, product, mem, In, Distinct}
+use Rattle.rules.specs.Mesh.{devices, Rearrangement}
 use Rattle.rules.specs.Sharding.{Sharding, varying, divisible, IsSharding}
 use Rattle.rules.specs.Collectives.{Step, after}
 use Rattle.rules.specs.Limits.{present, mostAxes, mostDevices, mostDims, mostWords, mostSteps, leastBytes, mostBytes}
@@ -32,6 +33,8 @@ use Rattle.rules.specs.PlanFile.{
   judgeSizes,
   sizesAt,
   MeshAndTable,
+  carriesOrder,
+  orderAt,
   meshAndTableAt,
   meshAndTableAtBy,
   carriesReplicated,
@@ -54,6 +57,7 @@ use Rattle.rules.specs.PlanFile.{
   StateAnswer,
   stateOf,
 }
+use Rattle.rules.proofs.Orders.{order-read}
 use Rattle.rules.proofs.Lists.{T-and, length-tab, not-mem, distinct-append, in-append}
 use Rattle.rules.proofs.Judging.{accept-inj, need-inv, need-true, then-inv, bind-inv}
 use Rattle.rules.proofs.Steps.{AcceptedStep, facts}
@@ -224,21 +228,31 @@ pub record MeshAndTableFacts (n rank : ℕ) (r : MeshAndTable) : Type 0 where
   pub mesh : SizesFacts mostDevices 1 (r .mesh)
   pub rank-many : length (r .sizes) ≡ rank
   pub sizes : SizesFacts mostWords 1 (r .sizes)
+  pub ordered : Rearrangement (devices (r .mesh)) (r .order)
 
-pub mesh-and-table-facts : (n rank : ℕ) (file : List ℕ) (r : Read MeshAndTable) → meshAndTableAt n rank file ≡ accept r → MeshAndTableFacts n rank (r .value)
+pub mesh-and-table-facts : (carried : Bool) (n rank : ℕ) (file : List ℕ) (r : Read MeshAndTable) → meshAndTableAt carried n rank file ≡ accept r
+    → MeshAndTableFacts n rank (r .value)
 unfolding meshAndTableAtBy
-mesh-and-table-facts n rank file r e =
+mesh-and-table-facts carried n rank file r e =
     let m = bind-inv (sizesAt mostDevices 10 11 n (meshOffset file) file 18) _ r e in
-    let t = bind-inv (sizesAt mostWords 12 13 rank (tensorOffset file) file (m .0 .next)) _ r (m .2) in
+    let o = bind-inv (orderAt carried (devices (m .0 .value)) file (m .0 .next)) _ r (m .2) in
+    let t = bind-inv (sizesAt mostWords 12 13 rank (tensorOffset file) file (o .0 .next)) _ r (o .2) in
     let f : SectionFacts mostDevices n file 18 (m .0) = section-facts mostDevices 10 11 n (meshOffset file) file 18 (m .0) (lit≤ tt) (m .1) in
-    let g : SectionFacts mostWords rank file (m .0 .next) (t .0) =
-    section-facts mostWords 12 13 rank (tensorOffset file) file (m .0 .next) (t .0) (lit≤ tt) (t .1) in
+    let g : SectionFacts mostWords rank file (o .0 .next) (t .0) =
+    section-facts mostWords 12 13 rank (tensorOffset file) file (o .0 .next) (t .0) (lit≤ tt) (t .1) in
     subst (λ (x : Read MeshAndTable). MeshAndTableFacts n rank (x .value)) (accept-inj (t .2))
-    (record { axes-many = f .many; mesh = f .sizes; rank-many = g .many; sizes = g .sizes })
+    (record {
+      axes-many = f .many;
+      mesh = f .sizes;
+      rank-many = g .many;
+      sizes = g .sizes;
+      ordered = order-read carried (devices (m .0 .value)) file (m .0 .next) (o .0) (o .1);
+    })
 
 -- What stands before the steps, where it is accepted.
 pub record AcceptedFront (file : List ℕ) (f : Front) : Type 0 where
   pub within : Within (f .mesh) (f .sizes)
+  pub ordered : Rearrangement (devices (f .mesh)) (f .order)
   pub start-is : IsSharding (f .mesh) (f .sizes) (f .start)
   pub steps-few : stepCount file ≤ mostSteps
 
@@ -247,12 +261,12 @@ unfolding judgeFrontBy
 front-accepted file f e =
     let h0 = then-inv (judgeHeader file) _ f e in
     let h : HeaderFacts file = header-facts file (h0 .0 .1) in
-    let m = bind-inv (meshAndTableAt (axisCount file) (rankCount file) file) _ f (h0 .1) in
+    let m = bind-inv (meshAndTableAt (carriesOrder (edition file)) (axisCount file) (rankCount file) file) _ f (h0 .1) in
     let s = bind-inv (shardingAt (carriesReplicated (edition file)) (axisCount file) (rankCount file) (shardingOffset file) file (m .0 .next)) _ f (m .2) in
     let o = need-inv 0 (eqb (stepsOffset file) (s .0 .next)) 6 _ f (s .2) in
     let j = then-inv (judgeStart (m .0 .value .mesh) (m .0 .value .sizes) (s .0 .value)) _ f (o .1) in
     let g : MeshAndTableFacts (axisCount file) (rankCount file) (m .0 .value) =
-    mesh-and-table-facts (axisCount file) (rankCount file) file (m .0) (m .1) in
+    mesh-and-table-facts (carriesOrder (edition file)) (axisCount file) (rankCount file) file (m .0) (m .1) in
     let z = need-inv 0 (oneMeaning (edition file) (s .0 .value .replicated)) 18 _ f (j .1) in
     subst (AcceptedFront file) (accept-inj (z .1)) (record {
       within = record {
@@ -267,6 +281,7 @@ front-accepted file f e =
         words-pos = omega (arith, g .sizes .pos);
         words-few = omega (arith, g .sizes .few);
       };
+      ordered = g .ordered;
       start-is = start-sharding (m .0 .value .mesh) (m .0 .value .sizes) (s .0 .value) (j .0 .1);
       steps-few = h .steps-few;
     })
@@ -274,6 +289,7 @@ front-accepted file f e =
 -- What an accepted plan satisfies.
 pub record AcceptedPlan (p : Plan) : Type 0 where
   pub within : Within (p .mesh) (p .sizes)
+  pub ordered : Rearrangement (devices (p .mesh)) (p .order)
   pub start-is : IsSharding (p .mesh) (p .sizes) (p .start)
   pub steps-few : length (p .steps) ≤ mostSteps
   pub fine : Fine (p .mesh) (p .sizes) (p .start) (p .steps)
@@ -289,11 +305,11 @@ accepted file p e =
     let fs : Fine (f .0 .mesh) (f .0 .sizes) (f .0 .start) (ts .0 .value) × (length (ts .0 .value) ≡ stepCount file) =
     steps-fine (f .0 .mesh) (f .0 .sizes) 1 (stepCount file) file (f .0 .next) (f .0 .start) (ts .0) (ts .1) in
     subst AcceptedPlan (accept-inj (z .1))
-    (record { within = a .within; start-is = a .start-is; steps-few = omega (arith, fs .1, a .steps-few); fine = fs .0 })
+    (record { within = a .within; ordered = a .ordered; start-is = a .start-is; steps-few = omega (arith, fs .1, a .steps-few); fine = fs .0 })
 
 -- the plan of an accepted state
 pub state-inv : (file : List ℕ) (k : ℕ) (a : StateAnswer) → stateOf file k ≡ accept a
-    → (p : Plan) × (judge file ≡ accept p) × (record { mesh = p .mesh; sizes = p .sizes; sharding = announced p k; shard = announcedShape p k } ≡ a)
+    → (p : Plan) × (judge file ≡ accept p) × (record { mesh = p .mesh; order = p .order; sizes = p .sizes; sharding = announced p k; shard = announcedShape p k } ≡ a)
 unfolding stateOf
 state-inv file k a e =
     let p = bind-inv (judge file) _ a e in

@@ -1,6 +1,6 @@
 -- Laws of groups and of the group listing (specs/Mesh.antt). The main ones: the group by position has each device that agrees outside the list
--- exactly once, and no other (`group-by-position`); the listing place by place, as code writes it (`listing-tab`); the listing is a rearrangement
--- of the device numbers (`listing-rearranges`). Assumes nothing.
+-- exactly once, and no other (`group-by-position`); the listing place by place, as code writes it (`places-tab`); the listing is a rearrangement
+-- of the device numbers (`places-rearranges`). Assumes nothing.
 use Prim.Native.Nat.{ℕ, zero, suc, _+_, _*_, _/_, _%_, _<_}
 use mathlib.Core.Path.{_≡_, refl, sym, ap, ap₂, _∙_, subst}
 use mathlib.Core.Logic.{inl, inr, ⊎-elim}
@@ -13,7 +13,7 @@ use lib.Seq.{getD-set-other, getD-set-same, ext-getD}
 use lib.Arith.{digits-lt, digits-div, digits-mod}
 use Rattle.rules.specs.Demands.{GroupByPosition}
 use Rattle.rules.specs.Lists.{tab, flat, product, mem, without, In, Distinct, Below, none, more}
-use Rattle.rules.specs.Mesh.{deviceNumber, deviceCoords, devices, span, position, member, members, remaining, firsts, listing, IsGroup, Rearrangement}
+use Rattle.rules.specs.Mesh.{number, coords, devices, span, position, member, members, remaining, firsts, grouped, placesListed, IsGroup, Rearrangement}
 use Rattle.rules.proofs.Lists.{
   length-tab,
   getD-tab,
@@ -195,22 +195,22 @@ module _ (mesh L : List ℕ) (distinct : Distinct L) (of-axes : (a : ℕ) → In
   span-remaining = span-append mesh (remaining mesh L) L ∙ groups-devices
 
   -- the listing place by place
-  pub listing-tab : listing mesh L ≡ tab (devices mesh) (λ p. deviceNumber mesh (listed mesh L p))
-  unfolding listing firsts members
-  listing-tab =
+  pub places-tab : placesListed mesh L ≡ tab (devices mesh) (λ p. number mesh (listed mesh L p))
+  unfolding placesListed grouped firsts members
+  places-tab =
       let r : ℕ = span mesh (remaining mesh L) in
       let s : ℕ = span mesh L in
       let first : ℕ → List ℕ = λ g. member mesh (remaining mesh L) g (replicate (length mesh) 0) in
-      ap (λ (groups : List (List (List ℕ))). map (deviceNumber mesh) (flat groups)) (map-tab (members mesh L) r first)
-      ∙ ap (map (deviceNumber mesh)) (flat-tab r s (λ g q. member mesh L q (first g)))
-      ∙ map-tab (deviceNumber mesh) (r * s) (listed mesh L)
-      ∙ ap (λ (n : ℕ). tab n (λ p. deviceNumber mesh (listed mesh L p))) groups-devices
+      ap (λ (groups : List (List (List ℕ))). map (number mesh) (flat groups)) (map-tab (members mesh L) r first)
+      ∙ ap (map (number mesh)) (flat-tab r s (λ g q. member mesh L q (first g)))
+      ∙ map-tab (number mesh) (r * s) (listed mesh L)
+      ∙ ap (λ (n : ℕ). tab n (λ p. number mesh (listed mesh L p))) groups-devices
 
-  pub listing-length : length (listing mesh L) ≡ devices mesh
-  listing-length = ap length listing-tab ∙ length-tab (devices mesh) _
+  pub places-length : length (placesListed mesh L) ≡ devices mesh
+  places-length = ap length places-tab ∙ length-tab (devices mesh) _
 
-  listing-at : (p : ℕ) → p < devices mesh → getD (listing mesh L) p 0 ≡ deviceNumber mesh (listed mesh L p)
-  listing-at p l = ap (λ (ds : List ℕ). getD ds p 0) listing-tab ∙ getD-tab (devices mesh) p _ 0 l
+  places-at : (p : ℕ) → p < devices mesh → getD (placesListed mesh L) p 0 ≡ number mesh (listed mesh L p)
+  places-at p l = ap (λ (ds : List ℕ). getD ds p 0) places-tab ∙ getD-tab (devices mesh) p _ 0 l
 
   -- a place of the listing is a group and a position in it
   place-parts : (p : ℕ) → p < devices mesh → (p / span mesh L < span mesh (remaining mesh L)) × (p % span mesh L < span mesh L)
@@ -253,23 +253,23 @@ module _ (mesh L : List ℕ) (distinct : Distinct L) (of-axes : (a : ℕ) → In
       ∙ member-at mesh L distinct of-axes (below-first (position mesh R x) some (position-lt mesh R bx)) bx
       (λ a l off. member-along mesh R a remaining-distinct remaining-lt (zeros-below mesh some) bx (remaining-in a l off))
 
-  pub listing-below : (p : ℕ) → p < devices mesh → getD (listing mesh L) p 0 < devices mesh
-  listing-below p l = rw (listing-at p l) (number-lt (below-listed p l))
+  pub places-below : (p : ℕ) → p < devices mesh → getD (placesListed mesh L) p 0 < devices mesh
+  places-below p l = rw (places-at p l) (number-lt (below-listed p l))
 
-  pub listing-once : (p q : ℕ) → p < devices mesh → q < devices mesh → getD (listing mesh L) p 0 ≡ getD (listing mesh L) q 0 → p ≡ q
-  listing-once p q lp lq e =
-      let n : deviceNumber mesh (listed mesh L p) ≡ deviceNumber mesh (listed mesh L q) = sym (listing-at p lp) ∙ e ∙ listing-at q lq in
+  pub places-once : (p q : ℕ) → p < devices mesh → q < devices mesh → getD (placesListed mesh L) p 0 ≡ getD (placesListed mesh L) q 0 → p ≡ q
+  places-once p q lp lq e =
+      let n : number mesh (listed mesh L p) ≡ number mesh (listed mesh L q) = sym (places-at p lp) ∙ e ∙ places-at q lq in
       let x : listed mesh L p ≡ listed mesh L q =
-      sym (coords-number (below-listed p lp)) ∙ ap (deviceCoords mesh) n ∙ coords-number (below-listed q lq) in
+      sym (coords-number (below-listed p lp)) ∙ ap (coords mesh) n ∙ coords-number (below-listed q lq) in
       sym (place-listed p lp) ∙ ap place x ∙ place-listed q lq
 
-  pub listing-has : (d : ℕ) → d < devices mesh → (p : ℕ) × (p < devices mesh) × (getD (listing mesh L) p 0 ≡ d)
-  listing-has d h =
-      let x : List ℕ = deviceCoords mesh d in
+  pub places-has : (d : ℕ) → d < devices mesh → (p : ℕ) × (p < devices mesh) × (getD (placesListed mesh L) p 0 ≡ d)
+  places-has d h =
+      let x : List ℕ = coords mesh d in
       let b : Below x mesh = below-coords mesh d h in
       let l : place x < devices mesh =
       subst (λ n. place x < n) groups-devices (digits-lt (position-lt mesh (remaining mesh L) b) (position-lt mesh L b)) in
-      (place x, l, listing-at (place x) l ∙ ap (deviceNumber mesh) (listed-place b) ∙ number-coords mesh d h)
+      (place x, l, places-at (place x) l ∙ ap (number mesh) (listed-place b) ∙ number-coords mesh d h)
 
-  pub listing-rearranges : Rearrangement (devices mesh) (listing mesh L)
-  listing-rearranges = record { size = listing-length; below = listing-below; once = listing-once; has = listing-has }
+  pub places-rearranges : Rearrangement (devices mesh) (placesListed mesh L)
+  places-rearranges = record { size = places-length; below = places-below; once = places-once; has = places-has }

@@ -12,6 +12,7 @@ pub mod Sums
 pub mod Sources
 pub mod Spreads
 pub mod Judging
+pub mod Orders
 pub mod Steps
 pub mod Accepted
 pub mod Readers

@@ -13,6 +13,7 @@ use Rattle.rules.specs.Ledger as table
 use Rattle.rules.specs.WorkedRefusals as files
 use Rattle.rules.specs.WorkedLimits as sizes
 use Rattle.rules.specs.WorkedEditions as later
+use Rattle.rules.specs.WorkedOrders as cabled
 use Rattle.rules.specs.Promises.{RunPromise, RulesPromise}
 use Rattle.rules.specs.declared.Refusal.{Refusal}
 use Rattle.rules.specs.declared.RunOutcome.{RunOutcome}
@@ -117,6 +118,7 @@ rules-promise = record {
   spreadable = whole.spreadable;
   startable = whole.startable;
   room-limit = whole.room-limit;
+  replicated-stays = whole.replicated-stays;
   refusal-numbers = refusing.refusal-numbers;
   readers-compared = readers.readers-compared;
   earlier-limits = readers.earlier-limits;
@@ -131,4 +133,8 @@ rules-promise = record {
   earlier = sizes.earlier;
   in-editions = later.in-editions;
   first-edition = later.first-edition;
+  unequal = later.unequal;
+  no-sharding = later.no-sharding;
+  ordered = cabled.in-order;
+  second-edition = cabled.second-edition;
 }

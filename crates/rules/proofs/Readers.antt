@@ -28,6 +28,8 @@ use Rattle.rules.specs.PlanFile.{
   judgeHeaderBy,
   judgeSizes,
   sizesAt,
+  carriesOrder,
+  orderAt,
   MeshAndTable,
   meshAndTableAtBy,
   carriesReplicated,
@@ -198,31 +200,46 @@ module _ (few most z o : ℕ) where
 abbrev sizesWithin : Reader → (mesh sizes : List ℕ) → Judged (Unit {0})
 sizesWithin r mesh sizes = _>>_ (need (leb (devices mesh) (r .devices)) 11) (need (leb (product sizes) (r .words)) 13)
 
-module _ (r s : Reader) (n : Narrower r s) (count rank : ℕ) (file : List ℕ) (x : Read MeshAndTable) where
-  sections-meet : meshAndTableAtBy s count rank file ≡ accept x → Tests (meshAndTableAtBy r count rank file) (sizesWithin r (x .value .mesh) (x .value .sizes)) x
+-- the tensor's section, after the mesh and the order
+abbrev tableAt : Reader → (rank : ℕ) → (file : List ℕ) → (m o : Read (List ℕ)) → Judged (Read MeshAndTable)
+tableAt r rank file m o = do
+  t ← sizesAt (r .words) 12 13 rank (tensorOffset file) file (o .next)
+  accept (record { value = record { mesh = m .value; order = o .value; sizes = t .value }; next = t .next })
+
+-- the order and the tensor's section; an order is the same for every reader
+abbrev afterMesh : Reader → (carried : Bool) → (rank : ℕ) → (file : List ℕ) → Read (List ℕ) → Judged (Read MeshAndTable)
+afterMesh r carried rank file m = _>>=_ (orderAt carried (devices (m .value)) file (m .next)) (tableAt r rank file m)
+
+module _ (r s : Reader) (n : Narrower r s) (carried : Bool) (count rank : ℕ) (file : List ℕ) (x : Read MeshAndTable) where
+  sections-meet : meshAndTableAtBy s carried count rank file ≡ accept x
+      → Tests (meshAndTableAtBy r carried count rank file) (sizesWithin r (x .value .mesh) (x .value .sizes)) x
   unfolding meshAndTableAtBy
   sections-meet e =
-      let m = bind-inv (sizesAt (s .devices) 10 11 count (meshOffset file) file 18) _ x e in
-      let t = bind-inv (sizesAt (s .words) 12 13 rank (tensorOffset file) file (m .0 .next)) _ x (m .2) in
-      subst (λ (y : Read MeshAndTable). Tests (meshAndTableAtBy r count rank file) (sizesWithin r (y .value .mesh) (y .value .sizes)) y) (accept-inj (t .2))
-      (tests-bind (need (leb (devices (m .0 .value)) (r .devices)) 11) (need (leb (product (t .0 .value)) (r .words)) 13) (m .0) _ _
+      let m = bind-inv (sizesAt (s .devices) 10 11 count (meshOffset file) file 18) (afterMesh s carried rank file) x e in
+      let o = bind-inv (orderAt carried (devices (m .0 .value)) file (m .0 .next)) (tableAt s rank file (m .0)) x (m .2) in
+      let t = bind-inv (sizesAt (s .words) 12 13 rank (tensorOffset file) file (o .0 .next)) _ x (o .2) in
+      subst (λ (y : Read MeshAndTable). Tests (meshAndTableAtBy r carried count rank file) (sizesWithin r (y .value .mesh) (y .value .sizes)) y) (accept-inj (t .2))
+      (tests-bind (need (leb (devices (m .0 .value)) (r .devices)) 11) (need (leb (product (t .0 .value)) (r .words)) 13) (m .0) (afterMesh r carried rank file) _
       (sizesAt (r .devices) 10 11 count (meshOffset file) file 18)
       (section-meets (r .devices) (s .devices) 10 11 count (meshOffset file) file 18 (m .0) (n .devices-some) (m .1))
-      (tests-none (need (leb (product (t .0 .value)) (r .words)) 13) (t .0) _ _ (sizesAt (r .words) 12 13 rank (tensorOffset file) file (m .0 .next))
-      (section-meets (r .words) (s .words) 12 13 rank (tensorOffset file) file (m .0 .next) (t .0) (n .words-some) (t .1)) refl))
+      (ap (λ (j : Judged (Read (List ℕ))). _>>=_ j (tableAt r rank file (m .0))) (o .1)
+      ∙ tests-none (need (leb (product (t .0 .value)) (r .words)) 13) (t .0) _ _ (sizesAt (r .words) 12 13 rank (tensorOffset file) file (o .0 .next))
+      (section-meets (r .words) (s .words) 12 13 rank (tensorOffset file) file (o .0 .next) (t .0) (n .words-some) (t .1)) refl))
 
-  sections-keep : meshAndTableAtBy r count rank file ≡ accept x → meshAndTableAtBy s count rank file ≡ accept x
+  sections-keep : meshAndTableAtBy r carried count rank file ≡ accept x → meshAndTableAtBy s carried count rank file ≡ accept x
   unfolding meshAndTableAtBy
   sections-keep e =
-      let m = bind-inv (sizesAt (r .devices) 10 11 count (meshOffset file) file 18) _ x e in
-      let t = bind-inv (sizesAt (r .words) 12 13 rank (tensorOffset file) file (m .0 .next)) _ x (m .2) in
-      ap (λ (j : Judged (Read (List ℕ))). _>>=_ j (λ m. _>>=_ (sizesAt (s .words) 12 13 rank (tensorOffset file) file (m .next)) (λ t. accept (both m t))))
+      let m = bind-inv (sizesAt (r .devices) 10 11 count (meshOffset file) file 18) (afterMesh r carried rank file) x e in
+      let o = bind-inv (orderAt carried (devices (m .0 .value)) file (m .0 .next)) (tableAt r rank file (m .0)) x (m .2) in
+      let t = bind-inv (sizesAt (r .words) 12 13 rank (tensorOffset file) file (o .0 .next)) _ x (o .2) in
+      ap (λ (j : Judged (Read (List ℕ))). _>>=_ j (afterMesh s carried rank file))
       (section-keeps (r .devices) (s .devices) 10 11 count (meshOffset file) file 18 (m .0) (n .devices-few) (m .1))
-      ∙ ap (λ (j : Judged (Read (List ℕ))). _>>=_ j (λ t. accept (both (m .0) t)))
-      (section-keeps (r .words) (s .words) 12 13 rank (tensorOffset file) file (m .0 .next) (t .0) (n .words-few) (t .1)) ∙ t .2
+      ∙ ap (λ (j : Judged (Read (List ℕ))). _>>=_ j (tableAt s rank file (m .0))) (o .1)
+      ∙ ap (λ (j : Judged (Read (List ℕ))). _>>=_ j (λ t. accept (both (m .0) (o .0) t)))
+      (section-keeps (r .words) (s .words) 12 13 rank (tensorOffset file) file (o .0 .next) (t .0) (n .words-few) (t .1)) ∙ t .2
     where
-      both : Read (List ℕ) → Read (List ℕ) → Read MeshAndTable
-      both m t = record { value = record { mesh = m .value; sizes = t .value }; next = t .next }
+      both : Read (List ℕ) → Read (List ℕ) → Read (List ℕ) → Read MeshAndTable
+      both m o t = record { value = record { mesh = m .value; order = o .value; sizes = t .value }; next = t .next }
 
 -- ---- the whole file
 
@@ -233,7 +250,7 @@ afterSizes file m = do
   need (eqb (stepsOffset file) (s .next)) 6
   judgeStart (m .value .mesh) (m .value .sizes) (s .value)
   need (oneMeaning (edition file) (s .value .replicated)) 18
-  accept (record { mesh = m .value .mesh; sizes = m .value .sizes; start = s .value; next = s .next })
+  accept (record { mesh = m .value .mesh; order = m .value .order; sizes = m .value .sizes; start = s .value; next = s .next })
 
 sizes-same : (file : List ℕ) (m : Read MeshAndTable) (f : Front) → afterSizes file m ≡ accept f → (m .value .mesh ≡ f .mesh) × (m .value .sizes ≡ f .sizes)
 sizes-same file m f e =
@@ -250,7 +267,7 @@ abbrev afterFront : List ℕ → Front → Judged Plan
 afterFront file f = do
   ts ← stepsAt (f .mesh) (f .sizes) 1 (stepCount file) file (f .next) (f .start)
   need (eqb (ts .next) (length file)) 9
-  accept (record { mesh = f .mesh; sizes = f .sizes; start = f .start; steps = ts .value })
+  accept (record { mesh = f .mesh; order = f .order; sizes = f .sizes; start = f .start; steps = ts .value })
 
 front-same : (file : List ℕ) (f : Front) (p : Plan) → afterFront file f ≡ accept p → (f .mesh ≡ p .mesh) × (f .sizes ≡ p .sizes)
 front-same file f p e =
@@ -269,15 +286,15 @@ module _ (r s : Reader) (n : Narrower r s) (file : List ℕ) where
   unfolding judgeFrontBy
   front-meets f e =
       let h = then-inv (judgeHeaderBy s file) _ f e in
-      let m = bind-inv (meshAndTableAtBy s (axisCount file) (rankCount file) file) (afterSizes file) f (h .1) in
+      let m = bind-inv (meshAndTableAtBy s (carriesOrder (edition file)) (axisCount file) (rankCount file) file) (afterSizes file) f (h .1) in
       let q = sizes-same file (m .0) f (m .2) in
       subst (λ (mesh : List ℕ). Tests (judgeFrontBy r file) (limits mesh (f .sizes)) f) (q .0)
       (subst (λ (sizes : List ℕ). Tests (judgeFrontBy r file) (limits (m .0 .value .mesh) sizes) f) (q .1)
       (tests-then (headerWithin r file) (sizesWithin r (m .0 .value .mesh) (m .0 .value .sizes)) _ f (judgeHeaderBy r file)
       (header-meets r s file (h .0 .1))
       (tests-none (sizesWithin r (m .0 .value .mesh) (m .0 .value .sizes)) (m .0) (afterSizes file) f
-      (meshAndTableAtBy r (axisCount file) (rankCount file) file)
-      (sections-meet r s n (axisCount file) (rankCount file) file (m .0) (m .1)) (m .2))
+      (meshAndTableAtBy r (carriesOrder (edition file)) (axisCount file) (rankCount file) file)
+      (sections-meet r s n (carriesOrder (edition file)) (axisCount file) (rankCount file) file (m .0) (m .1)) (m .2))
       ∙ ap (λ (t : Judged (Unit {0})). _>>_ t (accept f))
       (then-assoc (need (leb (length file) (r .bytes)) 2) (need (editionKnown r (edition file)) 3) (sizesWithin r (m .0 .value .mesh) (m .0 .value .sizes)))))
 
@@ -285,10 +302,10 @@ module _ (r s : Reader) (n : Narrower r s) (file : List ℕ) where
   unfolding judgeFrontBy
   front-keeps f e =
       let h = then-inv (judgeHeaderBy r file) _ f e in
-      let m = bind-inv (meshAndTableAtBy r (axisCount file) (rankCount file) file) (afterSizes file) f (h .1) in
-      ap (λ (j : Judged (Unit {0})). _>>_ j (_>>=_ (meshAndTableAtBy s (axisCount file) (rankCount file) file) (afterSizes file)))
+      let m = bind-inv (meshAndTableAtBy r (carriesOrder (edition file)) (axisCount file) (rankCount file) file) (afterSizes file) f (h .1) in
+      ap (λ (j : Judged (Unit {0})). _>>_ j (_>>=_ (meshAndTableAtBy s (carriesOrder (edition file)) (axisCount file) (rankCount file) file) (afterSizes file)))
       (header-keeps r s file (n .bytes-few) (n .editions-few) (h .0 .1))
-      ∙ ap (λ (j : Judged (Read MeshAndTable)). _>>=_ j (afterSizes file)) (sections-keep r s n (axisCount file) (rankCount file) file (m .0) (m .1)) ∙ m .2
+      ∙ ap (λ (j : Judged (Read MeshAndTable)). _>>=_ j (afterSizes file)) (sections-keep r s n (carriesOrder (edition file)) (axisCount file) (rankCount file) file (m .0) (m .1)) ∙ m .2
 
 meets-tests : (r s : Reader) → Narrower r s → MeetsTests r s
 unfolding judgeBy

@@ -21,6 +21,7 @@ use Rattle.rules.specs.declared.Reason.the-variants.{
   StartNotIncreasing,
   StartNotDivisible,
   ReplicatedEmpty,
+  WrongOrder,
   UnknownKind,
   NoAxis,
   AxisTooLarge,
@@ -58,6 +59,7 @@ reason-number StartAxisRepeated = refl
 reason-number StartNotIncreasing = refl
 reason-number StartNotDivisible = refl
 reason-number ReplicatedEmpty = refl
+reason-number WrongOrder = refl
 reason-number UnknownKind = refl
 reason-number NoAxis = refl
 reason-number AxisTooLarge = refl

@@ -32,6 +32,9 @@ use Rattle.rules.specs.PlanFile.{
   judgeHeaderBy,
   judgeSizes,
   sizesAt,
+  orderAllowed,
+  carriesOrder,
+  orderAt,
   meshAndTableAt,
   meshAndTableAtBy,
   listAt,
@@ -67,7 +70,7 @@ use Rattle.rules.specs.PlanFile.{
   room,
   stateOf,
 }
-use Rattle.rules.specs.Calls.{checkOf, placeOf, groupsOf, runnable, runLeaves, runOf}
+use Rattle.rules.specs.Calls.{checkOf, placeOf, groupsBy, groupsOf, groupsOrderedOf, runnable, runLeaves, runOf}
 use Rattle.rules.specs.Demands.{fileNumbers, stepNumbers, Numbered, RefusalNumbers}
 use Rattle.rules.specs.declared.Kind.{Kind}
 use Rattle.rules.specs.declared.Kind.the-variants.{AllSlice, AllGather, AllReduce, AllToAll, Unknown}
@@ -159,11 +162,19 @@ module _ (P : ℕ → ℕ → Type 0) where
         (tests 0 (leb (at + 2 * count) (length file)) 7 _ (out 7 tt)
         (next _ _ (sizes-refuse most z o 1 (tab count (λ i. u16At file (at + 2 * i))) hz ho) (accepts _)))
 
-    sections-refuse : (n rank : ℕ) (file : List ℕ) → Refuses (meshAndTableAt n rank file)
+    order-refuses : (carried : Bool) (n : ℕ) (file : List ℕ) (at : ℕ) → Refuses (orderAt carried n file at)
+    unfolding orderAt mem
+    order-refuses true n file at =
+        tests 0 (leb (at + 2 * n) (length file)) 7 _ (out 7 tt)
+        (tests 0 (orderAllowed n (tab n (λ i. u16At file (at + 2 * i)))) 19 _ (out 19 tt) (accepts _))
+    order-refuses false n file at = accepts _
+
+    sections-refuse : (carried : Bool) (n rank : ℕ) (file : List ℕ) → Refuses (meshAndTableAt carried n rank file)
     unfolding meshAndTableAtBy mem
-    sections-refuse n rank file =
+    sections-refuse carried n rank file =
         bind _ _ (section-refuses mostDevices 10 11 n (meshOffset file) file 18 (out 10 tt) (out 11 tt))
-        (λ m. bind _ _ (section-refuses mostWords 12 13 rank (tensorOffset file) file (m .next) (out 12 tt) (out 13 tt)) (λ t. accepts _))
+        (λ m. bind _ _ (order-refuses carried (devices (m .value)) file (m .next))
+        (λ o. bind _ _ (section-refuses mostWords 12 13 rank (tensorOffset file) file (o .next) (out 12 tt) (out 13 tt)) (λ t. accepts _)))
 
     list-refuses : (n : ℕ) (file : List ℕ) (at : ℕ) → Refuses (listAt n file at)
     unfolding listAt mem
@@ -203,7 +214,7 @@ module _ (P : ℕ → ℕ → Type 0) where
     unfolding judgeFrontBy mem
     front-refuses file =
         next _ _ (header-refuses file)
-        (bind _ _ (sections-refuse (axisCount file) (rankCount file) file)
+        (bind _ _ (sections-refuse (carriesOrder (edition file)) (axisCount file) (rankCount file) file)
         (λ m. bind _ _ (sharding-refuses (carriesReplicated (edition file)) (axisCount file) (rankCount file) (shardingOffset file) file (m .next))
         (λ s. tests 0 (eqb (stepsOffset file) (s .next)) 6 _ (out 6 tt)
         (next _ _ (start-refuses (m .value .mesh) (m .value .sizes) (s .value))
@@ -279,12 +290,12 @@ judge-refuses numbers all file =
     (steps-refuse P out (stepCount file) inside (f .mesh) (f .sizes) 1 (stepCount file) file (f .next) (f .start) (lit≤ tt) (omega arith))
     (λ ts. tests P 0 (eqb (ts .next) (length file)) 9 _ (out 9 tt) (accepts P _)))
 
--- of a file with one step: 19 is no number, 7 is of no step, 24 is of that step alone
+-- of a file with one step: 29 is no number, 7 is of no step, 24 is of that step alone
 unnumbered :
-    (¬ Numbered fileNumbers 1 19 0) × (¬ Numbered fileNumbers 1 7 1) × (¬ Numbered fileNumbers 1 24 0) × (¬ Numbered fileNumbers 1 24 2)
+    (¬ Numbered fileNumbers 1 29 0) × (¬ Numbered fileNumbers 1 7 1) × (¬ Numbered fileNumbers 1 24 0) × (¬ Numbered fileNumbers 1 24 2)
 unfolding mem
 unnumbered = (
-  ⊎-elim (λ h. in-mem 19 fileNumbers (h .0)) (λ h. in-mem 19 stepNumbers (h .0)),
+  ⊎-elim (λ h. in-mem 29 fileNumbers (h .0)) (λ h. in-mem 29 stepNumbers (h .0)),
   ⊎-elim (λ h. omega (arith, h .1)) (λ h. in-mem 7 stepNumbers (h .0)),
   ⊎-elim (λ h. in-mem 24 fileNumbers (h .0)) (λ h. omega (arith, h .1)),
   ⊎-elim (λ h. in-mem 24 fileNumbers (h .0)) (λ h. omega (arith, h .2)),
@@ -295,8 +306,19 @@ run-refuses : (P : ℕ → ℕ → Type 0) (work spare : List ℕ) (j : Judged P
 run-refuses P work spare (accept p) h = accepts P tt
 run-refuses P work spare (refuse n k) h = refuses P n k (h n k refl)
 
+-- both group listings
+groups-refuse : (P : ℕ → ℕ → Type 0) → P 5 0 → P 10 0 → P 11 0 → P 14 0 → P 15 0 → P 33 0
+    → (ordered : Judged (Unit {0})) (mesh axes out : List ℕ) → Refuses P ordered → Refuses P (groupsBy ordered mesh axes out)
+unfolding groupsBy
+groups-refuse P p5 p10 p11 p14 p15 p33 ordered mesh axes out o =
+    tests P 0 (axesAllowed (length mesh)) 5 _ p5
+    (next P _ _ (sizes-refuse P mostDevices 10 11 1 mesh p10 p11)
+    (next P _ _ o
+    (next P _ _ (axes-refuse P (length mesh) false 0 [] axes p14 p15 refl)
+    (tests P 0 (leb (devices mesh) (length out)) 33 _ p33 (accepts P _)))))
+
 pub refusal-numbers : RefusalNumbers
-unfolding checkOf stateOf placeOf groupsOf runOf runnable mem
+unfolding checkOf stateOf placeOf groupsOf groupsOrderedOf runOf runnable mem
 refusal-numbers = record {
   check = λ file. bind (Numbered fileNumbers (stepCount file)) _ _ (judge-refuses fileNumbers (λ n i. i) file) (λ p. accepts _ _);
   place = λ file state device.
@@ -309,11 +331,14 @@ refusal-numbers = record {
       (λ s. tests P 0 (ltb device (devices (s .mesh))) 32 _ (listed numbers steps 32 tt) (accepts P _));
   groups = λ mesh axes out.
       let numbers : List ℕ = 5 ∷ 10 ∷ 11 ∷ 14 ∷ 15 ∷ 33 ∷ [] in
+      let own : (n : ℕ) → T (mem n numbers) → Numbered numbers 0 n 0 = listed numbers 0 in
+      groups-refuse (Numbered numbers 0) (own 5 tt) (own 10 tt) (own 11 tt) (own 14 tt) (own 15 tt) (own 33 tt) _ mesh axes out (accepts _ tt);
+  groups-ordered = λ mesh order axes out.
+      let numbers : List ℕ = 5 ∷ 10 ∷ 11 ∷ 19 ∷ 14 ∷ 15 ∷ 33 ∷ [] in
       let P : ℕ → ℕ → Type 0 = Numbered numbers 0 in
-      tests P 0 (axesAllowed (length mesh)) 5 _ (listed numbers 0 5 tt)
-      (next P _ _ (sizes-refuse P mostDevices 10 11 1 mesh (listed numbers 0 10 tt) (listed numbers 0 11 tt))
-      (next P _ _ (axes-refuse P (length mesh) false 0 [] axes (listed numbers 0 14 tt) (listed numbers 0 15 tt) refl)
-      (tests P 0 (leb (devices mesh) (length out)) 33 _ (listed numbers 0 33 tt) (accepts P _))));
+      let own : (n : ℕ) → T (mem n numbers) → P n 0 = listed numbers 0 in
+      groups-refuse P (own 5 tt) (own 10 tt) (own 11 tt) (own 14 tt) (own 15 tt) (own 33 tt) _ mesh axes out
+      (test P 0 (orderAllowed (devices mesh) order) 19 (own 19 tt));
   run = λ file work spare.
       let numbers : List ℕ = 30 ∷ 31 ∷ fileNumbers in
       let steps : ℕ = stepCount file in

@@ -1,5 +1,6 @@
 -- Demand 3: a plan's whole list of steps (`whole-plan`), from the judgement of its file alone; and that every table has a faithful spread under an
--- accepted plan's start (`spreadable`), in buffers with the plan's room (`startable`), which is limited (`room-limit`). Assumes nothing.
+-- accepted plan's start (`spreadable`), in buffers with the plan's room (`startable`), which is limited (`room-limit`); and that no step
+-- changes the list of replicated axes (`replicated-stays`). Assumes nothing.
 use Prim.Native.Nat.{ℕ, zero, suc, _+_, _-_, _*_, _/_, _%_, _<_, _≤_, _^_}
 use mathlib.Core.Path.{_≡_, refl, sym, ap, ap₂, _∙_, subst}
 use mathlib.Core.Logic.{⊎-elim, _↔_}
@@ -11,9 +12,9 @@ use lib.ListN.{length, getD, take, drop, replicate, length-append, length-replic
 use lib.Seq.{take-at, take-append-seam, length-take-le}
 use lib.Dec.{T, ltb, leb, ltb→lt, nltb→le, leb→le, le→leb, lit<}
 use Rattle.rules.specs.Lists.{each, inTurn, flat, product, In, Below}
-use Rattle.rules.specs.Mesh.{devices}
+use Rattle.rules.specs.Mesh.{devices, plainOrder, Rearrangement}
 use Rattle.rules.specs.Sharding.{Sharding, varying, shardSizes, IsSharding}
-use Rattle.rules.specs.Spread.{StateOf, Faithful, addWords, tabulate, held}
+use Rattle.rules.specs.Spread.{StateOf, Faithful, addWords, tabulateBy, heldBy}
 use Rattle.rules.specs.Collectives.{
   Step,
   allSlice,
@@ -34,10 +35,11 @@ use Rattle.rules.specs.Refusals.{Judged, accept, _>>_, _>>=_, need}
 use Rattle.rules.specs.PlanFile.{Plan, judge, judgeBy, announced, announcedShape, room}
 use Rattle.rules.specs.Calls.{shardsAfter, lastState, runnable, Ran, runLeaves, runOf}
 use Rattle.rules.specs.Ledger.{fileOf}
-use Rattle.rules.specs.Demands.{Words, Fits, SpreadAt, returned, startWords, WholePlan, Spreadable, Startable, RoomLimit}
+use Rattle.rules.specs.Demands.{Words, Fits, SpreadAt, returned, startWords, WholePlan, Spreadable, Startable, RoomLimit, ReplicatedStays}
 use Rattle.rules.proofs.Lists.{T?, T→true, in-left, in-right, distinct-split, length-tab, getD-tab}
 use Rattle.rules.proofs.Positions.{pos-of-lt, div-lt}
-use Rattle.rules.proofs.Buffers.{below-coords, held-tabulate, tabulate-held, length-tabulate}
+use Rattle.rules.proofs.Buffers.{below-coords}
+use Rattle.rules.proofs.Orders.{by-order, held-tabulate-by, tabulate-held-by, length-tabulate-by}
 use Rattle.rules.proofs.Sources.{WordsIn, step-words}
 use Rattle.rules.proofs.Spreads.{faithful-cong, slice-faithful, gather-faithful, all-to-all-faithful, reduce-faithful, spread-exists}
 use Rattle.rules.proofs.Judging.{never}
@@ -180,31 +182,31 @@ module _ {p : Plan} (a : AcceptedPlan p) where
 
   plan-spreads : (table : List ℕ → ℕ) (work : List ℕ) → Words work → SpreadAt p table 0 (shardsAfter p work 0 .words)
       → (k : ℕ) → SpreadAt p table k (shardsAfter p work k .words)
-  unfolding shardsAfter announcedShape announced held
+  unfolding shardsAfter announcedShape announced heldBy
   plan-spreads table work ws F k =
       steps-spread (p .mesh) (p .sizes) (a .within .sizes-pos) (take k (p .steps)) (p .start) table _ (a .start-is)
       (fine-take (p .mesh) (p .sizes) k (p .start) (p .steps) (a .fine)) refl (λ x i bx bi. ws _) F
 
   -- the buffer of the last state: its shape is the one announced last
-  pub last-buffer : (work : List ℕ) → lastState p work ≡ tabulate (p .mesh) (lastShape p) (lastWords p work)
+  pub last-buffer : (work : List ℕ) → lastState p work ≡ tabulateBy (p .order) (p .mesh) (lastShape p) (lastWords p work)
   unfolding lastState
-  last-buffer work = ap (λ (shape : List ℕ). tabulate (p .mesh) shape (lastWords p work)) (plan-shapes work (length (p .steps)))
+  last-buffer work = ap (λ (shape : List ℕ). tabulateBy (p .order) (p .mesh) shape (lastWords p work)) (plan-shapes work (length (p .steps)))
 
   pub last-length : (work : List ℕ) → length (lastState p work) ≡ devices (p .mesh) * product (lastShape p)
-  last-length work = ap length (last-buffer work) ∙ length-tabulate (p .mesh) (lastShape p) (lastWords p work)
+  last-length work = ap length (last-buffer work) ∙ length-tabulate-by (p .mesh) (p .order) (a .ordered) (lastShape p) (lastWords p work)
 
   -- with no steps it is that of the words given
   last-given : p .steps ≡ [] → (work : List ℕ) → room p ≤ length work → lastState p work ≡ take (startWords p) work
   unfolding lastState shardsAfter
   last-given none work f =
-      ap (λ (ts : List Step). tabulate (p .mesh) (go ts .shape) (go ts .words)) (ap (λ (ts : List Step). take (length ts) ts) none)
-      ∙ tabulate-held (p .mesh) (announcedShape p 0) 0 work (omega (arith, state a 0 .fits (omega arith), f))
+      ap (λ (ts : List Step). tabulateBy (p .order) (p .mesh) (go ts .shape) (go ts .words)) (ap (λ (ts : List Step). take (length ts) ts) none)
+      ∙ tabulate-held-by (p .mesh) (p .order) (a .ordered) (announcedShape p 0) 0 work (omega (arith, state a 0 .fits (omega arith), f))
     where
       go : List Step → Shards ℕ
-      go ts = inTurn (stepped addWords (p .mesh)) ts (record { shape = announcedShape p 0; words = held 0 (p .mesh) (announcedShape p 0) work })
+      go ts = inTurn (stepped addWords (p .mesh)) ts (record { shape = announcedShape p 0; words = heldBy 0 (p .order) (p .mesh) (announcedShape p 0) work })
 
   module _ (work : List ℕ) where
-    begins : shardsAfter p work 0 ≡ record { shape = announcedShape p 0; words = held 0 (p .mesh) (announcedShape p 0) work }
+    begins : shardsAfter p work 0 ≡ record { shape = announcedShape p 0; words = heldBy 0 (p .order) (p .mesh) (announcedShape p 0) work }
     unfolding shardsAfter
     begins = refl
 
@@ -229,8 +231,8 @@ module _ {p : Plan} (a : AcceptedPlan p) where
 
     holds : (x i : List ℕ) → Below x (p .mesh) → Below i (lastShape p) → returned p ran x i ≡ lastWords p work x i
     holds x i bx bi =
-        ap (λ (b : List ℕ). held 0 (p .mesh) (lastShape p) b x i) (work-left ∙ ap (λ (b : List ℕ). b ++ rest) (last-buffer work))
-        ∙ held-tabulate (p .mesh) (lastShape p) 0 (lastWords p work) rest bx bi
+        ap (λ (b : List ℕ). heldBy 0 (p .order) (p .mesh) (lastShape p) b x i) (work-left ∙ ap (λ (b : List ℕ). b ++ rest) (last-buffer work))
+        ∙ held-tabulate-by (p .mesh) (p .order) (a .ordered) (lastShape p) 0 (lastWords p work) rest bx bi
 
     stays : p .steps ≡ [] → take (startWords p) (ran .work) ≡ take (startWords p) work
     stays none =
@@ -269,13 +271,14 @@ getD-zeros (w ∷ l) n zero = refl
 getD-zeros (w ∷ l) n (suc j) = getD-zeros l n j
 
 -- the buffer of a state of words holds words
-tabulate-words : (mesh shape : List ℕ) (w : StateOf ℕ) → WordsIn mesh shape w → Words (tabulate mesh shape w)
-unfolding tabulate
-tabulate-words mesh shape w ws j = ⊎-elim
+tabulate-words : (order mesh : List ℕ) → Rearrangement (devices mesh) order → (shape : List ℕ) (w : StateOf ℕ) → WordsIn mesh shape w
+    → Words (tabulateBy order mesh shape w)
+unfolding tabulateBy
+tabulate-words order mesh r shape w ws j = ⊎-elim
     (λ t. let l : j < devices mesh * product shape = ltb→lt j (devices mesh * product shape) t in
     subst (λ z. z < 2 ^ 32) (sym (getD-tab (devices mesh * product shape) j _ 0 l))
-    (ws _ _ (below-coords mesh (j / product shape) (div-lt (devices mesh) (product shape) l)) (below-coords shape (j % product shape) (mod-lt j (pos-of-lt (devices mesh) (product shape) l)))))
-    (λ t. subst (λ z. z < 2 ^ 32) (sym (List·getD-eq-default (tabulate mesh shape w) 0 (subst (λ z. z ≤ j) (sym (length-tab (devices mesh * product shape) _)) (nltb→le j (devices mesh * product shape) t)))) (lit< tt))
+    (ws _ _ (by-order mesh order r .below (j / product shape) (div-lt (devices mesh) (product shape) l)) (below-coords shape (j % product shape) (mod-lt j (pos-of-lt (devices mesh) (product shape) l)))))
+    (λ t. subst (λ z. z < 2 ^ 32) (sym (List·getD-eq-default (tabulateBy order mesh shape w) 0 (subst (λ z. z ≤ j) (sym (length-tab (devices mesh * product shape) _)) (nltb→le j (devices mesh * product shape) t)))) (lit< tt))
     (T? (ltb j (devices mesh * product shape)))
 
 -- Every table of words has a faithful spread under an accepted plan's start, in a buffer of any length that holds it.
@@ -288,12 +291,12 @@ spreadable file p e table words len l =
     let v : Varies (p .mesh) (p .sizes) s = varies (p .mesh) (p .sizes) s (a .start-is) in
     let w : (w : StateOf ℕ) × WordsIn (p .mesh) shape w × Faithful addWords (p .mesh) s shape table w =
     spread-exists (p .mesh) s shape table (v .once) (λ b i. v .of-mesh b (in-right b (flat (s .dims)) (s .unreduced) i)) (λ x i bx bi. words _) in
-    let front : List ℕ = tabulate (p .mesh) shape (w .0) in
+    let front : List ℕ = tabulateBy (p .order) (p .mesh) shape (w .0) in
     let rest : List ℕ = replicate (len - startWords p) 0 in (
       front ++ rest,
-      length-append front rest ∙ omega (arith, length-tabulate (p .mesh) shape (w .0), length-replicate {A = ℕ} (len - startWords p) 0),
-      λ j. subst (λ z. z < 2 ^ 32) (sym (getD-zeros front (len - startWords p) j)) (tabulate-words (p .mesh) shape (w .0) (w .1) j),
-      faithful-cong (λ x i bx bi. sym (held-tabulate (p .mesh) shape 0 (w .0) rest bx bi)) (w .2),
+      length-append front rest ∙ omega (arith, length-tabulate-by (p .mesh) (p .order) (a .ordered) shape (w .0), length-replicate {A = ℕ} (len - startWords p) 0),
+      λ j. subst (λ z. z < 2 ^ 32) (sym (getD-zeros front (len - startWords p) j)) (tabulate-words (p .order) (p .mesh) (a .ordered) shape (w .0) (w .1) j),
+      faithful-cong (λ x i bx bi. sym (held-tabulate-by (p .mesh) (p .order) (a .ordered) shape 0 (w .0) rest bx bi)) (w .2),
     )
 
 -- and so in buffers with the plan's room
@@ -309,4 +312,22 @@ room-limit file p e = room-few (accepted file p e)
 -- 1,024 devices with all 65,536 words each have that room
 room-reached : (p : Plan) × (judge (fileOf (1024 ∷ []) (256 ∷ 256 ∷ []) ([] ∷ [] ∷ [] ∷ []) []) ≡ accept p) × (room p ≡ 67_108_864)
 unfolding fileOf judgeBy room
-room-reached = (record { mesh = 1024 ∷ []; sizes = 256 ∷ 256 ∷ []; start = record { dims = [] ∷ [] ∷ []; unreduced = []; replicated = [] }; steps = [] }, refl, refl)
+room-reached = (record { mesh = 1024 ∷ []; order = plainOrder 1024; sizes = 256 ∷ 256 ∷ []; start = record { dims = [] ∷ [] ∷ []; unreduced = []; replicated = [] }; steps = [] }, refl, refl)
+
+-- ---- the replicated list
+
+-- each kind of step leaves it
+kept-by : (t : Step) (s : Sharding) → after t s .replicated ≡ s .replicated
+unfolding after
+kept-by (allSlice Ss) s = refl
+kept-by (allGather Gs) s = refl
+kept-by (allReduce L) s = refl
+kept-by (allToAll source target L) s = refl
+
+pub replicated-stays : ReplicatedStays
+unfolding announced
+replicated-stays p k = go (take k (p .steps)) (p .start)
+  where
+    go : (ts : List Step) (s : Sharding) → inTurn after ts s .replicated ≡ s .replicated
+    go [] s = refl
+    go (t ∷ ts) s = go ts (after t s) ∙ kept-by t s

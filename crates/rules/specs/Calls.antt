@@ -1,4 +1,4 @@
--- Document 01, "Calls": what each of the four calls answers, and leaves in the memory lent to it, on any input; and the code's answers.
+-- Document 01, "Calls": what each of the calls answers, and leaves in the memory lent to it, on any input; and the code's answers.
 -- Assumes nothing.
 use Prim.Native.Nat.{ℕ, _+_, _-_}
 use mathlib.Core.Bool.{false}
@@ -6,13 +6,13 @@ use mathlib.Core.List.{List, [], _++_}
 use lib.ListN.{length, take, drop, replicate}
 use lib.Dec.{ltb, leb}
 use Rattle.rules.specs.Lists.{inTurn}
-use Rattle.rules.specs.Mesh.{devices, deviceCoords, listing}
+use Rattle.rules.specs.Mesh.{devices, plainOrder, deviceCoords, listing}
 use Rattle.rules.specs.Sharding.{Sharding, firstIndexes}
-use Rattle.rules.specs.Spread.{tabulate, held, addWords}
+use Rattle.rules.specs.Spread.{tabulateBy, heldBy, addWords}
 use Rattle.rules.specs.Collectives.{Shards, stepped}
 use Rattle.rules.specs.Limits.{mostDevices}
-use Rattle.rules.specs.Refusals.{Judged, accept, refuse, _>>=_, _>>_, need, refusedBy, refusalOf}
-use Rattle.rules.specs.PlanFile.{Plan, judge, judgeBy, axesAllowed, judgeSizes, judgeAxes, announced, announcedShape, room, stateOf}
+use Rattle.rules.specs.Refusals.{Judged, accept, refuse, _>>=_, _>>_, need, refusedAs, refusalOf}
+use Rattle.rules.specs.PlanFile.{Plan, judge, judgeBy, axesAllowed, judgeSizes, orderAllowed, judgeAxes, announced, announcedShape, room, stateOf}
 use Rattle.rules.specs.Types.{fourPlaces, shardingFrom, noLists}
 use Rattle.rules.specs.declared.Checked.{Checked}
 use Rattle.rules.specs.declared.CheckOutcome.the-variants as check
@@ -79,7 +79,7 @@ placeOf file state device = do
     rank = length (s .sizes);
     sharding = s .sharding;
     shard = s .shard;
-    first = firstIndexes (s .mesh) (s .sharding .dims) (s .shard) (deviceCoords (s .mesh) device);
+    first = firstIndexes (s .mesh) (s .sharding .dims) (s .shard) (deviceCoords (s .order) (s .mesh) device);
   })
 
 -- the answer of the code; first indexes are 0 where sizes are
@@ -99,42 +99,56 @@ placedOf (refuse n k) = record {
 
 -- ---- the group listing
 
--- "The group listing uses 5, 10, 11, 14, 15, 33 in that order, sizes and axes in turn as above." It answers D.
-unfoldable pub groupsOf : (mesh axes out : List ℕ) → Judged ℕ
+-- "The group listing uses 5, 10, 11, 14, 15, 33 in that order, sizes and axes in turn as above." It answers D. `ordered` is the test of an order.
+unfoldable pub groupsBy : (ordered : Judged (Unit {0})) → (mesh axes out : List ℕ) → Judged ℕ
 unfolding judgeSizes judgeAxes
-groupsOf mesh axes out = do
+groupsBy ordered mesh axes out = do
   need (axesAllowed (length mesh)) 5
   judgeSizes mostDevices 10 11 1 mesh
+  ordered
   judgeAxes (length mesh) false 0 [] axes
   need (leb (devices mesh) (length out)) 33
   accept (devices mesh)
 
 -- "It writes D device numbers .. Entries after the first D stay."
-abbrev pub groupsOut : Judged ℕ → (mesh axes out : List ℕ) → List ℕ
-groupsOut (accept d) mesh axes out = listing mesh axes ++ drop d out
-groupsOut (refuse n k) mesh axes out = out
+abbrev pub groupsOut : Judged ℕ → (order mesh axes out : List ℕ) → List ℕ
+groupsOut (accept d) order mesh axes out = listing order mesh axes ++ drop d out
+groupsOut (refuse n k) order mesh axes out = out
+
+unfoldable pub groupsOf : (mesh axes out : List ℕ) → Judged ℕ
+unfolding groupsBy
+groupsOf mesh axes out = groupsBy (accept tt) mesh axes out
 
 unfoldable pub groupsLeave : (mesh axes out : List ℕ) → List ℕ
 unfolding groupsOf listing
-groupsLeave mesh axes out = groupsOut (groupsOf mesh axes out) mesh axes out
+groupsLeave mesh axes out = groupsOut (groupsOf mesh axes out) (plainOrder (devices mesh)) mesh axes out
+
+-- Document 02, Ask 9: "The group listing gets a second call that takes an order; there .. 19 comes after 11, also where the order's length is not D."
+unfoldable pub groupsOrderedOf : (mesh order axes out : List ℕ) → Judged ℕ
+unfolding groupsBy orderAllowed
+groupsOrderedOf mesh order axes out = groupsBy (need (orderAllowed (devices mesh) order) 19) mesh axes out
+
+unfoldable pub groupsOrderedLeave : (mesh order axes out : List ℕ) → List ℕ
+unfolding groupsOrderedOf listing
+groupsOrderedLeave mesh order axes out = groupsOut (groupsOrderedOf mesh order axes out) order mesh axes out
 
 abbrev pub groupsMeaning : GroupsOutcome → Judged ℕ
 groupsMeaning (groups.Listed d) = accept d
-groupsMeaning (groups.Refused r) = refusedBy r
+groupsMeaning (groups.Refused r) = refusedAs r
 
 -- ---- the run
 
 -- "Before the first step each device has its shard from work, in the start's shard sizes. Each later step is given the shards that the step before it
 -- left.": the shards after k steps.
 unfoldable pub shardsAfter : Plan → List ℕ → ℕ → Shards ℕ
-unfolding announcedShape held stepped addWords
+unfolding announcedShape heldBy stepped addWords
 shardsAfter p work k =
-    inTurn (stepped addWords (p .mesh)) (take k (p .steps)) (record { shape = announcedShape p 0; words = held 0 (p .mesh) (announcedShape p 0) work })
+    inTurn (stepped addWords (p .mesh)) (take k (p .steps)) (record { shape = announcedShape p 0; words = heldBy 0 (p .order) (p .mesh) (announcedShape p 0) work })
 
 -- the buffer of the shards that the last step left
 unfoldable pub lastState : Plan → List ℕ → List ℕ
-unfolding shardsAfter tabulate
-lastState p work = tabulate (p .mesh) (shardsAfter p work (length (p .steps)) .shape) (shardsAfter p work (length (p .steps)) .words)
+unfolding shardsAfter tabulateBy
+lastState p work = tabulateBy (p .order) (p .mesh) (shardsAfter p work (length (p .steps)) .shape) (shardsAfter p work (length (p .steps)) .words)
 
 -- "The run takes a file and two lent buffers, work and spare." "Then .. 30, 31."
 unfoldable pub runnable : List ℕ → (work spare : List ℕ) → Judged Plan
@@ -167,4 +181,4 @@ runOf file work spare = runLeaves (runnable file work spare) work spare
 
 abbrev pub runMeaning : RunOutcome → Judged (Unit {0})
 runMeaning run.Finished = accept tt
-runMeaning (run.Refused r) = refusedBy r
+runMeaning (run.Refused r) = refusedAs r

@@ -1,6 +1,6 @@
--- What the rules promise of themselves: demand 3 over an accepted plan's whole list of steps, that it speaks of something, the room's limit, the
--- numbers of refusals, the locality of one step, and what groups and sums of words are. These are statements; proofs/Whole.antt, Refusing.antt,
--- Locality.antt, Groups.antt and Sums.antt prove them. Assumes nothing.
+-- What the rules promise of themselves: demand 3 over an accepted plan's whole list of steps, that it speaks of something, the room's limit, that the
+-- replicated list stays, the numbers of refusals, the locality of one step, and what groups and sums of words are. These are statements;
+-- proofs/Whole.antt, Refusing.antt, Locality.antt, Groups.antt and Sums.antt prove them. Assumes nothing.
 use Prim.Native.Nat.{ℕ, _+_, _*_, _%_, _≤_, _<_, _^_}
 use mathlib.Core.Path.{_≡_}
 use mathlib.Core.Logic.{_↔_, _⊎_}
@@ -8,12 +8,12 @@ use mathlib.Core.List.{List, [], _∷_}
 use lib.ListN.{length, getD, take, drop}
 use Rattle.rules.specs.Lists.{tab, product, total, In, Distinct, All, Below}
 use Rattle.rules.specs.Mesh.{devices, SameGroup, IsGroup}
-use Rattle.rules.specs.Spread.{StateOf, Faithful, addWords, held}
+use Rattle.rules.specs.Spread.{StateOf, Faithful, addWords, heldBy}
 use Rattle.rules.specs.Sharding.{IsSharding}
 use Rattle.rules.specs.Collectives.{Step, stepAxes, WithoutRemainder, stepped}
 use Rattle.rules.specs.Refusals.{accept, refuse}
 use Rattle.rules.specs.PlanFile.{stepCount, Plan, judge, announced, announcedShape, room}
-use Rattle.rules.specs.Calls.{checkOf, placeOf, groupsOf, shardsAfter, lastState, Ran, runOf}
+use Rattle.rules.specs.Calls.{checkOf, placeOf, groupsOf, groupsOrderedOf, shardsAfter, lastState, Ran, runOf}
 
 -- ---- demand 3
 
@@ -31,7 +31,7 @@ SpreadAt p table k w = Faithful addWords (p .mesh) (announced p k) (announcedSha
 
 -- the words that work begins with after a run, as a state in the shape announced last
 abbrev pub returned : Plan → Ran → StateOf ℕ
-returned p ran = held 0 (p .mesh) (announcedShape p (length (p .steps))) (ran .work)
+returned p ran = heldBy 0 (p .order) (p .mesh) (announcedShape p (length (p .steps))) (ran .work)
 
 -- the words of the start's state
 abbrev pub startWords : Plan → ℕ
@@ -47,7 +47,7 @@ pub record Demand3 (p : Plan) (work spare : List ℕ) (ran : Ran) : Type 0 where
   -- every announced sharding is one: no axis twice, and each dimension divides without remainder
   pub shardings : (k : ℕ) → k ≤ length (p .steps) → IsSharding (p .mesh) (p .sizes) (announced p k)
   -- "Before the first step each device has its shard from work, in the start's shard sizes."
-  pub starts : shardsAfter p work 0 ≡ record { shape = announcedShape p 0; words = held 0 (p .mesh) (announcedShape p 0) work }
+  pub starts : shardsAfter p work 0 ≡ record { shape = announcedShape p 0; words = heldBy 0 (p .order) (p .mesh) (announcedShape p 0) work }
   -- "Each later step is given the shards that the step before it left."
   pub in-order : (k : ℕ) (t : Step) (rest : List Step) → drop k (p .steps) ≡ t ∷ rest
       → shardsAfter p work (k + 1) ≡ stepped addWords (p .mesh) t (shardsAfter p work k)
@@ -88,11 +88,15 @@ Startable =
 abbrev pub RoomLimit : Type 0
 RoomLimit = (file : List ℕ) (p : Plan) → judge file ≡ accept p → room p ≤ 67_108_864
 
+-- 02, Ask 3: "No step changes the list": of every plan, after any number of its steps
+abbrev pub ReplicatedStays : Type 0
+ReplicatedStays = (p : Plan) (k : ℕ) → announced p k .replicated ≡ p .start .replicated
+
 -- ---- refusals
 
 -- the numbers of a file's refusals outside its steps, and inside them
 abbrev pub fileNumbers : List ℕ
-fileNumbers = tab 18 (λ i. i + 1)
+fileNumbers = tab 19 (λ i. i + 1)
 
 abbrev pub stepNumbers : List ℕ
 stepNumbers = tab 9 (λ i. i + 20)
@@ -102,11 +106,13 @@ stepNumbers = tab 9 (λ i. i + 20)
 abbrev pub Numbered : (numbers : List ℕ) → (steps n k : ℕ) → Type 0
 Numbered numbers steps n k = (In n numbers × (k ≡ 0)) ⊎ (In n stepNumbers × (1 ≤ k) × (k ≤ steps))
 
--- the refusals of the four calls, on any input
+-- the refusals of the calls, on any input
 pub record RefusalNumbers : Type 0 where
   pub check : (file : List ℕ) (n k : ℕ) → checkOf file ≡ refuse n k → Numbered fileNumbers (stepCount file) n k
   pub place : (file : List ℕ) (state device n k : ℕ) → placeOf file state device ≡ refuse n k → Numbered (32 ∷ 34 ∷ fileNumbers) (stepCount file) n k
   pub groups : (mesh axes out : List ℕ) (n k : ℕ) → groupsOf mesh axes out ≡ refuse n k → Numbered (5 ∷ 10 ∷ 11 ∷ 14 ∷ 15 ∷ 33 ∷ []) 0 n k
+  pub groups-ordered : (mesh order axes out : List ℕ) (n k : ℕ) → groupsOrderedOf mesh order axes out ≡ refuse n k
+      → Numbered (5 ∷ 10 ∷ 11 ∷ 19 ∷ 14 ∷ 15 ∷ 33 ∷ []) 0 n k
   pub run : (file work spare : List ℕ) (n k : ℕ) → runOf file work spare .outcome ≡ refuse n k → Numbered (30 ∷ 31 ∷ fileNumbers) (stepCount file) n k
 
 -- ---- one step, groups, sums

@@ -8,7 +8,7 @@ use mathlib.Core.List.{List, [], _∷_, _++_}
 use lib.ListN.{length, replicate}
 use Rattle.rules.specs.Lists.{tab, flat, All, done, _&_}
 use Rattle.rules.specs.Refusals.{Judged, accept, refuse}
-use Rattle.rules.specs.Calls.{CheckAnswer, checkOf, PlaceAnswer, placeOf, groupsOf, groupsLeave, Ran, runOf}
+use Rattle.rules.specs.Calls.{CheckAnswer, checkOf, PlaceAnswer, placeOf, groupsOf, groupsLeave, groupsOrderedOf, groupsOrderedLeave, Ran, runOf}
 
 -- ---- files
 
@@ -21,17 +21,18 @@ abbrev pub listBytes : List (List ℕ) → List ℕ
 listBytes [] = []
 listBytes (L ∷ Ls) = length L ∷ (L ++ listBytes Ls)
 
--- The bytes of the file of an edition that has the mesh, the table's sizes, the start's lists (one for each dimension, the unreduced one, and the
--- replicated one where the edition carries it) and the steps, each step as its own bytes. The header follows from these, whatever they are: a file
--- that breaks a rule is made like any other.
-unfoldable pub fileIn : (edition : ℕ) → (mesh sizes : List ℕ) → (lists steps : List (List ℕ)) → List ℕ
-fileIn edition mesh sizes lists steps =
-    let tensorAt = 18 + 2 * length mesh in
+-- The bytes of the file of an edition that has the mesh, the order of its devices (none where the edition carries no order), the table's sizes, the
+-- start's lists (one for each dimension, the unreduced one, and the replicated one where the edition carries it) and the steps, each step as its own
+-- bytes. The header follows from these, whatever they are: a file that breaks a rule is made like any other.
+unfoldable pub fileIn : (edition : ℕ) → (mesh order sizes : List ℕ) → (lists steps : List (List ℕ)) → List ℕ
+fileIn edition mesh order sizes lists steps =
+    let tensorAt = 18 + 2 * length mesh + 2 * length order in
     let shardingAt = tensorAt + 2 * length sizes in
     let stepsAt = shardingAt + length (listBytes lists) in
     let end = stepsAt + length (flat steps) in
     u16Bytes (edition ∷ length mesh ∷ length sizes ∷ length steps ∷ 18 ∷ tensorAt ∷ shardingAt ∷ stepsAt ∷ end ∷ [])
     ++ u16Bytes mesh
+    ++ u16Bytes order
     ++ u16Bytes sizes
     ++ listBytes lists
     ++ flat steps
@@ -39,7 +40,7 @@ fileIn edition mesh sizes lists steps =
 -- a file of edition 1
 unfoldable pub fileOf : (mesh sizes : List ℕ) → (lists steps : List (List ℕ)) → List ℕ
 unfolding fileIn
-fileOf mesh sizes lists steps = fileIn 1 mesh sizes lists steps
+fileOf mesh sizes lists steps = fileIn 1 mesh [] sizes lists steps
 
 -- W1, as 01 prints it
 abbrev pub w1 : List ℕ
@@ -75,17 +76,22 @@ pub record Listed : Type 0 where
 abbrev pub listedOf : (mesh axes out : List ℕ) → Listed
 listedOf mesh axes out = record { outcome = groupsOf mesh axes out; out = groupsLeave mesh axes out }
 
+abbrev pub orderedOf : (mesh order axes out : List ℕ) → Listed
+orderedOf mesh order axes out = record { outcome = groupsOrderedOf mesh order axes out; out = groupsOrderedLeave mesh order axes out }
+
 -- A worked call: what it is given, then what it answers and leaves.
 pub data Case : Type 0 where
   checked : (file : List ℕ) → Judged CheckAnswer → Case
   placed : (file : List ℕ) → (state device : ℕ) → Judged PlaceAnswer → Case
   listed : (mesh axes out : List ℕ) → Listed → Case
+  ordered : (mesh order axes out : List ℕ) → Listed → Case
   ran : (file work spare : List ℕ) → Ran → Case
 
 abbrev pub Holds : Case → Type 0
 Holds (checked file a) = checkOf file ≡ a
 Holds (placed file state device a) = placeOf file state device ≡ a
 Holds (listed mesh axes out a) = listedOf mesh axes out ≡ a
+Holds (ordered mesh order axes out a) = orderedOf mesh order axes out ≡ a
 Holds (ran file work spare a) = runOf file work spare ≡ a
 
 -- the check passes, with these answers; the placement finds these

@@ -15,6 +15,7 @@ pub mod Ledger
 pub mod WorkedRefusals
 pub mod WorkedEditions
 pub mod WorkedLimits
+pub mod WorkedOrders
 pub mod WorkedAnswers
 pub mod WorkedPlaces
 pub mod Promises

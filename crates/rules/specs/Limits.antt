@@ -31,9 +31,9 @@ leastBytes = 18
 abbrev pub mostBytes : ℕ
 mostBytes = 8192
 
--- the latest edition of plan files: "Refusal 3 now means neither 1 nor 2" (document 02, Ask 3)
+-- the latest edition of plan files: "Refusal 3 now means none of 1, 2 and 3" (document 02, Ask 9)
 abbrev pub latestEdition : ℕ
-latestEdition = 2
+latestEdition = 3
 
 -- What a reader of plan files takes. Later readers take more (document 02); each is an instance of the one judgement (PlanFile).
 pub record Reader : Type 0 where

@@ -7,7 +7,8 @@ use Prim.Native.Nat.{ℕ, _+_, _*_, _/_, _%_, _<_, _≤_}
 use mathlib.Core.Path.{_≡_}
 use mathlib.Core.List.{List, [], _∷_, map}
 use lib.ListN.{length, getD, set, replicate}
-use Rattle.rules.specs.Lists.{tab, flat, product, without, In, Below}
+use lib.Dec.{eqb}
+use Rattle.rules.specs.Lists.{tab, pick, flat, product, without, In, Below}
 use Rattle.rules.specs.Limits.{mostAxes, mostDevices}
 
 -- The row-major number of coordinates under sizes, the last fastest; and the coordinates that have a number.
@@ -20,13 +21,22 @@ abbrev pub coords : List ℕ → ℕ → List ℕ
 coords [] k = []
 coords (n ∷ ns) k = k / product ns ∷ coords ns (k % product ns)
 
--- "A device has one coordinate along each axis. Its number is the row-major number of its coordinates, the last axis fastest."
--- `Below x mesh` says that x is a device of the mesh.
-abbrev pub deviceNumber : List ℕ → List ℕ → ℕ
-deviceNumber mesh x = number mesh x
+-- "A device has one coordinate along each axis. Its number is the row-major number of its coordinates, the last axis fastest." `Below x mesh` says that
+-- x is a device of the mesh. Document 02, Ask 9: an order has "the device at each coordinate tuple in row-major order"; "Device number now means the
+-- listed id, in buffers, groups and placements." The row-major number is then the device's place. "Editions 1 and 2 keep plain order."
+abbrev pub plainOrder : ℕ → List ℕ
+plainOrder n = tab n (λ d. d)
 
-abbrev pub deviceCoords : List ℕ → ℕ → List ℕ
-deviceCoords mesh d = coords mesh d
+-- the first place of a number in a list, its length where it is not there
+abbrev pub placeIn : ℕ → List ℕ → ℕ
+placeIn d [] = 0
+placeIn d (e ∷ l) = pick (eqb d e) 0 (placeIn d l + 1)
+
+abbrev pub deviceNumber : (order mesh x : List ℕ) → ℕ
+deviceNumber order mesh x = getD order (number mesh x) 0
+
+abbrev pub deviceCoords : (order mesh : List ℕ) → ℕ → List ℕ
+deviceCoords order mesh d = coords mesh (placeIn d order)
 
 -- "D is the product of the sizes."
 abbrev pub devices : List ℕ → ℕ
@@ -85,9 +95,18 @@ unfolding members remaining
 firsts mesh L = members mesh (remaining mesh L) (replicate (length mesh) 0)
 
 -- "It writes D device numbers: groups in row-major order of the remaining axes, devices by position inside each group."
-unfoldable pub listing : List ℕ → List ℕ → List ℕ
+unfoldable pub grouped : (mesh L : List ℕ) → List (List ℕ)
 unfolding firsts members
-listing mesh L = map (deviceNumber mesh) (flat (map (members mesh L) (firsts mesh L)))
+grouped mesh L = flat (map (members mesh L) (firsts mesh L))
+
+unfoldable pub listing : (order mesh L : List ℕ) → List ℕ
+unfolding grouped
+listing order mesh L = map (deviceNumber order mesh) (grouped mesh L)
+
+-- the same by place, as the code lists them before it looks numbers up
+unfoldable pub placesListed : (mesh L : List ℕ) → List ℕ
+unfolding grouped
+placesListed mesh L = map (number mesh) (grouped mesh L)
 
 -- "The D numbers are a rearrangement of 0 to D-1.": the list has n entries, each is below n, none is there twice, and each number below n is there.
 pub record Rearrangement (n : ℕ) (l : List ℕ) : Type 0 where

@@ -7,7 +7,7 @@ use mathlib.Core.List.{List, [], _∷_}
 use lib.ListN.{length, getD, take, drop}
 use lib.Dec.{ltb, leb, eqb}
 use Rattle.rules.specs.Lists.{tab, both, flat, pick, inTurn, product, largest, mem}
-use Rattle.rules.specs.Mesh.{devices}
+use Rattle.rules.specs.Mesh.{devices, plainOrder}
 use Rattle.rules.specs.Sharding.{Sharding, varying, named, divisible, shardSizes}
 use Rattle.rules.specs.Collectives.{Step, allSlice, allGather, allReduce, allToAll, stepAxes, only, sliced, gathered, reduced, after}
 use Rattle.rules.specs.Limits.{mostAxes, mostDims, mostSteps, leastBytes, Reader, present}
@@ -81,6 +81,24 @@ judgeHeaderBy r file = do
 abbrev pub judgeHeader : List ℕ → Judged (Unit {0})
 judgeHeader file = judgeHeaderBy present file
 
+-- ---- tests of a list, for 19 and the tests of a step
+
+-- each is below n; each is none of those before, nor of those earlier in the list; two lists are the same
+unfoldable pub allBelow : ℕ → List ℕ → Bool
+allBelow n [] = true
+allBelow n (a ∷ L) = ltb a n && allBelow n L
+
+unfoldable pub fresh : List ℕ → List ℕ → Bool
+unfolding mem
+fresh before [] = true
+fresh before (a ∷ L) = not (mem a before) && fresh (a ∷ before) L
+
+unfoldable pub same : List ℕ → List ℕ → Bool
+same [] [] = true
+same [] (b ∷ M) = false
+same (a ∷ L) [] = false
+same (a ∷ L) (b ∷ M) = eqb a b && same L M
+
 -- ---- mesh and tensor sizes
 
 -- "each size in turn (zero, then running product)"
@@ -100,21 +118,48 @@ sizesAt most ifZero ifOver count offset file at = do
   judgeSizes most ifZero ifOver 1 (tab count (λ i. u16At file (at + 2 * i)))
   accept (record { value = tab count (λ i. u16At file (at + 2 * i)); next = at + 2 * count })
 
--- the sizes of mesh and table
+-- ---- the order of the devices
+
+-- Document 02, Ask 9: "They are a rearrangement of 0 to D-1 other than the plain one, else 19"
+unfoldable pub rearranges : ℕ → List ℕ → Bool
+unfolding allBelow fresh
+rearranges n l = eqb (length l) n && (allBelow n l && fresh [] l)
+
+unfoldable pub orderAllowed : ℕ → List ℕ → Bool
+unfolding rearranges same
+orderAllowed n l = rearranges n l && not (same l (plainOrder n))
+
+-- "Edition 3 files hold, right after the mesh sizes, D 16-bit device numbers", "tested after 11 and after 7 for these bytes. .. Editions 1 and 2 keep
+-- plain order."
+abbrev pub carriesOrder : (edition : ℕ) → Bool
+carriesOrder e = leb 3 e
+
+unfoldable pub orderAt : (carried : Bool) → (devices : ℕ) → List ℕ → ℕ → Judged (Read (List ℕ))
+unfolding u16At orderAllowed
+orderAt true n file at = do
+  need (leb (at + 2 * n) (length file)) 7
+  need (orderAllowed n (tab n (λ i. u16At file (at + 2 * i)))) 19
+  accept (record { value = tab n (λ i. u16At file (at + 2 * i)); next = at + 2 * n })
+orderAt false n file at = accept (record { value = plainOrder n; next = at })
+
+-- the sizes of mesh and table, and the order of the devices
 pub record MeshAndTable : Type 0 where
   pub mesh : List ℕ
+  pub order : List ℕ
   pub sizes : List ℕ
 
--- "the mesh sizes start at 18": the mesh section of n sizes, then the tensor section of one size per dimension
-unfoldable pub meshAndTableAtBy : Reader → (n rank : ℕ) → List ℕ → Judged (Read MeshAndTable)
-unfolding u16At sizesAt
-meshAndTableAtBy r n rank file = do
+-- "the mesh sizes start at 18": the mesh section of n sizes, with the order where the edition carries one, then the tensor section of one size per
+-- dimension
+unfoldable pub meshAndTableAtBy : Reader → (carried : Bool) → (n rank : ℕ) → List ℕ → Judged (Read MeshAndTable)
+unfolding u16At sizesAt orderAt
+meshAndTableAtBy r carried n rank file = do
   m ← sizesAt (r .devices) 10 11 n (meshOffset file) file 18
-  t ← sizesAt (r .words) 12 13 rank (tensorOffset file) file (m .next)
-  accept (record { value = record { mesh = m .value; sizes = t .value }; next = t .next })
+  o ← orderAt carried (devices (m .value)) file (m .next)
+  t ← sizesAt (r .words) 12 13 rank (tensorOffset file) file (o .next)
+  accept (record { value = record { mesh = m .value; order = o .value; sizes = t .value }; next = t .next })
 
-abbrev pub meshAndTableAt : (n rank : ℕ) → List ℕ → Judged (Read MeshAndTable)
-meshAndTableAt n rank file = meshAndTableAtBy present n rank file
+abbrev pub meshAndTableAt : (carried : Bool) → (n rank : ℕ) → List ℕ → Judged (Read MeshAndTable)
+meshAndTableAt carried n rank file = meshAndTableAtBy present carried n rank file
 
 -- ---- axis lists
 
@@ -137,7 +182,8 @@ listsAt n (suc rank) file at = do
 
 -- ---- the starting sharding
 
--- "Edition 2 files carry it right after the unreduced list", the list of explicitly replicated axes; "Edition 1 reads as an empty list."
+-- "Edition 2 files carry it right after the unreduced list", the list of explicitly replicated axes; "Edition 1 reads as an empty list." "The replicated
+-- list is present in edition 3 and may be empty" (Ask 9).
 abbrev pub carriesReplicated : (edition : ℕ) → Bool
 carriesReplicated e = leb 2 e
 
@@ -185,7 +231,7 @@ abbrev pub some : List ℕ → Bool
 some [] = false
 some (a ∷ L) = true
 
--- 18: "an empty one in edition 2 is refused .., so that one meaning keeps one file"
+-- 18: "an empty one in edition 2 is refused .., so that one meaning keeps one file"; "18 is for edition 2 only" (Ask 9)
 abbrev pub oneMeaning : (edition : ℕ) → (replicated : List ℕ) → Bool
 oneMeaning e L = not (eqb e 2) || some L
 
@@ -222,24 +268,7 @@ stepAt n rank k file at = do
 
 -- ---- the tests of a step, each over all that it names; a refusal is one number, so the order inside a test cannot be seen
 
--- 22: "an axis number is not below n"
-unfoldable pub allBelow : ℕ → List ℕ → Bool
-allBelow n [] = true
-allBelow n (a ∷ L) = ltb a n && allBelow n L
-
--- 23: "the axis is not replicated, or was named earlier in this step": it is none of those named before
-unfoldable pub fresh : List ℕ → List ℕ → Bool
-unfolding mem
-fresh before [] = true
-fresh before (a ∷ L) = not (mem a before) && fresh (a ∷ before) L
-
 -- 24: "gathered list is not the tail"
-unfoldable pub same : List ℕ → List ℕ → Bool
-same [] [] = true
-same [] (b ∷ M) = false
-same (a ∷ L) [] = false
-same (a ∷ L) (b ∷ M) = eqb a b && same L M
-
 abbrev pub isTail : List ℕ → List ℕ → Bool
 isTail d G = same (drop (length d - length G) d) G
 
@@ -316,6 +345,7 @@ stepsAt mesh sizes k (suc count) file at s = do
 -- what stands before the steps, and where they begin
 pub record Front : Type 0 where
   pub mesh : List ℕ
+  pub order : List ℕ
   pub sizes : List ℕ
   pub start : Sharding
   pub next : ℕ
@@ -325,19 +355,20 @@ unfoldable pub judgeFrontBy : Reader → List ℕ → Judged Front
 unfolding u16At judgeHeaderBy meshAndTableAtBy shardingAt judgeStart
 judgeFrontBy r file = do
   judgeHeaderBy r file
-  m ← meshAndTableAtBy r (axisCount file) (rankCount file) file
+  m ← meshAndTableAtBy r (carriesOrder (edition file)) (axisCount file) (rankCount file) file
   s ← shardingAt (carriesReplicated (edition file)) (axisCount file) (rankCount file) (shardingOffset file) file (m .next)
   need (eqb (stepsOffset file) (s .next)) 6
   judgeStart (m .value .mesh) (m .value .sizes) (s .value)
   need (oneMeaning (edition file) (s .value .replicated)) 18
-  accept (record { mesh = m .value .mesh; sizes = m .value .sizes; start = s .value; next = s .next })
+  accept (record { mesh = m .value .mesh; order = m .value .order; sizes = m .value .sizes; start = s .value; next = s .next })
 
 abbrev pub judgeFront : List ℕ → Judged Front
 judgeFront file = judgeFrontBy present file
 
--- "A plan names a device mesh, a table (tensor), a starting sharding and a list of collectives."
+-- "A plan names a device mesh, a table (tensor), a starting sharding and a list of collectives." The mesh has an order of its devices.
 pub record Plan : Type 0 where
   pub mesh : List ℕ
+  pub order : List ℕ
   pub sizes : List ℕ
   pub start : Sharding
   pub steps : List Step
@@ -349,7 +380,7 @@ judgeBy r file = do
   f ← judgeFrontBy r file
   ts ← stepsAt (f .mesh) (f .sizes) 1 (stepCount file) file (f .next) (f .start)
   need (eqb (ts .next) (length file)) 9
-  accept (record { mesh = f .mesh; sizes = f .sizes; start = f .start; steps = ts .value })
+  accept (record { mesh = f .mesh; order = f .order; sizes = f .sizes; start = f .start; steps = ts .value })
 
 abbrev pub judge : List ℕ → Judged Plan
 judge file = judgeBy present file
@@ -378,6 +409,7 @@ room p = devices (p .mesh) * largestShard p
 -- a state: what the plan announces after so many steps
 pub record StateAnswer : Type 0 where
   pub mesh : List ℕ
+  pub order : List ℕ
   pub sizes : List ℕ
   pub sharding : Sharding
   pub shard : List ℕ
@@ -388,4 +420,4 @@ unfolding judgeBy announced announcedShape
 stateOf file k = do
   p ← judge file
   need (leb k (length (p .steps))) 34
-  accept (record { mesh = p .mesh; sizes = p .sizes; sharding = announced p k; shard = announcedShape p k })
+  accept (record { mesh = p .mesh; order = p .order; sizes = p .sizes; sharding = announced p k; shard = announcedShape p k })

@@ -7,9 +7,9 @@ use mathlib.Core.List.{List}
 use lib.ListN.{length, take, drop}
 use Rattle.rules.specs.Lists.{All}
 use Rattle.rules.specs.Mesh.{devices, Rearrangement}
-use Rattle.rules.specs.Refusals.{accept, refuse}
+use Rattle.rules.specs.Refusals.{Judged, accept, refuse}
 use Rattle.rules.specs.PlanFile.{Plan, judge}
-use Rattle.rules.specs.Calls.{CheckAnswer, checkOf, checkedOf, placeOf, placedOf, groupsOf, groupsLeave, groupsMeaning, runOf, runMeaning}
+use Rattle.rules.specs.Calls.{CheckAnswer, checkOf, checkedOf, placeOf, placedOf, groupsOf, groupsLeave, groupsOrderedOf, groupsOrderedLeave, groupsMeaning, runOf, runMeaning}
 use Rattle.rules.specs.Readers.{ReadersCompared, EarlierLimits, EarlierEditions}
 use Rattle.rules.specs.Demands.{
   Demand3,
@@ -17,6 +17,7 @@ use Rattle.rules.specs.Demands.{
   Spreadable,
   Startable,
   RoomLimit,
+  ReplicatedStays,
   RefusalNumbers,
   Locality,
   GroupByPosition,
@@ -25,7 +26,8 @@ use Rattle.rules.specs.Demands.{
 use Rattle.rules.specs.Ledger.{Holds, ledger, beside as besideIt}
 use Rattle.rules.specs.WorkedRefusals.{refusals}
 use Rattle.rules.specs.WorkedLimits.{limits, Earlier}
-use Rattle.rules.specs.WorkedEditions.{editions, FirstEdition}
+use Rattle.rules.specs.WorkedEditions.{editions, FirstEdition, Unequal, NoSharding}
+use Rattle.rules.specs.WorkedOrders.{orders, SecondEdition}
 use Rattle.rules.specs.declared.Refusal.{Refusal}
 use Rattle.rules.specs.declared.Checked.{Checked}
 use Rattle.rules.specs.declared.Placed.{Placed}
@@ -48,14 +50,21 @@ PlacePromise file state device r = r ≡ placedOf (placeOf file state device)
 -- ---- the group listing
 
 -- Its answer and what it leaves are the definition's. "The D numbers are a rearrangement of 0 to D-1." "Entries after the first D stay." After a
--- refusal all entries are as they were.
-pub record GroupsPromise (mesh axes out : List ℕ) (r : GroupsOutcome) (outAfter : List ℕ) : Type 0 where
-  pub answers : groupsMeaning r ≡ groupsOf mesh axes out
-  pub leaves : outAfter ≡ groupsLeave mesh axes out
+-- refusal all entries are as they were. Of both calls, without an order and with one.
+pub record ListingPromise (answer : Judged ℕ) (left mesh out : List ℕ) (r : GroupsOutcome) (outAfter : List ℕ) : Type 0 where
+  pub answers : groupsMeaning r ≡ answer
+  pub leaves : outAfter ≡ left
   pub all : (d : ℕ) → groupsMeaning r ≡ accept d → d ≡ devices mesh
   pub rearranged : (d : ℕ) → groupsMeaning r ≡ accept d → Rearrangement d (take d outAfter)
   pub stay : (d : ℕ) → groupsMeaning r ≡ accept d → drop d outAfter ≡ drop d out
   pub refused : (n k : ℕ) → groupsMeaning r ≡ refuse n k → outAfter ≡ out
+
+abbrev pub GroupsPromise : (mesh axes out : List ℕ) → GroupsOutcome → (outAfter : List ℕ) → Type 0
+GroupsPromise mesh axes out r outAfter = ListingPromise (groupsOf mesh axes out) (groupsLeave mesh axes out) mesh out r outAfter
+
+abbrev pub GroupsOrderedPromise : (mesh order axes out : List ℕ) → GroupsOutcome → (outAfter : List ℕ) → Type 0
+GroupsOrderedPromise mesh order axes out r outAfter =
+    ListingPromise (groupsOrderedOf mesh order axes out) (groupsOrderedLeave mesh order axes out) mesh out r outAfter
 
 -- ---- the run
 
@@ -76,13 +85,15 @@ pub record RunPromise (file work spare : List ℕ) (outcome : RunOutcome) (workA
 
 -- ---- what the rules promise of themselves
 
--- Demand 3 for every plan that passes, and that it speaks of something; the room's limit; the numbers of refusals; what readers that take less answer;
--- a step's locality; what a group and a sum of words are; the ledger W1 to W10, and cases beside it; a file or a call for each refusal number; each limit from both sides.
+-- Demand 3 for every plan that passes, and that it speaks of something; the room's limit; that the replicated list stays; the numbers of refusals;
+-- what readers that take less answer; a step's locality; what a group and a sum of words are; the ledger W1 to W10, and cases beside it; a file or a
+-- call for each refusal number; each limit from both sides; files of the later editions.
 pub record RulesPromise : Type 1 where
   pub whole-plan : WholePlan
   pub spreadable : Spreadable
   pub startable : Startable
   pub room-limit : RoomLimit
+  pub replicated-stays : ReplicatedStays
   pub refusal-numbers : RefusalNumbers
   pub readers-compared : ReadersCompared
   pub earlier-limits : EarlierLimits
@@ -97,3 +108,7 @@ pub record RulesPromise : Type 1 where
   pub earlier : Earlier
   pub in-editions : All Holds editions
   pub first-edition : FirstEdition
+  pub unequal : Unequal
+  pub no-sharding : NoSharding
+  pub ordered : All Holds orders
+  pub second-edition : SecondEdition

@@ -40,7 +40,7 @@ abbrev pub ReadersCompared : Type 0
 ReadersCompared = (r s : Reader) → Narrower r s → KeepsPlans r s × MeetsTests r s
 
 -- The reader with the limits of document 01 itself, "D at most 256", "table at most 4,096 words", "file 18 to 4,096 bytes". What
--- later readers take besides is as the present one takes it. No accepted file is longer than 753 bytes while a plan has at most 64 steps, so that 2
+-- later readers take besides is as the present one takes it. No accepted file is longer than 2,802 bytes while a plan has at most 64 steps, so that 2
 -- is met only by a reader with a smaller limit than that.
 abbrev pub original : Reader
 original = record { devices = 256; words = 4096; bytes = 4096; editions = latestEdition }

@@ -25,6 +25,7 @@ use Rattle.rules.specs.declared.Reason.the-variants.{
   StartNotIncreasing,
   StartNotDivisible,
   ReplicatedEmpty,
+  WrongOrder,
   UnknownKind,
   NoAxis,
   AxisTooLarge,
@@ -61,6 +62,7 @@ numberOf StartAxisRepeated = 15
 numberOf StartNotIncreasing = 16
 numberOf StartNotDivisible = 17
 numberOf ReplicatedEmpty = 18
+numberOf WrongOrder = 19
 numberOf UnknownKind = 20
 numberOf NoAxis = 21
 numberOf AxisTooLarge = 22
@@ -81,7 +83,7 @@ abbrev pub reasons : List Reason
 reasons =
     FileTooShort ∷ FileTooLong ∷ UnknownEdition ∷ WrongLength ∷ CountOutsideLimits ∷ WrongOffset ∷ SectionPastEnd ∷ ListTooLong ∷ BytesLeft
     ∷ MeshSizeZero ∷ TooManyDevices ∷ TensorSizeZero ∷ TooManyWords ∷ StartAxisTooLarge ∷ StartAxisRepeated ∷ StartNotIncreasing ∷ StartNotDivisible
-    ∷ ReplicatedEmpty ∷ UnknownKind ∷ NoAxis ∷ AxisTooLarge ∷ NotReplicated ∷ NotTail ∷ ShardNotDivisible ∷ NotIncreasing ∷ NotUnreduced ∷ WrongDims ∷ WorkTooShort
+    ∷ ReplicatedEmpty ∷ WrongOrder ∷ UnknownKind ∷ NoAxis ∷ AxisTooLarge ∷ NotReplicated ∷ NotTail ∷ ShardNotDivisible ∷ NotIncreasing ∷ NotUnreduced ∷ WrongDims ∷ WorkTooShort
     ∷ SpareTooShort ∷ NoSuchDevice ∷ OutputTooShort ∷ NoSuchState ∷ []
 
 abbrev pub numbered : ℕ → List Reason → Reason
@@ -114,8 +116,8 @@ abbrev pub need : Bool → ℕ → Judged (Unit {0})
 need test n = needAt 0 test n
 
 -- what a refusal of the code stands for, and the refusal of the code with a number and a step
-abbrev pub refusedBy : {A : Type 0} → Refusal → Judged A
-refusedBy r = refuse (numberOf (r .reason)) (r .step)
+abbrev pub refusedAs : {A : Type 0} → Refusal → Judged A
+refusedAs r = refuse (numberOf (r .reason)) (r .step)
 
 abbrev pub refusalOf : (n k : ℕ) → Refusal
 refusalOf n k = record { reason = reasonOf n; step = k }

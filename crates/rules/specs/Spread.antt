@@ -5,17 +5,23 @@ use mathlib.Core.Path.{_≡_}
 use mathlib.Core.List.{List, [], _∷_, map}
 use lib.ListN.{getD}
 use Rattle.rules.specs.Lists.{tab, each, product, total, In, Below}
-use Rattle.rules.specs.Mesh.{number, coords, devices, Agree, members}
+use Rattle.rules.specs.Mesh.{number, coords, deviceNumber, deviceCoords, devices, Agree, members}
 use Rattle.rules.specs.Sharding.{Sharding, varying, firstIndexes}
 
 -- A state of a table that is spread over devices: the word of each device at each index of its shard.
 abbrev pub StateOf : Type 0 → Type 0
 StateOf W = List ℕ → List ℕ → W
 
--- "Shards lie in the buffer by device number, each in row-major order, without gaps. m is the words of one shard." A device's number is the row-major
--- number of its coordinates (Mesh), its place.
--- The buffer of a state whose shards have a shape, and the state that a buffer holds: z is read where the buffer is too short. A device's place is
--- the row-major number of its coordinates.
+-- "Shards lie in the buffer by device number, each in row-major order, without gaps. m is the words of one shard."
+-- The buffer of a state whose shards have a shape, and the state that a buffer holds: z is read where the buffer is too short.
+unfoldable pub tabulateBy : {W : Type 0} → (order mesh shape : List ℕ) → StateOf W → List W
+tabulateBy order mesh shape w =
+    tab (devices mesh * product shape) (λ p. w (deviceCoords order mesh (p / product shape)) (coords shape (p % product shape)))
+
+unfoldable pub heldBy : {W : Type 0} → W → (order mesh shape : List ℕ) → List W → StateOf W
+heldBy z order mesh shape buffer x i = getD buffer (deviceNumber order mesh x * product shape + number shape i) z
+
+-- The same with each shard at its device's place, the row-major number of its coordinates: so the steps lay their words out, whatever the order.
 unfoldable pub tabulate : {W : Type 0} → List ℕ → List ℕ → StateOf W → List W
 tabulate mesh shape w = tab (devices mesh * product shape) (λ p. w (coords mesh (p / product shape)) (coords shape (p % product shape)))
 

@@ -9,7 +9,7 @@ use Rattle.rules.specs.Refusals.{accept, refuse}
 use Rattle.rules.specs.PlanFile.{judgeBy}
 use Rattle.rules.specs.Calls.{checkOf, groupsOf, groupsLeave}
 use Rattle.rules.specs.Readers.{original}
-use Rattle.rules.specs.Ledger.{Case, checked, Holds, fileOf, w1, passed, listsAs}
+use Rattle.rules.specs.Ledger.{Case, checked, Holds, fileIn, fileOf, w1, passed, listsAs}
 use Rattle.rules.specs.WorkedRefusals.{cutAt, refusedListing}
 
 -- a plan that names no axis and has no steps
@@ -72,16 +72,18 @@ limited =
     & refl & refl & refl & refl & refl & refl & refl & refl & refl & refl & refl & refl
     & refl & refl & refl & refl & refl & refl & refl & done
 
--- the reader with document 01's own limits, at each of them and one past it: "mesh 257 gives 11; table 4,097 gives 13", and a file of 4,097 bytes 2
+-- the reader with document 01's own limits, at each of them and one past it: "mesh 257 gives 11; table 4,097 gives 13", and a file of 4,097 bytes 2;
+-- a mesh of 257 in edition 2 too
 abbrev pub Earlier : Type 0
 Earlier =
     (judgeBy original (plain (256 ∷ []) (4096 ∷ []))
-    ≡ accept (record { mesh = 256 ∷ []; sizes = 4096 ∷ []; start = record { dims = [] ∷ []; unreduced = []; replicated = [] }; steps = [] }))
+    ≡ accept (record { mesh = 256 ∷ []; order = tab 256 (λ d. d); sizes = 4096 ∷ []; start = record { dims = [] ∷ []; unreduced = []; replicated = [] }; steps = [] }))
     × (judgeBy original (plain (257 ∷ []) (4096 ∷ [])) ≡ refuse 11 0)
     × (judgeBy original (plain (256 ∷ []) (4097 ∷ [])) ≡ refuse 13 0)
     × (judgeBy original (filledTo 4096) ≡ refuse 9 0)
     × (judgeBy original (filledTo 4097) ≡ refuse 2 0)
+    × (judgeBy original (fileIn 2 (257 ∷ []) [] (1 ∷ []) ([] ∷ [] ∷ (0 ∷ []) ∷ []) []) ≡ refuse 11 0)
 
 pub earlier : Earlier
-unfolding fileOf judgeBy
-earlier = (refl, refl, refl, refl, refl)
+unfolding fileIn fileOf judgeBy
+earlier = (refl, refl, refl, refl, refl, refl)

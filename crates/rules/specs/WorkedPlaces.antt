@@ -6,7 +6,7 @@ use lib.ListN.{replicate}
 use Rattle.rules.specs.Types.{dimsOf, shardingOf, listFrom, listsFrom}
 use Rattle.rules.specs.Refusals.{reasonOf}
 use Rattle.rules.specs.Calls.{checkOf, checkedOf, placeOf, placedOf}
-use Rattle.rules.specs.Ledger.{fileOf, w1, w4}
+use Rattle.rules.specs.Ledger.{fileIn, fileOf, w1, w4}
 use Rattle.rules.specs.declared.AxisList.{AxisList}
 use Rattle.rules.specs.declared.Sharding.{Sharding}
 use Rattle.rules.specs.declared.Reason.the-variants.{NotTail, NoSuchDevice}
@@ -28,6 +28,17 @@ four = fileOf (replicate 5 2) (2 ∷ 4 ∷ 6 ∷ 8 ∷ []) ((4 ∷ []) ∷ (3 �
 
 abbrev crossed : Sharding
 crossed = record { dims = record { 0 = single 4 ∷ single 3 ∷ single 2 ∷ single 0 ∷ [] }; unreduced = single 1; replicated = none }
+
+-- a dimension split along the last axis and the other two replicated, named as such: mesh 2x2x2, table of 2, edition 2
+abbrev kept : List ℕ
+kept = fileIn 2 (2 ∷ 2 ∷ 2 ∷ []) [] (2 ∷ []) ((2 ∷ []) ∷ [] ∷ (0 ∷ 1 ∷ []) ∷ []) []
+
+abbrev keeping : Sharding
+keeping = record {
+  dims = record { 0 = single 2 ∷ none ∷ none ∷ none ∷ [] };
+  unreduced = none;
+  replicated = list 2 (0 ∷ 1 ∷ 0 ∷ 0 ∷ 0 ∷ 0 ∷ []);
+}
 
 -- the last sharding of W1; that of W4; and no axes at all
 abbrev split : Sharding
@@ -84,8 +95,16 @@ pub places :
     })
     × (placedOf (placeOf four 0 31)
     ≡ record { outcome = place.Found 4; sharding = crossed; shard = 1 ∷ 2 ∷ 3 ∷ 4 ∷ []; first = 1 ∷ 2 ∷ 3 ∷ 4 ∷ [] })
-unfolding fileOf checkOf placeOf listFrom listsFrom reasonOf
-places = (refl, refl, refl, refl, refl, refl, refl, refl, refl)
+    -- the replicated axes
+    × (checkedOf (checkOf kept) ≡ record {
+      outcome = check.Passed (record { room = 8; devices = 8; steps = 0; rank = 1 });
+      sharding = keeping;
+      shard = 1 ∷ 0 ∷ 0 ∷ 0 ∷ [];
+    })
+    × (placedOf (placeOf kept 0 1)
+    ≡ record { outcome = place.Found 1; sharding = keeping; shard = 1 ∷ 0 ∷ 0 ∷ 0 ∷ []; first = 1 ∷ 0 ∷ 0 ∷ 0 ∷ [] })
+unfolding fileIn fileOf checkOf placeOf listFrom listsFrom reasonOf
+places = (refl, refl, refl, refl, refl, refl, refl, refl, refl, refl, refl)
 
 -- of a table of two dimensions the first two lists count, and of a list as many places as it counts
 counted : shardingOf 2 (record {

@@ -65,7 +65,7 @@ abbrev pub refusals : List Case
 refusals =
     -- 3, before 4; 4, before 5; 5, before 6
     checked (replicate 18 0) (refuse 3 0)
-    ∷ checked (but 0 3) (refuse 3 0)
+    ∷ checked (but 0 4) (refuse 3 0)
     ∷ checked (but 1 1) (refuse 3 0)
     ∷ checked (set (but 16 36) 2 0) (refuse 4 0)
     ∷ checked (but 16 34) (refuse 4 0)

@@ -1,4 +1,4 @@
-// The types of plans on a device mesh, their limits, the refusals, and the outcomes of the four calls.
+// The types of plans on a device mesh, their limits, the refusals, and the outcomes of the calls.
 // specs/ has document 01 as definitions; every other crate cites them.
 ghost use mathlib.Core.Path.{_≡_};
 ghost use mathlib.Core.List.{List, [], _∷_, _++_};
@@ -175,6 +175,7 @@ pub enum Reason {
     StartNotIncreasing,
     StartNotDivisible,
     ReplicatedEmpty,
+    WrongOrder,
     UnknownKind,
     NoAxis,
     AxisTooLarge,
