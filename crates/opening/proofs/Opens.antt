@@ -9,20 +9,24 @@ use lib.ListN.{length}
 use lib.Dec.{eqb}
 use borrow.Author.Tests.{eq-eqb, ne-eqb}
 use Rattle.rules.specs.Types.{shardingOf, meshOf, sizesOf, WithinPlaces}
+use Rattle.rules.specs.Mesh.{devices as devicesOf}
 use Rattle.rules.specs.Sharding.{Sharding}
 use Rattle.rules.specs.Refusals.{Judged, accept, refuse, _>>=_, _>>_, need}
-use Rattle.rules.specs.PlanFile.{Read, axisCount, rankCount, judgeHeader, MeshAndTable, meshAndTableAt, carriesReplicated, shardingAt, judgeStart, oneMeaning, Front, judgeFront, judgeFrontBy}
+use Rattle.rules.specs.PlanFile.{Read, edition, axisCount, rankCount, judgeHeader, carriesOrder, MeshAndTable, meshAndTableAt, carriesReplicated, shardingOffset, shardingAt}
+use Rattle.rules.specs.PlanFile.{stepsOffset, judgeStart, oneMeaning, Front, judgeFront, judgeFrontBy}
 use Rattle.rules.specs.declared.Mesh.{Mesh}
 use Rattle.rules.specs.declared.Sharding as code
 use Rattle.rules.specs.declared.Table.{Table}
-use Rattle.rules.proofs.Judging.{never, accept-inj, then-inv, then-assoc}
+use Rattle.rules.proofs.Judging.{never, accept-inj, need-inv, then-inv, then-assoc, bind-inv}
 use Rattle.rules.proofs.Accepted.{Within, MeshAndTableFacts, mesh-and-table-facts}
-use Rattle.reader.specs.Reading.{numbersOf, headerOf, Counted, NoShape}
+use Rattle.reader.specs.Reading.{numbersOf, headerOf, orderIn, Counted}
 use Rattle.reader.specs.declared.Header.{Header}
 use Rattle.reader.specs.declared.Shape.{Shape}
+use Rattle.reader.proofs.Answers.{so-refused}
 use Rattle.reader.proofs.Heading.{Headed, headed}
+use Rattle.reader.proofs.Ordering.{order-found}
 use Rattle.reader.proofs.Shaping.{no-counted}
-use Rattle.opening.specs.Opening.{judgeOpening, openRead, Opens, Opened}
+use Rattle.opening.specs.Opening.{judgeOpening, openRead, NoOpening, Opens, Opened}
 use Rattle.opening.specs.declared.Opening.{Opening}
 
 -- an accepted mesh and an accepted table have their places
@@ -47,12 +51,28 @@ afterSizes h file r = do
   need (eqb (h .«steps_at») (s .next)) 6
   judgeStart (r .value .mesh) (r .value .sizes) (s .value)
   need (oneMeaning (h .edition) (s .value .replicated)) 18
-  accept (record { mesh = r .value .mesh; sizes = r .value .sizes; start = s .value; next = s .next })
+  accept (record { mesh = r .value .mesh; order = r .value .order; sizes = r .value .sizes; start = s .value; next = s .next })
 
 module _ (file : List ℕ) where
-  front-split : judgeFront file ≡ _>>_ (judgeHeader file) (_>>=_ (meshAndTableAt (axisCount file) (rankCount file) file) (afterSizes (numbersOf file) file))
+  front-split : judgeFront file
+      ≡ _>>_ (judgeHeader file)
+      (_>>=_ (meshAndTableAt (carriesOrder (edition file)) (axisCount file) (rankCount file) file) (afterSizes (numbersOf file) file))
   unfolding judgeFrontBy
   front-split = refl
+
+  -- the order is the file's
+  pub front-order : {f : Front} → judgeFront file ≡ accept f → f .order ≡ orderIn file (length (f .mesh)) (devicesOf (f .mesh))
+  front-order {f} e =
+      let h = then-inv (judgeHeader file) _ f (sym front-split ∙ e) in
+      let m = bind-inv (meshAndTableAt (carriesOrder (edition file)) (axisCount file) (rankCount file) file) _ f (h .1) in
+      let s = bind-inv (shardingAt (carriesReplicated (edition file)) (axisCount file) (rankCount file) (shardingOffset file) file (m .0 .next)) _ f (m .2) in
+      let o = need-inv 0 (eqb (stepsOffset file) (s .0 .next)) 6 _ f (s .2) in
+      let j = then-inv (judgeStart (m .0 .value .mesh) (m .0 .value .sizes) (s .0 .value)) _ f (o .1) in
+      let z = need-inv 0 (oneMeaning (edition file) (s .0 .value .replicated)) 18 _ f (j .1) in
+      let found = order-found (carriesOrder (edition file)) (axisCount file) (rankCount file) file (m .1) in
+      let many = mesh-and-table-facts (carriesOrder (edition file)) (axisCount file) (rankCount file) file (m .0) (m .1) .axes-many in
+      subst (λ (x : Front). x .order ≡ orderIn file (length (x .mesh)) (devicesOf (x .mesh))) (accept-inj (z .1))
+      (found ∙ ap (λ (n : ℕ). orderIn file n (devicesOf (m .0 .value .mesh))) (sym many))
 
   header-refused : {a k : ℕ} → headerOf file ≡ refuse a k → judgeHeader file ≡ refuse a k
   unfolding headerOf
@@ -66,17 +86,17 @@ module _ (file : List ℕ) where
   header-stops e = front-split ∙ rw (header-refused e) refl
 
   module _ {h : Header} (e : headerOf file ≡ accept h) where
-    opened : judgeFront file ≡ _>>=_ (meshAndTableAt (h .axes) (h .rank) file) (afterSizes h file)
+    opened : judgeFront file ≡ _>>=_ (meshAndTableAt (carriesOrder (h .edition)) (h .axes) (h .rank) file) (afterSizes h file)
     unfolding headerOf
     opened =
         let p = then-inv (judgeHeader file) (accept (numbersOf file)) h e in
         front-split ∙ rw (p .0 .1) refl
-        ∙ ap (λ (x : Header). _>>=_ (meshAndTableAt (x .axes) (x .rank) file) (afterSizes x file)) (accept-inj (p .1))
+        ∙ ap (λ (x : Header). _>>=_ (meshAndTableAt (carriesOrder (x .edition)) (x .axes) (x .rank) file) (afterSizes x file)) (accept-inj (p .1))
 
-    pub shape-stops : {a k : ℕ} → meshAndTableAt (h .axes) (h .rank) file ≡ refuse a k → judgeFront file ≡ refuse a k
+    pub shape-stops : {a k : ℕ} → meshAndTableAt (carriesOrder (h .edition)) (h .axes) (h .rank) file ≡ refuse a k → judgeFront file ≡ refuse a k
     shape-stops q = opened ∙ ap (λ (j : Judged (Read MeshAndTable)). _>>=_ j (afterSizes h file)) q
 
-    module _ {r : Read MeshAndTable} (q : meshAndTableAt (h .axes) (h .rank) file ≡ accept r) where
+    module _ {r : Read MeshAndTable} (q : meshAndTableAt (carriesOrder (h .edition)) (h .axes) (h .rank) file ≡ accept r) where
       after-shape : judgeFront file ≡ afterSizes h file r
       after-shape = opened ∙ ap (λ (j : Judged (Read MeshAndTable)). _>>=_ j (afterSizes h file)) q
 
@@ -86,7 +106,7 @@ module _ (file : List ℕ) where
 
       module _ {s : Read Sharding} (w : shardingAt (carriesReplicated (h .edition)) (h .axes) (h .rank) (h .«sharding_at») file (r .next) ≡ accept s) where
         abbrev front : Front
-        front = record { mesh = r .value .mesh; sizes = r .value .sizes; start = s .value; next = s .next }
+        front = record { mesh = r .value .mesh; order = r .value .order; sizes = r .value .sizes; start = s .value; next = s .next }
 
         after-sharding : judgeFront file
             ≡ _>>_ (need (eqb (h .«steps_at») (s .next)) 6) (_>>_ (judgeOpening (h .edition) (r .value .mesh) (r .value .sizes) (s .value)) (accept front))
@@ -109,13 +129,19 @@ module _ (file : List ℕ) where
 -- ---- what the code asks, and tells
 
 -- a file that is refused so far
-pub open-refused : {file : List ℕ} {r : Opening} {a k : ℕ} → openRead r ≡ refuse a k → NoShape (r .devices) (r .mesh) (r .table)
-    → judgeFront file ≡ refuse a k → Opened file r
-open-refused e h q = record { reads = e ∙ sym q; counted = no-counted h; steps-are = λ f w. absurd (never (sym q ∙ w)) }
+pub open-refused : {file : List ℕ} {r : Opening} {a k : ℕ} → openRead file r ≡ refuse a k → NoOpening r → judgeFront file ≡ refuse a k
+    → Opened file r
+open-refused {r} e h q = record {
+  reads = e ∙ sym q;
+  counted = no-counted (h .shape);
+  steps-are = λ f w. absurd (never (sym q ∙ w));
+  beside = so-refused (r .next) h;
+}
 
 module _ {file : List ℕ} {header : Header} {shape : Shape} {at : ℕ} (o : Opens file header shape at) where
-  sizes-facts : MeshAndTableFacts (header .axes) (header .rank) (record { mesh = meshOf (shape .mesh); sizes = sizesOf (shape .table) })
-  sizes-facts = mesh-and-table-facts (header .axes) (header .rank) file _ (o .shape-is)
+  sizes-facts : MeshAndTableFacts (header .axes) (header .rank)
+      (record { mesh = meshOf (shape .mesh); order = orderIn file (shape .mesh .n) (shape .devices); sizes = sizesOf (shape .table) })
+  sizes-facts = mesh-and-table-facts (carriesOrder (header .edition)) (header .axes) (header .rank) file _ (o .shape-is)
 
   axes-are : shape .mesh .n ≡ header .axes
   axes-are = o .counted .n-is ∙ sizes-facts .axes-many

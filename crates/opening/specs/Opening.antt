@@ -2,12 +2,12 @@
 -- a sharding by the lists up to the rank; the places past these are free, and nothing reads them. Assumes nothing.
 use Prim.Native.Nat.{ℕ}
 use mathlib.Core.Path.{_≡_}
-use mathlib.Core.List.{List}
+use mathlib.Core.List.{List, []}
 use Rattle.rules.specs.Sharding.{Sharding}
-use Rattle.rules.specs.Refusals.{Judged, accept, _>>_, need, refusedBy}
-use Rattle.rules.specs.PlanFile.{meshAndTableAt, stepCount, judgeStart, oneMeaning, Front, judgeFront}
-use Rattle.rules.specs.Types.{shardingOf, meshOf, sizesOf}
-use Rattle.reader.specs.Reading.{headerOf, Counted}
+use Rattle.rules.specs.Refusals.{Judged, accept, _>>_, need, refusedAs}
+use Rattle.rules.specs.PlanFile.{carriesOrder, meshAndTableAt, stepCount, judgeStart, oneMeaning, Front, judgeFront}
+use Rattle.rules.specs.Types.{axesOf, shardingOf, meshOf, sizesOf}
+use Rattle.reader.specs.Reading.{IfRefused, headerOf, orderIn, Counted, NoShape}
 use Rattle.reader.specs.declared.Header.{Header}
 use Rattle.reader.specs.declared.Next.{Next}
 use Rattle.reader.specs.declared.Next.the-variants as next
@@ -21,26 +21,37 @@ judgeOpening edition mesh sizes s = do
   judgeStart mesh sizes s
   need (oneMeaning edition (s .replicated)) 18
 
-abbrev pub openedAs : Next → Opening → Judged Front
-openedAs (next.At k) r = accept (record {
+abbrev pub openedAs : List ℕ → Next → Opening → Judged Front
+openedAs file (next.At k) r = accept (record {
   mesh = meshOf (r .mesh);
+  order = orderIn file (r .mesh .n) (r .devices);
   sizes = sizesOf (r .table);
   start = shardingOf (r .table .rank) (r .start);
   next = k;
 })
-openedAs (next.Refused x) r = refusedBy x
+openedAs file (next.Refused x) r = refusedAs x
 
-abbrev pub openRead : Opening → Judged Front
-openRead r = openedAs (r .next) r
+abbrev pub openRead : List ℕ → Opening → Judged Front
+openRead file r = openedAs file (r .next) r
 
 -- what is read so far: the header, and the sizes up to `at`
 pub record Opens (file : List ℕ) (header : Header) (shape : Shape) (at : ℕ) : Type 0 where
   pub header-is : headerOf file ≡ accept header
-  pub shape-is : meshAndTableAt (header .axes) (header .rank) file
-      ≡ accept (record { value = record { mesh = meshOf (shape .mesh); sizes = sizesOf (shape .table) }; next = at })
+  pub shape-is : meshAndTableAt (carriesOrder (header .edition)) (header .axes) (header .rank) file ≡ accept (record {
+    value = record { mesh = meshOf (shape .mesh); order = orderIn file (shape .mesh .n) (shape .devices); sizes = sizesOf (shape .table) };
+    next = at;
+  })
   pub counted : Counted (shape .devices) (shape .mesh) (shape .table)
 
+-- beside a refusal: no axes, no dimensions, no steps, no lists
+pub record NoOpening (r : Opening) : Type 0 where
+  pub shape : NoShape (r .devices) (r .mesh) (r .table)
+  pub steps-are : r .steps ≡ 0
+  pub unreduced-are : axesOf (r .start .unreduced) ≡ []
+  pub replicated-are : axesOf (r .start .replicated) ≡ []
+
 pub record Opened (file : List ℕ) (r : Opening) : Type 0 where
-  pub reads : openRead r ≡ judgeFront file
+  pub reads : openRead file r ≡ judgeFront file
   pub counted : Counted (r .devices) (r .mesh) (r .table)
   pub steps-are : (f : Front) → judgeFront file ≡ accept f → r .steps ≡ stepCount file
+  pub beside : IfRefused (r .next) (NoOpening r)

@@ -1,13 +1,13 @@
 // What stands before the steps of a plan file: header, mesh, table and starting sharding, read and judged.
 // Order and numbers are those of rules/specs/PlanFile.antt (judgeFront); specs/Opening.antt says what the answer stands for.
 ghost use mathlib.Core.Path.{_≡_};
-ghost use mathlib.Core.List.{[]};
-ghost use Rattle.rules.specs.Refusals.{refusedBy};
+ghost use mathlib.Core.List.{List};
+ghost use Prim.Native.Nat.{ℕ};
+ghost use Rattle.rules.specs.Refusals.{refusedAs};
 ghost use Rattle.rules.specs.PlanFile.{oneMeaning};
 ghost use Rattle.rules.specs.Types.{axesOf, shardingOf, meshOf, sizesOf, WithinPlaces};
-ghost use Rattle.reader.specs.Reading.{NoShape};
 ghost use Rattle.start.specs.Start.{meaning};
-ghost use Rattle.opening.specs.Opening.{judgeOpening, openRead, Opens, Opened};
+ghost use Rattle.opening.specs.Opening.{judgeOpening, openRead, NoOpening, Opens, Opened};
 use reader::Header;
 use reader::HeaderRead;
 use reader::Next;
@@ -37,10 +37,9 @@ pub struct Opening {
 }
 
 impl Opening {
-    // Refused, with no axes, no dimensions and no steps.
+    // Refused, with no axes, no dimensions, no steps and no lists.
     pub fn refused(refusal: Refusal) -> Opening
-        ensures { λ r. ⌜ (openRead r ≡ refusedBy refusal) × NoShape (r .devices) (r .mesh) (r .table) × (r .steps ≡ 0)
-            × (axesOf (r .start .unreduced) ≡ []) × (axesOf (r .start .replicated) ≡ []) ⌝ }
+        ensures { λ r. ⌜ ((file : List ℕ) → openRead file r ≡ refusedAs refusal) × NoOpening r ⌝ }
     {
         let none = Shape::refused(refusal);
         let mesh = none.mesh;

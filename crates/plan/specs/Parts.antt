@@ -4,7 +4,7 @@ use Prim.Native.Nat.{ℕ, _*_, _≤_}
 use mathlib.Core.Path.{_≡_}
 use mathlib.Core.List.{List, []}
 use lib.ListN.{length, take}
-use Rattle.rules.specs.Mesh.{devices as devicesOf}
+use Rattle.rules.specs.Mesh.{devices as devicesOf, plainOrder}
 use Rattle.rules.specs.Sharding.{Sharding, shardSizes}
 use Rattle.rules.specs.Limits.{mostAxes, mostDevices, mostWords, mostDims, mostSteps}
 use Rattle.rules.specs.Refusals.{Judged, accept, _>>=_}
@@ -12,7 +12,7 @@ use Rattle.rules.specs.PlanFile.{Read, stepsAt, judgeFront, Plan, judge, announ
 use Rattle.rules.specs.Types.{dimsOf, shardingOf, meshOf, sizesOf, WithinPlaces}
 use Rattle.rules.specs.Calls.{CheckAnswer}
 use Rattle.rules.specs.declared.Sharding as code
-use Rattle.reader.specs.Reading.{reading, Tells, noLists, Counted}
+use Rattle.reader.specs.Reading.{reading, Tells, orderIn, noLists, Counted}
 use Rattle.judge.specs.Step.{Sharded}
 use Rattle.plan.specs.declared.Walk.{Walk}
 use Rattle.plan.specs.declared.Whole.{Whole}
@@ -20,7 +20,8 @@ use Rattle.plan.specs.declared.State.{State}
 
 -- ---- steps in turn
 
--- the sharding after the steps, the one after those up to a state, and the most words that a shard has on the way, start included
+-- the sharding after the steps, the one after those up to a state, and the most words that a shard has on the way, start included: the same in any
+-- order of the devices, here the plain one
 pub record Walked : Type 0 where
   pub sharding : Sharding
   pub kept : Sharding
@@ -33,7 +34,10 @@ unfoldable pub walkAt : (mesh sizes : List ℕ) → (state count : ℕ) → List
 unfolding stepsAt
 walkAt mesh sizes state count file at s = do
   ts ← stepsAt mesh sizes 1 count file at s
-  accept (record { value = walkedOf (record { mesh = mesh; sizes = sizes; start = s; steps = ts .value }) state; next = ts .next })
+  accept (record {
+    value = walkedOf (record { mesh = mesh; order = plainOrder (devicesOf mesh); sizes = sizes; start = s; steps = ts .value }) state;
+    next = ts .next;
+  })
 
 abbrev pub walkRead : ℕ → Walk → Judged (Read Walked)
 walkRead rank r = reading (r .next) (record {
@@ -72,7 +76,7 @@ wholeOf file = do
 
 -- beside a refusal: no axes, no dimensions, no steps
 abbrev pub noPlan : Plan
-noPlan = record { mesh = []; sizes = []; start = noLists 0; steps = [] }
+noPlan = record { mesh = []; order = plainOrder 1; sizes = []; start = noLists 0; steps = [] }
 
 abbrev pub wholeAnswer : Whole → WholeAnswer
 wholeAnswer w = record {
@@ -95,6 +99,7 @@ Keeps file state rank kept = (p : Plan) → judge file ≡ accept p → announce
 -- w holds the plan p, whose steps begin at `at`: what the code asks of it
 pub record HoldsPlan (file : List ℕ) (at : ℕ) (w : Whole) (p : Plan) : Type 0 where
   pub mesh-is : p .mesh ≡ meshOf (w .mesh)
+  pub order-is : p .order ≡ orderIn file (w .mesh .n) (w .devices)
   pub sizes-are : p .sizes ≡ sizesOf (w .table)
   pub rank-is : length (p .sizes) ≡ w .table .rank
   pub start-is : p .start ≡ shardingOf (w .table .rank) (w .start)
@@ -102,7 +107,7 @@ pub record HoldsPlan (file : List ℕ) (at : ℕ) (w : Whole) (p : Plan) : Type 
   pub devices-are : devicesOf (p .mesh) ≡ w .devices
   pub room-is : room p ≡ w .devices * w .most
   pub last-is : announced p (length (p .steps)) ≡ shardingOf (w .table .rank) (w .last)
-  pub opens : judgeFront file ≡ accept (record { mesh = p .mesh; sizes = p .sizes; start = p .start; next = at })
+  pub opens : judgeFront file ≡ accept (record { mesh = p .mesh; order = p .order; sizes = p .sizes; start = p .start; next = at })
   pub ready : Sharded (w .mesh) (w .table) (w .start)
   pub begins : stepsAt (p .mesh) (p .sizes) 1 (w .steps) file at (p .start) ≡ accept (record { value = p .steps; next = length file })
 
@@ -132,20 +137,21 @@ stateAt file k = do
   s ← stateOf file k
   accept (record { value = s; next = f .next })
 
-abbrev pub stateAnswer : State → StateAnswer
-stateAnswer r = record {
+abbrev pub stateAnswer : List ℕ → State → StateAnswer
+stateAnswer file r = record {
   mesh = meshOf (r .mesh);
+  order = orderIn file (r .mesh .n) (r .devices);
   sizes = sizesOf (r .table);
   sharding = shardingOf (r .table .rank) (r .sharding);
   shard = sizesOf (r .shard);
 }
 
--- beside a refusal: no axes, no dimensions
-abbrev pub noState : StateAnswer
-noState = record { mesh = []; sizes = []; sharding = noLists 0; shard = [] }
+-- beside a refusal: no axes, so one device, no dimensions
+abbrev pub noState : List ℕ → StateAnswer
+noState file = record { mesh = []; order = orderIn file 0 1; sizes = []; sharding = noLists 0; shard = [] }
 
-abbrev pub StateTells : Judged (Read StateAnswer) → State → Type 0
-StateTells j r = Tells noState j (r .next) (stateAnswer r)
+abbrev pub StateTells : List ℕ → Judged (Read StateAnswer) → State → Type 0
+StateTells file j r = Tells (noState file) j (r .next) (stateAnswer file r)
 
 -- the counts of a state, refused or not
 pub record Shaped (r : State) : Type 0 where

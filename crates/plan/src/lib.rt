@@ -1,9 +1,10 @@
 // The check of a plan file: its steps in turn after what stands before them, and the answer.
 // Order and numbers are those of rules/specs/PlanFile.antt; specs/Parts.antt says what the parts answer.
 ghost use mathlib.Core.Path.{_≡_};
+ghost use mathlib.Core.List.{List};
 ghost use Prim.Native.Nat.{ℕ, _≤_, _<_};
 ghost use Rattle.rules.specs.Limits.{mostSteps};
-ghost use Rattle.rules.specs.Refusals.{accept, refusedBy};
+ghost use Rattle.rules.specs.Refusals.{accept, refusedAs};
 ghost use Rattle.rules.specs.Types.{shardingOf, meshOf, sizesOf};
 ghost use Rattle.rules.specs.Calls.{checkedOf};
 ghost use Rattle.rules.specs.Promises.{CheckPromise};
@@ -43,7 +44,7 @@ struct Walk {
 
 impl Walk {
     fn refused(refusal: Refusal, sharding: Sharding) -> Walk
-        ensures { λ r. ⌜ ((rank : ℕ) → walkRead rank r ≡ refusedBy refusal) ⌝ }
+        ensures { λ r. ⌜ ((rank : ℕ) → walkRead rank r ≡ refusedAs refusal) ⌝ }
     {
         Walk {
             next: Next::Refused(refusal),
@@ -121,7 +122,7 @@ struct Keeping {
 impl Keeping {
     // Refused, with the plan of no axes, no dimensions and no steps, whose shard is one word.
     fn refused(refusal: Refusal) -> Keeping
-        ensures { λ r. ⌜ WholeTells (refusedBy refusal) (r .whole) ⌝ }
+        ensures { λ r. ⌜ WholeTells (refusedAs refusal) (r .whole) ⌝ }
     {
         let none = Opening::refused(refusal);
         let mesh = none.mesh;
@@ -193,7 +194,7 @@ pub fn judge_file(file: &[u8]) -> Whole
 
 // No lists and no sizes, beside a refusal.
 fn refused(refusal: Refusal) -> Checked
-    ensures { λ r. ⌜ r ≡ checkedOf (refusedBy refusal) ⌝ }
+    ensures { λ r. ⌜ r ≡ checkedOf (refusedAs refusal) ⌝ }
 {
     let sharding = no_lists();
     Checked {
@@ -252,7 +253,7 @@ pub struct State {
 impl State {
     // Refused, with no axes and no dimensions.
     fn refused(refusal: Refusal) -> State
-        ensures { λ r. ⌜ StateTells (refusedBy refusal) r × Shaped r ⌝ }
+        ensures { λ r. ⌜ ((file : List ℕ) → StateTells file (refusedAs refusal) r) × Shaped r ⌝ }
     {
         let none = Shape::refused(refusal);
         let mesh = none.mesh;
@@ -271,7 +272,7 @@ impl State {
 
 // What the plan announces after so many steps; 34 where it has fewer.
 pub fn state_after(file: &[u8], state: usize) -> State
-    ensures { λ r. ⌜ StateTells (stateAt (now (file .entry)) state) r × Shaped r ⌝ }
+    ensures { λ r. ⌜ StateTells (now (file .entry)) (stateAt (now (file .entry)) state) r × Shaped r ⌝ }
 {
     let keeping = judge_keeping(file, state);
     let whole = keeping.whole;

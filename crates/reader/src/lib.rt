@@ -1,19 +1,21 @@
-// Reading the bytes of a plan file into values, with refusals 1 to 8, 10 to 13 and 20.
+// Reading the bytes of a plan file into values, with refusals 1 to 8, 10 to 13, 19 and 20.
 // What each function answers is a definition of rules/specs/PlanFile.antt; specs/Reading.antt says what the answers stand for.
 ghost use mathlib.Core.Path.{_≡_};
 ghost use mathlib.Core.Bool.{_&&_};
-ghost use Prim.Native.Nat.{ℕ, _+_, _≤_, _<_};
+ghost use mathlib.Core.List.{List};
+ghost use Prim.Native.Nat.{ℕ, _+_, _*_, _≤_, _<_};
 ghost use lib.ListN.{length, getD, take, drop};
 ghost use lib.Dec.{leb};
-ghost use Rattle.rules.specs.Lists.{product};
-ghost use Rattle.rules.specs.Limits.{mostAxes, mostDims, mostWords, latestEdition};
-ghost use Rattle.rules.specs.Refusals.{accept, refuse, numberOf, refusedBy};
-ghost use Rattle.rules.specs.PlanFile.{u16At, sizesAt, meshAndTableAt, listAt, listsAt, carriesReplicated, replicatedAt, shardingAt};
+ghost use Rattle.rules.specs.Lists.{tab, product};
+ghost use Rattle.rules.specs.Limits.{mostAxes, mostDevices, mostDims, mostWords, mostBytes, latestEdition};
+ghost use Rattle.rules.specs.Refusals.{accept, refuse, numberOf, refusedAs};
+ghost use Rattle.rules.specs.PlanFile.{u16At, edition, sizesAt, carriesOrder, orderAt, meshAndTableAt, listAt, listsAt, carriesReplicated, replicatedAt, shardingAt};
 ghost use Rattle.rules.specs.PlanFile.{kindOf, listsOf, stepAt};
 ghost use Rattle.rules.specs.Types.{sizesOf};
 ghost use Rattle.rules.specs.declared.Kind.the-variants.{AllReduce, AllToAll};
 ghost use Rattle.reader.specs.Reading.{byteAt, nextRefusal, numbersOf, headerOf, headerRead, headerRefusal};
-ghost use Rattle.reader.specs.Reading.{SizesTell, Counted, NoShape, shapeRead, listRead, listsRead, ShardingTells, StepTells, PerDim};
+ghost use Rattle.reader.specs.Reading.{reading, SizesTell, orderOf, meshAt, NoShape, shapeRead, ShapeTells, listRead, listsRead, ShardingTells, StepTells, PerDim};
+use order::order_allowed;
 use rules::Axis;
 use rules::AxisList;
 use rules::Device;
@@ -104,7 +106,7 @@ pub struct Header {
 
 impl Header {
     // The latest edition of plan files.
-    pub const LATEST_EDITION: usize = 2;
+    pub const LATEST_EDITION: usize = 3;
 
     pub fn latest_edition() -> usize
         ensures { λ r. ⌜ r ≡ latestEdition ⌝ }
@@ -117,6 +119,13 @@ impl Header {
         ensures { λ r. ⌜ r ≡ carriesReplicated (self .edition) ⌝ }
     {
         2 <= self.edition
+    }
+
+    // Whether the devices have an order of their own: "Edition 3 files hold, right after the mesh sizes, D 16-bit device numbers".
+    fn carries_order(self) -> bool
+        ensures { λ r. ⌜ r ≡ carriesOrder (self .edition) ⌝ }
+    {
+        3 <= self.edition
     }
 }
 
@@ -171,6 +180,14 @@ fn numbers_of(file: &[u8]) -> Header
     }
 }
 
+// Whether a file has an order of its devices.
+pub fn carries_order(file: &[u8]) -> bool
+    ensures { λ r. ⌜ r ≡ carriesOrder (edition (now (file .entry))) ⌝ }
+{
+    let header = numbers_of(file);
+    header.carries_order()
+}
+
 // "Order: 1, 2, 3, 4, 5."
 pub fn read_header(file: &[u8]) -> HeaderRead
     ensures { λ r. ⌜ headerRead r ≡ headerOf (now (file .entry)) ⌝ }
@@ -208,16 +225,24 @@ struct SizesRead {
 }
 
 impl SizesRead {
+    // Refused, with sizes of 1.
+    fn refused(refusal: Refusal) -> SizesRead
+        ensures { λ r. ⌜ ((count : ℕ) → count ≤ mostAxes
+            → SizesTell count (refusedAs refusal) r × (r .product ≡ product (take count (r .sizes)))) ⌝ }
+    {
+        SizesRead {
+            next: Next::Refused(refusal),
+            product: 1,
+            sizes: [1; Axis::MOST],
+        }
+    }
+
     // Refused, outside the steps.
     fn refused_for(reason: Reason) -> SizesRead
         ensures { λ r. ⌜ ((count : ℕ) → count ≤ mostAxes
             → SizesTell count (refuse (numberOf reason) 0) r × (r .product ≡ product (take count (r .sizes)))) ⌝ }
     {
-        SizesRead {
-            next: Next::Refused(Refusal { reason, step: 0 }),
-            product: 1,
-            sizes: [1; Axis::MOST],
-        }
+        SizesRead::refused(Refusal { reason, step: 0 })
     }
 }
 
@@ -263,6 +288,75 @@ fn read_sizes(
     }
 }
 
+// The device numbers that stand from a position on.
+pub fn read_order(file: &[u8], at: usize, numbers: &mut [u16])
+    requires { ⌜ (at ≤ mostBytes) × (length (now numbers) ≤ mostDevices) ⌝ }
+    ensures { λ _. ⌜ now (numbers .exit) ≡ tab (length (now (numbers .entry))) (λ i. u16At (now (file .entry)) (at + 2 * i)) ⌝ }
+{
+    let mut i: usize = 0;
+    while i < numbers.len() {
+        numbers[i] = u16_at(file, at + 2 * i) as u16;
+        i += 1;
+    }
+}
+
+// The order of the devices, where the file carries one: 7 if its bytes don't fit, then 19. It is judged and left; who needs it reads it again.
+fn judge_order(file: &[u8], at: usize, devices: usize, carried: bool) -> Next
+    requires { ⌜ (at ≤ length (now file)) × (length (now file) ≤ mostBytes) × (devices ≤ mostDevices) ⌝ }
+    ensures { λ r. ⌜ reading r (orderOf carried devices (now (file .entry)) at) ≡ orderAt carried devices (now (file .entry)) at ⌝ }
+{
+    if !carried {
+        return Next::At(at);
+    }
+    if file.len() - at < 2 * devices {
+        return Next::Refused(Refusal {
+            reason: Reason::SectionPastEnd,
+            step: 0,
+        });
+    }
+    let mut order = [0u16; Device::MOST];
+    read_order(file, at, &mut order[0..devices]);
+    if !order_allowed(&order[0..devices], devices) {
+        return Next::Refused(Refusal {
+            reason: Reason::WrongOrder,
+            step: 0,
+        });
+    }
+    Next::At(at + 2 * devices)
+}
+
+// The mesh section: its sizes, and the order of the devices.
+fn read_mesh(file: &[u8], header: Header) -> SizesRead
+    requires { ⌜ headerOf (now file) ≡ accept header ⌝ }
+    ensures { λ r. ⌜ SizesTell (header .axes) (meshAt (carriesOrder (header .edition)) (header .axes) (header .«mesh_at») (now (file .entry))) r ⌝ }
+    ensures { λ r. ⌜ r .product ≡ product (take (header .axes) (r .sizes)) ⌝ }
+{
+    let read = read_sizes(
+        file,
+        PlanFile::LEAST,
+        header.mesh_at,
+        header.axes,
+        Device::MOST,
+        Reason::MeshSizeZero,
+        Reason::TooManyDevices,
+    );
+    let next = read.next;
+    let Next::At(place) = next else {
+        return SizesRead::refused(next.refusal());
+    };
+    let product = read.product;
+    let last = judge_order(file, place, product, header.carries_order());
+    let Next::At(end) = last else {
+        return SizesRead::refused(last.refusal());
+    };
+    let sizes = read.sizes;
+    SizesRead {
+        next: Next::At(end),
+        product,
+        sizes,
+    }
+}
+
 // The sizes of mesh and table, and where the next byte is.
 pub struct Shape {
     pub next: Next,
@@ -274,7 +368,7 @@ pub struct Shape {
 impl Shape {
     // Refused, with no axes and no dimensions.
     pub fn refused(refusal: Refusal) -> Shape
-        ensures { λ r. ⌜ (shapeRead r ≡ refusedBy refusal) × NoShape (r .devices) (r .mesh) (r .table) ⌝ }
+        ensures { λ r. ⌜ ((file : List ℕ) → shapeRead file r ≡ refusedAs refusal) × NoShape (r .devices) (r .mesh) (r .table) ⌝ }
     {
         let sizes = [1; Axis::MOST];
         let mesh = Mesh { n: 0, sizes };
@@ -305,20 +399,12 @@ fn table_of(rank: usize, sizes: [u16; Axis::MOST]) -> Table
 // The mesh and the tensor sections.
 pub fn read_shape(file: &[u8], header: Header) -> Shape
     requires { ⌜ headerOf (now file) ≡ accept header ⌝ }
-    ensures { λ r. ⌜ shapeRead r ≡ meshAndTableAt (header .axes) (header .rank) (now (file .entry)) ⌝ }
-    ensures { λ r. ⌜ Counted (r .devices) (r .mesh) (r .table) ⌝ }
+    ensures { λ r. ⌜ ShapeTells (now (file .entry))
+        (meshAndTableAt (carriesOrder (header .edition)) (header .axes) (header .rank) (now (file .entry))) r ⌝ }
 {
     let n = header.axes;
     let rank = header.rank;
-    let first = read_sizes(
-        file,
-        PlanFile::LEAST,
-        header.mesh_at,
-        n,
-        Device::MOST,
-        Reason::MeshSizeZero,
-        Reason::TooManyDevices,
-    );
+    let first = read_mesh(file, header);
     let next = first.next;
     let Next::At(place) = next else {
         return Shape::refused(next.refusal());
@@ -422,7 +508,7 @@ struct ListsRead {
 impl ListsRead {
     // Refused, with no lists.
     fn refused(refusal: Refusal) -> ListsRead
-        ensures { λ r. ⌜ ((rank : ℕ) → listsRead rank r ≡ refusedBy refusal) ⌝ }
+        ensures { λ r. ⌜ ((rank : ℕ) → listsRead rank r ≡ refusedAs refusal) ⌝ }
     {
         let lists = DimLists::empty();
         ListsRead {
@@ -481,7 +567,7 @@ pub struct ShardingRead {
 impl ShardingRead {
     // Refused, with no lists.
     fn refused(refusal: Refusal) -> ShardingRead
-        ensures { λ r. ⌜ ((rank : ℕ) → rank ≤ mostDims → ShardingTells rank (refusedBy refusal) r) ⌝ }
+        ensures { λ r. ⌜ ((rank : ℕ) → rank ≤ mostDims → ShardingTells rank (refusedAs refusal) r) ⌝ }
     {
         let sharding = Sharding::none();
         ShardingRead {
@@ -541,7 +627,7 @@ pub struct StepRead {
 impl StepRead {
     // Refused, with no step.
     fn refused(refusal: Refusal) -> StepRead
-        ensures { λ r. ⌜ ((rank : ℕ) → StepTells rank (refusedBy refusal) r) ⌝ }
+        ensures { λ r. ⌜ ((rank : ℕ) → StepTells rank (refusedAs refusal) r) ⌝ }
     {
         let lists = DimLists::empty();
         let list = AxisList::empty();

@@ -26,6 +26,7 @@ pub fn number_of(reason: Reason) -> u8
         Reason::StartNotIncreasing => 16,
         Reason::StartNotDivisible => 17,
         Reason::ReplicatedEmpty => 18,
+        Reason::WrongOrder => 19,
         Reason::UnknownKind => 20,
         Reason::NoAxis => 21,
         Reason::AxisTooLarge => 22,

@@ -4,7 +4,7 @@ use mathlib.Core.Bool.{Bool, true, false}
 use mathlib.Core.List.{List, [], _∷_, _++_}
 use lib.ListN.{set}
 use Rattle.rules.specs.Lists.{pick}
-use Rattle.rules.specs.Refusals.{Judged, accept, refuse, _>>_, refusedBy}
+use Rattle.rules.specs.Refusals.{Judged, accept, refuse, _>>_, refusedAs}
 use Rattle.rules.specs.PlanFile.{judgeAxis, judgeAxes}
 use Rattle.rules.specs.declared.Reason.the-variants.{CountOutsideLimits}
 use Rattle.rules.specs.declared.Refusal.{Refusal}
@@ -14,7 +14,7 @@ use Rattle.start.specs.declared.Verdict.the-variants as verdict
 
 abbrev pub meaning : Verdict → Judged (Unit {0})
 meaning verdict.Fine = accept tt
-meaning (verdict.Refused r) = refusedBy r
+meaning (verdict.Refused r) = refusedAs r
 
 -- the refusal of a verdict; a fine one has none, and none is asked of it
 abbrev pub refusalOf : Verdict → Refusal

@@ -3,7 +3,7 @@ ghost use mathlib.Core.Path.{_≡_};
 ghost use Prim.Native.Nat.{ℕ, max};
 ghost use lib.ListN.{take};
 ghost use Rattle.rules.specs.Lists.{product};
-ghost use Rattle.rules.specs.Refusals.{refusedBy};
+ghost use Rattle.rules.specs.Refusals.{refusedAs};
 ghost use Rattle.rules.specs.Sharding.{shardSizes};
 ghost use Rattle.rules.specs.Types.{dimsOf, shardingOf, meshOf, sizesOf};
 ghost use Rattle.judge.specs.Step.{Sharded};
@@ -34,7 +34,7 @@ pub struct Taken {
 impl Taken {
     // Refused, with no step, and the sharding as it was.
     fn refused(refusal: Refusal, sharding: Sharding) -> Taken
-        ensures { λ r. ⌜ ((rank : ℕ) → TakenTells rank (shardingOf rank sharding) (refusedBy refusal) r) ⌝ }
+        ensures { λ r. ⌜ ((rank : ℕ) → TakenTells rank (shardingOf rank sharding) (refusedAs refusal) r) ⌝ }
     {
         let lists = DimLists::empty();
         let list = AxisList::empty();

@@ -23,11 +23,11 @@ open-with-spec =
     (λ c κs. search needs)
     (λ c. let o = c .before .before .before .before .before .before .before .before .pre in
     let stop = read-stopped _ (c .before .before .before .before .read-sharding .ensures .reads) (c .before .before .enum-told .given .1) (c .before .refusal .ensures) in
-    open-refused (c .refused .ensures .0) (c .refused .ensures .1) (sharding-stops _ (o .header-is) (o .shape-is) stop))
+    open-refused (c .refused .ensures .0 _) (c .refused .ensures .1) (sharding-stops _ (o .header-is) (o .shape-is) stop))
     (λ c κs. search needs)
     (λ c. let o = c .before .before .before .before .before .before .before .before .before .before .pre in
     let s = read-on _ (c .before .before .before .before .before .before .read-sharding .ensures .reads) (c .before .before .before .before .next .given .1) in
-    open-refused (c .refused2 .ensures .0) (c .refused2 .ensures .1) (offset-stops _ (o .header-is) (o .shape-is) s (c .before .if1 .taken)))
+    open-refused (c .refused2 .ensures .0 _) (c .refused2 .ensures .1) (offset-stops _ (o .header-is) (o .shape-is) s (c .before .if1 .taken)))
     (λ c κs. within-places (c .before .before .before .before .before .before .before .before .before .before .pre))
     (λ c. search needs)
     (λ c. search needs)
@@ -36,7 +36,7 @@ open-with-spec =
     (λ c. let o = c .before .before .before .before .before .before .before .before .before .before .before .before .before .before .before .pre in
     let s = of-rank o _ (read-on _ (c .before .before .before .before .before .before .before .before .before .before .before .read-sharding .ensures .reads) (c .before .before .before .before .before .before .before .before .before .next .given .1)) in
     let stop = failed (c .before .before .before .before .judge-opening .ensures) (c .before .before .enum-told3 .given .1) (c .before .refusal-of .ensures) in
-    open-refused (c .refused3 .ensures .0) (c .refused3 .ensures .1) (start-stops _ (o .header-is) (o .shape-is) s (c .before .before .before .before .before .before .if1 .left) stop))
+    open-refused (c .refused3 .ensures .0 _) (c .refused3 .ensures .1) (start-stops _ (o .header-is) (o .shape-is) s (c .before .before .before .before .before .before .if1 .left) stop))
     (λ c. let o = c .before .before .before .before .before .before .before .before .before .before .before .before .before .pre in
     let h = headed _ _ (o .header-is) in
     let s = of-rank o _ (read-on _ (c .before .before .before .before .before .before .before .before .before .read-sharding .ensures .reads) (c .before .before .before .before .before .before .before .next .given .1)) in
@@ -45,4 +45,5 @@ open-with-spec =
       reads = sym (front-is _ (o .header-is) (o .shape-is) s (c .before .before .before .before .if1 .left) fine);
       counted = o .counted;
       steps-are = λ f q. h .steps-are;
+      beside = tt;
     }))

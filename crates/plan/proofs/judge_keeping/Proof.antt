@@ -19,7 +19,7 @@ judge-keeping-spec =
     (λ c κs. search needs)
     (λ c κs. search needs)
     (λ c. let o = c .before .before .before .before .«open» .ensures in
-    let stop = front-stops _ (open-stopped _ (o .reads) (c .before .before .enum-told .given .1) (c .before .refusal .ensures)) in
+    let stop = front-stops _ (open-stopped _ _ o (c .before .before .enum-told .given .1) (c .before .refusal .ensures)) in
     (whole-refused _ (c .refused .ensures) stop, λ p j. absurd (never (sym stop ∙ j))))
     (λ c κs. let n = c .before .before .before .before in
     ready _ _ (n .before .before .«open» .ensures) (n .next .given .1))
@@ -30,7 +30,7 @@ judge-keeping-spec =
     (λ c. let w = c .before .before .before .before in
     let n = w .before .before .before .before .before in
     let o = n .before .before .«open» .ensures in
-    let f = open-on _ (o .reads) (n .next .given .1) in
+    let f = open-on _ _ o (n .next .given .1) in
     let walk = read-stopped _ (w .walk-steps .ensures) (c .before .before .enum-told2 .given .1) (c .before .refusal2 .ensures) in
     let stop = walk-stops _ f (o .steps-are _ f) _ walk in
     (whole-refused _ (c .refused2 .ensures) stop, λ p j. absurd (never (sym stop ∙ j))))
@@ -39,7 +39,7 @@ judge-keeping-spec =
     let w = e .before .before in
     let n = w .before .before .before .before .before in
     let o = n .before .before .«open» .ensures in
-    let f = open-on _ (o .reads) (n .next .given .1) in
+    let f = open-on _ _ o (n .next .given .1) in
     let stop = bytes-left _ f (o .steps-are _ f) _ (read-on _ (w .walk-steps .ensures) (e .end .given .1)) (c .before .if1 .taken) in
     (whole-refused _ (c .refused3 .ensures) stop, λ p j. absurd (never (sym stop ∙ j))))
     (λ c. let e = c .before .before .before .before in

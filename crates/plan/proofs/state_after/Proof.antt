@@ -20,11 +20,11 @@ state-after-spec =
     (λ c κs. search needs)
     (λ c. let j = c .before .before .before .before .before .judge-keeping .ensures .0 in
     let stop = state-stops _ _ (whole-stopped _ _ j (c .before .before .enum-told .given .1) (c .before .refusal .ensures)) in
-    (retold (c .refused .ensures .0) stop, c .refused .ensures .1))
+    (retold (c .refused .ensures .0 _) stop, c .refused .ensures .1))
     (λ c κs. search needs)
     (λ c. let t = c .before .before .before .before in
     let h = plan-held _ _ (t .before .before .before .judge-keeping .ensures .0) (t .next .given .1) in
-    (retold (c .refused2 .ensures .0) (no-such-state _ _ h (c .before .if1 .taken)), c .refused2 .ensures .1))
+    (retold (c .refused2 .ensures .0 _) (no-such-state _ _ h (c .before .if1 .taken)), c .refused2 .ensures .1))
     (λ c κs. let t = c .before .before .before .before .before .before in
     let f = plan-held _ _ (t .before .before .before .judge-keeping .ensures .0) (t .next .given .1) .2 .ready .fits in
     (f .rank, f .sized))

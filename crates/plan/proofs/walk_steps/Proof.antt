@@ -4,7 +4,8 @@ use mathlib.Core.Path.{sym, ap, _∙_}
 use native.Mathlib.Omega.{arith}
 use Rattle.rules.specs.Types.{shardingOf, meshOf, sizesOf}
 use Rattle.reader.proofs.Answers.{read-on, read-stopped}
-use Rattle.plan.proofs.Walks.{Walking, walking, halted, arrived, sound-after, onward}
+use Rattle.taking.proofs.Takes.{sharded-after}
+use Rattle.plan.proofs.Walks.{Walking, walking, halted, arrived, onward}
 use Rattle.plan.proofs.walk_steps.Statement.{statement}
 use Rattle.plan.proofs.walk_steps.Tie as tie
 
@@ -38,9 +39,9 @@ walk-steps-spec =
     (λ c. let stop = read-stopped _ (c .before .before .before .before .take-step .ensures .reads) (c .before .before .enum-told .given .1) (c .before .refusal .ensures) in
     c .refused .ensures (c .before .before .before .before .before .before .before .before .before .before .args .table .rank) ∙ sym (halted _ _ _ (c .before .before .before .before .before .before .loop .inv) (c .before .before .before .before .before .loop-test .taken) stop))
     (λ c κs. search needs)
-    (λ c κs. let s = c .before .before .before .before .before .before .before .before .before .before .before in
-    let m = read-on _ (c .before .before .before .before .before .take-step .ensures .reads) (c .before .before .before .next .given .1) in
-    (record { fits = s .pre .0 .fits; sound = sound-after _ _ _ (c .before .before .before .before .before .before .before .loop .inv) (s .pre .0 .fits .sized .least) (c .before .before .before .before .before .before .loop-test .taken) m }, c .before .before .before .before .before .before .before .before .before .words .ensures))
+    (λ c κs. let t = c .before .before .before .before .before in
+    let f = t .before .before .before .before .before .before .pre .0 .fits in
+    (sharded-after _ _ _ (t .take-step .result) (record { fits = f; sound = t .before .before .loop .inv .sound }) (t .take-step .ensures) (c .before .before .before .next .given .1), t .before .before .before .before .words .ensures))
     (λ c κs. search needs)
     (λ c. let l = c .before .before .before .before .before .before .before .before .before .before .before .before .before .pre .1 in omega arith)
     (λ c. omega arith)

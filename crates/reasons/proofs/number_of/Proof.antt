@@ -100,6 +100,9 @@ enum-told-31 c = search needs
 enum-told-32 : tie.Need-enum-told-32
 enum-told-32 c = search needs
 
+enum-told-33 : tie.Need-enum-told-33
+enum-told-33 c = search needs
+
 returns : tie.Need-returns
 returns c = simp (c .enum-told .given .1)
 
@@ -196,6 +199,9 @@ returns-31 c = simp (c .enum-told31 .given .1)
 returns-32 : tie.Need-returns-32
 returns-32 c = simp (c .enum-told32 .given .1)
 
+returns-33 : tie.Need-returns-33
+returns-33 c = simp (c .enum-told33 .given .1)
+
 pub number-of-spec : {M : Type 1} → statement M
 number-of-spec =
     tie.close
@@ -232,6 +238,7 @@ number-of-spec =
     enum-told-30
     enum-told-31
     enum-told-32
+    enum-told-33
     returns
     returns-2
     returns-3
@@ -263,4 +270,5 @@ number-of-spec =
     returns-29
     returns-30
     returns-31
-    returns-32)
+    returns-32
+    returns-33)

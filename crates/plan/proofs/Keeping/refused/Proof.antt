@@ -6,5 +6,5 @@ use Rattle.plan.proofs.Keeping.refused.Statement.{statement}
 use Rattle.plan.proofs.Keeping.refused.Tie as tie
 
 pub refused-spec : {M : Type 1} → statement M
-refused-spec = tie.close (tie.spec (λ c κs. search needs) (λ c. let o = c .before .before .before .refused .ensures in
-    record { tells = record { reads = refl; beside = no-answer _ (o .1) (o .3, o .4) }; counted = no-counted (o .1) }))
+refused-spec = tie.close (tie.spec (λ c κs. search needs) (λ c. let o = c .before .before .before .refused .ensures .1 in
+    record { tells = record { reads = refl; beside = no-answer _ (o .shape) (o .unreduced-are, o .replicated-are) }; counted = no-counted (o .shape) }))

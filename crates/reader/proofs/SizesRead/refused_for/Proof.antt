@@ -1,9 +1,6 @@
-use mathlib.Core.Path.{refl, sym}
-use Rattle.rules.specs.Limits.{mostAxes}
-use Rattle.rules.proofs.Lists.{take-replicate}
-use Rattle.reader.proofs.Sizing.{product-ones}
+use borrow.Author.Needs.{needs}
 use Rattle.reader.proofs.SizesRead.refused_for.Statement.{statement}
 use Rattle.reader.proofs.SizesRead.refused_for.Tie as tie
 
 pub refused-for-spec : {M : Type 1} → statement M
-refused-for-spec = tie.close (tie.spec (λ c. λ count h. (record { reads = refl; beside = take-replicate 1 count mostAxes h }, sym (product-ones count mostAxes))))
+refused-for-spec = tie.close (tie.spec (λ c κs. search needs) (λ c. c .refused .ensures))

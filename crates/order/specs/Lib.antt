@@ -1,0 +1,2 @@
+-- What the contracts of an order of devices cite.
+pub mod Order
