@@ -1,4 +1,4 @@
--- The order of the axes in which the listing counts: its length, its axes, and the listing by the digits of a place along it (`listing-along`).
+-- The order of the axes in which the listing counts: its length, its axes, and the listing by the digits of a place along it (`places-along`).
 -- Assumes nothing.
 use Prim.Native.Nat.{ℕ, _+_, _*_, _/_, _%_, _<_, _≤_}
 use mathlib.Core.Path.{_≡_, refl, sym, ap, ap₂, _∙_, subst}
@@ -9,7 +9,7 @@ use native.Mathlib.Omega.{arith}
 use native.Mathlib.Decide.{ℕ-discrete}
 use lib.ListN.{length, set, replicate, length-append}
 use Rattle.rules.specs.Lists.{tab, product, without, In, Distinct}
-use Rattle.rules.specs.Mesh.{coords, deviceNumber, devices, span, member, remaining, listing, OnMesh}
+use Rattle.rules.specs.Mesh.{number, coords, devices, span, member, remaining, placesListed, OnMesh}
 use Rattle.rules.proofs.Lists.{
   length-tab,
   tab-cong,
@@ -29,10 +29,10 @@ use Rattle.rules.proofs.Lists.{
   without-absent,
 }
 use Rattle.rules.proofs.Positions.{member-set, span-append}
-use Rattle.rules.proofs.Groups.{span-remaining, listing-tab}
+use Rattle.rules.proofs.Groups.{span-remaining, places-tab}
 use Rattle.mesh.proofs.Sizes.{mod-div, mod-mod-right}
 use Rattle.mesh.proofs.Positions.{span-pos}
-use Rattle.groups.specs.Ordering.{orderOf, IsList, along}
+use Rattle.groups.specs.Ordering.{axisOrder, IsList, along}
 
 -- ---- how many axes
 
@@ -65,12 +65,12 @@ module _ {n : ℕ} {L : List ℕ} (l : IsList n L) where
   pub list-length : length L ≤ n
   list-length = omega (arith, remaining-length)
 
-  pub order-length : length (orderOf n L) ≡ n
-  unfolding orderOf
+  pub order-length : length (axisOrder n L) ≡ n
+  unfolding axisOrder
   order-length = length-append (without (tab n (λ a. a)) L) L ∙ remaining-length
 
-  pub order-list : IsList n (orderOf n L)
-  unfolding orderOf
+  pub order-list : IsList n (axisOrder n L)
+  unfolding axisOrder
   order-list = record {
     few = l .few;
     below = λ a i. ⊎-elim (λ j. in-axes a n (of-without a L (tab n (λ a. a)) j)) (l .below a) (in-append a (without (tab n (λ a. a)) L) L i);
@@ -80,8 +80,8 @@ module _ {n : ℕ} {L : List ℕ} (l : IsList n L) where
 
 -- the order, made of lists that are known by what they stand for
 pub order-made : (n : ℕ) (L none all rest : List ℕ) → none ≡ [] → all ≡ tab n (λ a. a) → rest ≡ none ++ without all L
-    → rest ++ without L none ≡ orderOf n L
-unfolding orderOf
+    → rest ++ without L none ≡ axisOrder n L
+unfolding axisOrder
 order-made n L none all rest e1 e2 e3 = rw (e3, e1, e2, without-none L) refl
 
 -- ---- the listing by the digits of a place
@@ -110,14 +110,14 @@ coords-zero [] = refl
 coords-zero (n ∷ ns) = ap₂ (λ (c : ℕ) (l : List ℕ). c ∷ l) (zero-div (product ns)) (ap (coords ns) (zero-mod (product ns)) ∙ coords-zero ns)
 
 module _ (mesh L : List ℕ) (f : OnMesh mesh) (l : IsList (length mesh) L) where
-  pub order-span : span mesh (orderOf (length mesh) L) ≡ devices mesh
-  unfolding orderOf remaining
+  pub order-span : span mesh (axisOrder (length mesh) L) ≡ devices mesh
+  unfolding axisOrder remaining
   order-span = span-remaining mesh L (l .once) (l .below)
 
-  pub listing-along : listing mesh L ≡ tab (devices mesh) (along mesh (orderOf (length mesh) L))
-  unfolding orderOf remaining
-  listing-along = listing-tab mesh L (l .once) (l .below) ∙ tab-cong (devices mesh) _ _ (λ p h.
+  pub places-along : placesListed mesh L ≡ tab (devices mesh) (along mesh (axisOrder (length mesh) L))
+  unfolding axisOrder remaining
+  places-along = places-tab mesh L (l .once) (l .below) ∙ tab-cong (devices mesh) _ _ (λ p h.
       let R : List ℕ = remaining mesh L in
-      ap (deviceNumber mesh)
+      ap (number mesh)
       (ap (λ (x : List ℕ). member mesh L (p % span mesh L) (member mesh R (p / span mesh L) x)) (sym (coords-zero mesh))
       ∙ sym (member-append mesh f R L p (coords mesh 0) (λ a i j. not-in-without a L (tab (length mesh) (λ a. a)) j i) (rw order-span h))))

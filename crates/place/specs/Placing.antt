@@ -2,15 +2,15 @@
 use Prim.Native.Nat.{ℕ, _*_, _≤_, _<_}
 use mathlib.Core.List.{List, []}
 use lib.ListN.{getD, take}
-use Rattle.rules.specs.Mesh.{position, deviceCoords}
+use Rattle.rules.specs.Mesh.{position, coords}
 use Rattle.rules.specs.Limits.{mostDims, mostWords}
 use Rattle.rules.specs.Types.{dimsOf, sizesOf}
 use Rattle.rules.specs.declared.DimLists.{DimLists}
 use Rattle.rules.specs.declared.Table.{Table}
 use Rattle.mesh.specs.Fitting.{IsPlace}
 
--- a device of the mesh, and shard sizes whose blocks begin within the table
-pub record Placing (mesh : List ℕ) (dims : DimLists) (shard : Table) (d : ℕ) : Type 0 where
-  pub device : IsPlace mesh d
+-- a place on the mesh, and shard sizes whose blocks begin within the table
+pub record Placing (mesh : List ℕ) (dims : DimLists) (shard : Table) (p : ℕ) : Type 0 where
+  pub place : IsPlace mesh p
   pub rank : shard .rank ≤ mostDims
-  pub few : (j : ℕ) → position mesh (getD (take (shard .rank) (dimsOf dims)) j []) (deviceCoords mesh d) * getD (sizesOf shard) j 0 < mostWords
+  pub few : (j : ℕ) → position mesh (getD (take (shard .rank) (dimsOf dims)) j []) (coords mesh p) * getD (sizesOf shard) j 0 < mostWords

@@ -1,28 +1,33 @@
 // The placement: a state's sharding and shard sizes, and a device's first indexes.
 // What it answers is defined in rules/specs/Calls.antt (placeOf); specs/Placing.antt has what the parts ask for.
 ghost use mathlib.Core.Path.{_≡_};
-ghost use Prim.Native.Nat.{_*_, _<_};
+ghost use Prim.Native.Nat.{_*_, _≤_, _<_};
 ghost use lib.ListN.{take};
-ghost use Rattle.rules.specs.Mesh.{deviceCoords};
+ghost use Rattle.rules.specs.Mesh.{coords, placeIn};
 ghost use Rattle.rules.specs.Sharding.{firstIndexes};
-ghost use Rattle.rules.specs.Limits.{mostWords};
-ghost use Rattle.rules.specs.Refusals.{refusedBy};
+ghost use Rattle.rules.specs.Limits.{mostAxes, mostDevices, mostWords};
+ghost use Rattle.rules.specs.Refusals.{refusedAs};
 ghost use Rattle.rules.specs.Types.{dimsOf, sizesOf};
 ghost use Rattle.rules.specs.Calls.{placedOf};
 ghost use Rattle.rules.specs.Promises.{PlacePromise};
+ghost use Rattle.reader.specs.Reading.{orderIn};
 ghost use Rattle.place.specs.Placing.{Placing};
 use dims::lists_within;
 use dims::no_lists;
 use dims::sizes_within;
 use mesh::position_of;
+use order::place_in;
 use plan::State;
 use plan::state_after;
 use reader::Next;
+use reader::carries_order;
+use reader::read_order;
 use rules::Device;
 use rules::Dim;
 use rules::DimLists;
 use rules::PlaceOutcome;
 use rules::Placed;
+use rules::PlanFile;
 use rules::Reason;
 use rules::Refusal;
 use rules::Table;
@@ -36,11 +41,11 @@ fn first_index(block: usize, size: u16) -> u16
     (block * words) as u16
 }
 
-// The first indexes of a device.
-fn first_indexes(mesh: &[u16], dims: DimLists, shard: Table, device: Device) -> Table
-    requires { ⌜ Placing (now mesh) dims shard (device .0) ⌝ }
+// The first indexes of the device at a place.
+fn first_indexes(mesh: &[u16], dims: DimLists, shard: Table, place: usize) -> Table
+    requires { ⌜ Placing (now mesh) dims shard place ⌝ }
     ensures { λ r. ⌜ (r .rank ≡ shard .rank) × (sizesOf r ≡ firstIndexes (now (mesh .entry)) (take (shard .rank) (dimsOf dims))
-        (sizesOf shard) (deviceCoords (now (mesh .entry)) (device .0))) ⌝ }
+        (sizesOf shard) (coords (now (mesh .entry)) place)) ⌝ }
 {
     let rank = shard.rank;
     let mut first = shard;
@@ -48,15 +53,29 @@ fn first_indexes(mesh: &[u16], dims: DimLists, shard: Table, device: Device) -> 
     while d < rank {
         let list = dims.at(Dim(d as u8));
         let size = shard.sizes[d];
-        first.sizes[d] = first_index(position_of(mesh, list, device.0 as usize), size);
+        first.sizes[d] = first_index(position_of(mesh, list, place), size);
         d += 1;
     }
     first
 }
 
+// The place of a device: where the file carries no order, its number.
+fn place_of(file: &[u8], n: usize, devices: usize, device: Device) -> usize
+    requires { ⌜ (n ≤ mostAxes) × (devices ≤ mostDevices) × (device .0 < devices) ⌝ }
+    ensures { λ r. ⌜ r ≡ placeIn (device .0) (orderIn (now (file .entry)) n devices) ⌝ }
+{
+    let d = device.0 as usize;
+    if !carries_order(file) {
+        return d;
+    }
+    let mut order = [0u16; Device::MOST];
+    read_order(file, PlanFile::LEAST + 2 * n, &mut order[0..devices]);
+    place_in(&order[0..devices], d)
+}
+
 // No lists, no sizes and no indexes, beside a refusal.
 fn refused(refusal: Refusal) -> Placed
-    ensures { λ r. ⌜ r ≡ placedOf (refusedBy refusal) ⌝ }
+    ensures { λ r. ⌜ r ≡ placedOf (refusedAs refusal) ⌝ }
 {
     let sharding = no_lists();
     Placed {
@@ -84,7 +103,8 @@ pub fn place(file: &[u8], state: u16, device: Device) -> Placed
     let mesh = found.mesh.sizes;
     let announced = found.sharding;
     let sizes = found.shard;
-    let indexes = first_indexes(&mesh[..n], announced.dims, sizes, device);
+    let place = place_of(file, n, found.devices, device);
+    let indexes = first_indexes(&mesh[..n], announced.dims, sizes, place);
     let sharding = lists_within(announced, sizes.rank);
     let shard = sizes_within(sizes);
     let first = sizes_within(indexes);

@@ -1,16 +1,16 @@
 -- What the parts of the run (src/lib.rt) ask for and leave: one step by itself, of no plan, and the steps of a plan that passed. Assumes nothing.
 use Prim.Native.Nat.{ℕ, _≤_}
 use mathlib.Core.Path.{_≡_}
-use mathlib.Core.Bool.{Bool, not}
+use mathlib.Core.Bool.{Bool, true, not}
 use mathlib.Core.List.{List}
 use lib.ListN.{length, take}
-use Rattle.rules.specs.Lists.{pick, product}
+use Rattle.rules.specs.Lists.{pick, inTurn, product}
 use Rattle.rules.specs.Sharding.{shardSizes}
 use Rattle.rules.specs.Spread.{addWords}
 use Rattle.rules.specs.Collectives.{Shards, stepped, Stands, withShards}
 use Rattle.rules.specs.Refusals.{accept}
-use Rattle.rules.specs.PlanFile.{Read, Plan, judge, room}
-use Rattle.rules.specs.Calls.{lastState}
+use Rattle.rules.specs.PlanFile.{Read, edition, carriesOrder, Plan, judge, announcedShape, room}
+use Rattle.rules.specs.Calls.{shardsAfter, lastState}
 use Rattle.rules.specs.Types.{dimsOf, shardingOf, stepOf, meshOf, sizesOf}
 use Rattle.rules.specs.declared.Kind.{Kind}
 use Rattle.rules.specs.declared.Sharding as code
@@ -60,6 +60,27 @@ pub record Runs (file : List ℕ) (at : ℕ) (w : Whole) (work spare : ℕ) : Ty
   pub holds : HoldsPlan file at w plan
   pub work-room : room plan ≤ work
   pub spare-room : room plan ≤ spare
+
+-- the same where the file carries an order of its devices
+pub record RunsOrdered (file : List ℕ) (at : ℕ) (w : Whole) (work spare : ℕ) : Type 0 where
+  pub runs : Runs file at w work spare
+  pub carried : carriesOrder (edition file) ≡ true
+
+-- the shards that a plan starts with, from the words given, stand in a buffer, by place
+abbrev pub StartStands : (file given buffer : List ℕ) → Type 0
+StartStands file given buffer = (p : Plan) → judge file ≡ accept p → Stands (p .mesh) (shardsAfter p given 0) buffer
+
+-- where the shards that a plan's last step leaves stand in `before` by place, `after` begins with the last state
+abbrev pub LastNumbered : (file before after : List ℕ) → Type 0
+LastNumbered file before after =
+    (p : Plan) → judge file ≡ accept p → (given : List ℕ) → Stands (p .mesh) (shardsAfter p given (length (p .steps))) before
+    → take (length (lastState p given)) after ≡ lastState p given
+
+-- of any shards in the shape of a plan's start that stood in the buffer `before`, those after all its steps stand in `after`: by place, whatever the order
+abbrev pub StepsTaken : (file before after : List ℕ) → Type 0
+StepsTaken file before after =
+    (p : Plan) → judge file ≡ accept p → (v : Shards ℕ) → v .shape ≡ announcedShape p 0 → Stands (p .mesh) v before
+    → Stands (p .mesh) (inTurn (stepped addWords (p .mesh)) (p .steps) v) after
 
 -- the buffer begins with the state that the plan's last step leaves, from the words given
 abbrev pub BeginsWithLast : (file given buffer : List ℕ) → Type 0

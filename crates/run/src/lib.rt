@@ -3,19 +3,28 @@
 // ask for and leave.
 ghost use mathlib.Core.Path.{_≡_};
 ghost use Prim.Native.Nat.{_*_, _≤_};
-ghost use lib.ListN.{length, take, replicate};
+ghost use mathlib.Core.List.{_++_};
+ghost use lib.ListN.{length, take, drop, replicate};
 ghost use Rattle.rules.specs.Lists.{pick, product};
 ghost use Rattle.rules.specs.Limits.{mostDevices, mostWords};
+ghost use Rattle.rules.specs.Types.{WithinPlaces};
 ghost use Rattle.rules.specs.Promises.{RunPromise};
 ghost use Rattle.plan.specs.Parts.{Bounded, answerOf};
-ghost use Rattle.run.specs.Turns.{Turning, Turned, standsAfter, Runs, BeginsWithLast};
+ghost use Rattle.order.specs.Order.{byPlace, ShardsFit};
+ghost use Rattle.run.specs.Turns.{shapeOf, Turning, Turned, standsAfter, Runs, RunsOrdered, StepsTaken, BeginsWithLast};
 use dims::shard_of;
 use dims::words;
+use order::invert;
+use order::place_shards;
 use plan::Whole;
 use plan::judge_file;
 use reader::Next;
+use reader::carries_order;
+use reader::read_order;
+use rules::Device;
 use rules::Kind;
 use rules::Mesh;
+use rules::PlanFile;
 use rules::Reason;
 use rules::Refusal;
 use rules::RunOutcome;
@@ -110,15 +119,23 @@ fn do_turn(
     }
 }
 
-// The steps in turn. Answers whether the last state stands at the front of work; else it stands at that of spare.
-fn run_steps(file: &[u8], at: usize, whole: Whole, work: &mut [u32], spare: &mut [u32]) -> bool
+// The steps in turn, from the state by place in work, its home, or in spare. Answers whether the last state stands at the front of work; else it stands at that of
+// spare.
+fn run_steps(
+    file: &[u8],
+    at: usize,
+    whole: Whole,
+    home: bool,
+    work: &mut [u32],
+    spare: &mut [u32],
+) -> bool
     requires { ⌜ Runs (now file) at whole (length (now work)) (length (now spare)) ⌝ }
-    ensures { λ r. ⌜ BeginsWithLast (now (file .entry)) (now (work .entry)) (pick r (now (work .exit)) (now (spare .exit))) ⌝ }
+    ensures { λ r. ⌜ StepsTaken (now (file .entry)) (pick home (now (work .entry)) (now (spare .entry))) (pick r (now (work .exit)) (now (spare .exit))) ⌝ }
 {
     let steps = whole.steps;
     let mut sharding = whole.start;
     let mut place = at;
-    let mut in_work = true;
+    let mut in_work = home;
     let mut k: usize = 0;
     while k < steps {
         let number = (k + 1) as u16;
@@ -145,6 +162,81 @@ fn run_steps(file: &[u8], at: usize, whole: Whole, work: &mut [u32], spare: &mut
         k += 1;
     }
     in_work
+}
+
+// The words of one shard of a sharding.
+fn words_of(whole: Whole, sharding: Sharding) -> usize
+    requires { ⌜ WithinPlaces (whole .mesh) (whole .table) ⌝ }
+    ensures { λ r. ⌜ r ≡ product (shapeOf (whole .mesh) (whole .table) sharding) ⌝ }
+{
+    words(shard_of(whole.table, sharding.dims, whole.mesh))
+}
+
+// Shards of m words by place, from the buffer in which they stand to the other one, by device number.
+fn number_shards(in_work: bool, places: &[u16], m: usize, work: &mut [u32], spare: &mut [u32])
+    requires { ⌜ ShardsFit (now places) m (length (now spare)) (length (now work)) × ShardsFit (now places) m (length (now work)) (length (now spare)) ⌝ }
+    ensures { λ _. ⌜ pick in_work (now (spare .exit)) (now (work .exit)) ≡ byPlace 0 (now (places .entry)) m (pick in_work (now (work .entry)) (now (spare .entry)))
+        ++ drop (length (now (places .entry)) * m) (pick in_work (now (spare .entry)) (now (work .entry))) ⌝ }
+{
+    if in_work {
+        place_shards(spare, work, places, m);
+    } else {
+        place_shards(work, spare, places, m);
+    }
+}
+
+// A plan whose devices have an order, with room for it and for its inverse. The steps know places alone: shards go there before the first step, and back
+// after the last.
+fn run_by_place(
+    file: &[u8],
+    at: usize,
+    whole: Whole,
+    order: &mut [u16],
+    places: &mut [u16],
+    work: &mut [u32],
+    spare: &mut [u32],
+) -> bool
+    requires { ⌜ RunsOrdered (now file) at whole (length (now work)) (length (now spare)) × (length (now order) ≡ whole .devices) × (length (now places) ≡ whole .devices) ⌝ }
+    ensures { λ r. ⌜ BeginsWithLast (now (file .entry)) (now (work .entry)) (pick r (now (work .exit)) (now (spare .exit))) ⌝ }
+{
+    read_order(file, PlanFile::LEAST + 2 * whole.mesh.n, order);
+    invert(order, places);
+    let m = words_of(whole, whole.start);
+    place_shards(spare, work, order, m);
+    let in_work = run_steps(file, at, whole, false, work, spare);
+    let last = words_of(whole, whole.last);
+    number_shards(in_work, places, last, work, spare);
+    !in_work
+}
+
+fn run_ordered(file: &[u8], at: usize, whole: Whole, work: &mut [u32], spare: &mut [u32]) -> bool
+    requires { ⌜ RunsOrdered (now file) at whole (length (now work)) (length (now spare)) ⌝ }
+    ensures { λ r. ⌜ BeginsWithLast (now (file .entry)) (now (work .entry)) (pick r (now (work .exit)) (now (spare .exit))) ⌝ }
+{
+    let devices = whole.devices;
+    let mut order = [0u16; Device::MOST];
+    let mut places = [0u16; Device::MOST];
+    run_by_place(
+        file,
+        at,
+        whole,
+        &mut order[0..devices],
+        &mut places[0..devices],
+        work,
+        spare,
+    )
+}
+
+// The whole plan, from the words of work. Answers whether the last state stands at the front of work; else it stands at that of spare.
+fn run_plan(file: &[u8], at: usize, whole: Whole, work: &mut [u32], spare: &mut [u32]) -> bool
+    requires { ⌜ Runs (now file) at whole (length (now work)) (length (now spare)) ⌝ }
+    ensures { λ r. ⌜ BeginsWithLast (now (file .entry)) (now (work .entry)) (pick r (now (work .exit)) (now (spare .exit))) ⌝ }
+{
+    if carries_order(file) {
+        run_ordered(file, at, whole, work, spare)
+    } else {
+        run_steps(file, at, whole, true, work, spare)
+    }
 }
 
 // The last state, of so many words, at the front of work, whichever buffer it stands in; and 0 in all of spare.
@@ -192,7 +284,7 @@ pub fn run(file: &[u8], work: &mut [u32], spare: &mut [u32]) -> RunOutcome
     if spare.len() < room {
         return refused(Reason::SpareTooShort);
     }
-    let in_work = run_steps(file, at, whole, work, spare);
+    let in_work = run_plan(file, at, whole, work, spare);
     let last = last_words(whole);
     bring_home(in_work, last, work, spare);
     clear(&mut work[last..]);

@@ -7,14 +7,14 @@ use denote.Ref.{now}
 use lib.ListN.{getD, drop}
 use Rattle.rules.specs.Lists.{tab}
 use Rattle.rules.specs.Limits.{mostDevices}
+use Rattle.rules.proofs.Fronts.{Filled, fill-word}
 use Rattle.groups.specs.Ordering.{repeated}
-use Rattle.groups.proofs.Lists.{Filling, filled}
 use Rattle.groups.proofs.Writing.{repeating, repeated-next}
 use Rattle.groups.proofs.repeat_devices.Statement.{statement}
 use Rattle.groups.proofs.repeat_devices.Tie as tie
 
 abbrev Inv-loop : tie.InvT-loop
-Inv-loop out₀ count end stride place₀ out place = Filling (repeated out₀ count stride) out₀ out place × (count ≤ place) × (place ≤ end)
+Inv-loop out₀ count end stride place₀ out place = Filled (repeated out₀ count stride) out₀ out place × (count ≤ place) × (place ≤ end)
 
 abbrev μ-loop : tie.MeasureT-loop
 μ-loop out₀ count end stride place₀ out place = end - place
@@ -54,9 +54,9 @@ repeat-devices-spec =
     (λ c. search needs)
     (λ c. search needs)
     (λ c. let l = c .before .before in
-    (filled (l .loop .inv .0) (omega (arith, l .before .pre .room)) _ (next c), omega arith, omega arith))
+    (fill-word (l .loop .inv .0) (omega (arith, l .before .pre .room)) (next c), omega arith, omega arith))
     (λ c. search needs)
     (λ c. let l = c .before in
     let a = l .before .args in
     let all : l .loop .place ≡ a .end = omega arith in
-    l .loop .inv .0 .same ∙ ap (λ (k : ℕ). tab k (repeated (now (a .out)) (a .count) (a .stride)) ++ drop k (now (a .out))) all))
+    l .loop .inv .0 .front ∙ ap (λ (k : ℕ). tab k (repeated (now (a .out)) (a .count) (a .stride)) ++ drop k (now (a .out))) all))

@@ -6,7 +6,7 @@ use mathlib.Core.List.{List, []}
 use mathlib.Core.Path.{refl, sym}
 use lib.ListN.{take, length-map}
 use lib.Seq.{getD-take, length-take-le}
-use Rattle.rules.specs.Mesh.{position, deviceCoords}
+use Rattle.rules.specs.Mesh.{position, coords}
 use Rattle.rules.specs.Types.{dimsOf, sizesOf}
 use Rattle.dims.proofs.Pairs.{Making, making, makes, all-made}
 use Rattle.dims.proofs.Dims.{dims-length, list-at}
@@ -14,12 +14,12 @@ use Rattle.place.proofs.first_indexes.Statement.{statement}
 use Rattle.place.proofs.first_indexes.Tie as tie
 
 abbrev Inv-loop : tie.InvT-loop
-Inv-loop mesh dims device shard rank first₀ d₀ first d =
-    Making (λ (n : ℕ) (l : List ℕ). position mesh l (deviceCoords mesh (device .0)) * n) (sizesOf shard) (take rank (dimsOf dims)) (first .sizes) rank d
+Inv-loop mesh dims place shard rank first₀ d₀ first d =
+    Making (λ (n : ℕ) (l : List ℕ). position mesh l (coords mesh place) * n) (sizesOf shard) (take rank (dimsOf dims)) (first .sizes) rank d
     × (first .rank ≡ shard .rank)
 
 abbrev μ-loop : tie.MeasureT-loop
-μ-loop mesh dims device shard rank first₀ d₀ first d = rank - d
+μ-loop mesh dims place shard rank first₀ d₀ first d = rank - d
 
 pub first-indexes-spec : {M : Type 1} → statement M
 first-indexes-spec =
@@ -38,20 +38,19 @@ first-indexes-spec =
     (λ c κs. search needs)
     (λ c. search needs)
     (λ c. search needs)
-    (λ c. search needs)
     (λ c κs. search needs)
-    (λ c κs. let c6 = c .before .before .before .before .before .before .before in
+    (λ c κs. let c6 = c .before .before .before .before .before .before in
     let a = c6 .args in
-    let d = c .before .before .before .before .before .loop .d in
-    let h = c .before .before .before .before .loop-test .taken in
+    let d = c .before .before .before .before .loop .d in
+    let h = c .before .before .before .loop-test .taken in
     let p = getD-take (a .t3 .rank) (a .t3 .sizes) d 0 h in
-    let q = list-at (a .dims) (a .t3 .rank) d _ h (c .before .before .before .at .ensures) in
+    let q = list-at (a .dims) (a .t3 .rank) d _ h (c .before .before .at .ensures) in
     rw (c .position-of .ensures, q, ← p) (c6 .pre .few d))
     (λ c. search needs)
     (λ c. search needs)
     (λ c. search needs)
     (λ c. search needs)
-    (λ c. let c3 = c .before .before .before .before in
+    (λ c. let c3 = c .before .before .before in
     let c4 = c3 .before in
     let c5 = c4 .before in
     let a = c5 .before .before .args in

@@ -32,8 +32,8 @@ bring-home-requires c κs =
     let r = v .before .before .before .before .before in
     let j = r .before .before .before .before .before .before .before .before .before in
     let h = plan-held _ _ (j .judge-file .ensures) (r .before .before .before .before .before .before .before .next .given .1) in
-    let lw : length (r .run-steps .last .1 .1 .1 .0) ≡ length (now (j .before .before .before .before .args .work)) = search needs in
-    let ls : length (r .run-steps .last .1 .1 .1 .1 .0) ≡ length (now (j .before .before .before .before .args .spare)) = search needs in (
+    let lw : length (r .run-plan .last .1 .1 .1 .0) ≡ length (now (j .before .before .before .before .args .work)) = search needs in
+    let ls : length (r .run-plan .last .1 .1 .1 .1 .0) ≡ length (now (j .before .before .before .before .args .spare)) = search needs in (
       omega (arith, lw, v .last-words .ensures, last-fits h (r .before .before .before .before .if1 .left) .inside),
       omega (arith, ls, v .last-words .ensures, last-fits h (r .before .before .before .if2 .left) .inside),
     )
@@ -41,7 +41,7 @@ bring-home-requires c κs =
 sub-clear : tie.Need-sub-clear
 sub-clear c =
     let g = c .before .before .before .before in
-    let l : length (g .bring-home .last .1 .1 .0) ≡ length (g .before .before .before .before .before .before .before .before .run-steps .last .1 .1 .1 .0) = search needs in
+    let l : length (g .bring-home .last .1 .1 .0) ≡ length (g .before .before .before .before .before .before .before .before .run-plan .last .1 .1 .1 .0) = search needs in
     omega (arith, l, bring-home-requires (g .before) (g .bring-home .lifetimes) .0)
 
 pub run-spec : {M : Type 1} → statement M
@@ -104,11 +104,11 @@ run-spec =
     let w : room (h .0) ≤ length work = omega (arith, h .2 .room-is, r .before .before .before .before .if1 .left) in
     let q : room (h .0) ≤ length spare = omega (arith, h .2 .room-is, r .before .before .before .if2 .left) in
     let lw : length (g .bring-home .last .1 .1 .0) ≡ length work = search needs in
-    let ls : length (r .run-steps .last .1 .1 .1 .1 .0) ≡ length spare = search needs in
+    let ls : length (r .run-plan .last .1 .1 .1 .1 .0) ≡ length spare = search needs in
     let e = v .last-words .ensures ∙ last-size h work in
     let f = ap (λ (n : ℕ). take n (g .bring-home .last .1 .1 .0)) (sym e) ∙ g .bring-home .ensures .1
-    ∙ ap (λ (n : ℕ). take n (pick (r .run-steps .result) (r .run-steps .last .1 .1 .1 .0) (r .run-steps .last .1 .1 .1 .1 .0))) e
-    ∙ r .run-steps .ensures (h .0) (h .1) in
+    ∙ ap (λ (n : ℕ). take n (pick (r .run-plan .result) (r .run-plan .last .1 .1 .1 .0) (r .run-plan .last .1 .1 .1 .1 .0))) e
+    ∙ r .run-plan .ensures (h .0) (h .1) in
     run-promise _ _ _ Finished (λ i. j .before .before .slice-known .given i .fits)
     (finishes _ work spare (h .1) (w, q) (cleared-behind _ work _ _ _ e (sub-clear (c .before .before .before .before)) lw f (c .before .before .clear .ensures))
     (g .bring-home .ensures .0 ∙ ap (λ (n : ℕ). replicate n 0) ls))))

@@ -2,17 +2,18 @@ use borrow.Author.Needs.{needs}
 use native.Mathlib.Omega.{arith}
 use Prim.Native.Nat.{_-_}
 use lib.ListN.{length}
+use Rattle.rules.specs.Lists.{pick}
 use Rattle.plan.proofs.Wholes.{bounded}
 use Rattle.run.proofs.Running.{Running, running, turn, no-refusal, onward, arrived}
 use Rattle.run.proofs.run_steps.Statement.{statement}
 use Rattle.run.proofs.run_steps.Tie as tie
 
 abbrev Inv-loop : tie.InvT-loop
-Inv-loop file at whole work₀ spare₀ steps sharding₀ place₀ in-work₀ k₀ work spare sharding place in-work k =
-    Running file work₀ at whole (length spare₀) k place sharding in-work work spare
+Inv-loop file at whole home work₀ spare₀ steps sharding₀ place₀ in-work₀ k₀ work spare sharding place in-work k =
+    Running file (pick home work₀ spare₀) at whole (length work₀) (length spare₀) k place sharding in-work work spare
 
 abbrev μ-loop : tie.MeasureT-loop
-μ-loop file at whole work₀ spare₀ steps sharding₀ place₀ in-work₀ k₀ work spare sharding place in-work k = whole .steps - k
+μ-loop file at whole home work₀ spare₀ steps sharding₀ place₀ in-work₀ k₀ work spare sharding place in-work k = whole .steps - k
 
 enum-told : tie.Need-enum-told Inv-loop μ-loop
 enum-told c = search needs
@@ -23,7 +24,7 @@ run-steps-spec =
     (tie.spec
     Inv-loop
     μ-loop
-    (λ c. running _ _ _ _ _ (c .before .before .before .before .pre))
+    (λ c. running _ _ _ _ _ _ (c .before .before .before .before .pre))
     (λ c. omega arith)
     (λ c. let h = c .before .before .before .before .before .before .pre in
     let b = bounded _ (h .plan, h .judged, h .holds) in

@@ -4,11 +4,11 @@ use native.Mathlib.Omega.{arith}
 use lib.ListN.{length}
 use Rattle.rules.specs.Types.{axesOf}
 use Rattle.groups.proofs.Ordering.{remaining-length, order-length, order-made}
-use Rattle.groups.proofs.order_of.Statement.{statement}
-use Rattle.groups.proofs.order_of.Tie as tie
+use Rattle.groups.proofs.axis_order.Statement.{statement}
+use Rattle.groups.proofs.axis_order.Tie as tie
 
-pub order-of-spec : {M : Type 1} → statement M
-order-of-spec =
+pub axis-order-spec : {M : Type 1} → statement M
+axis-order-spec =
     tie.close
     (tie.spec (λ c κs. search needs) (λ c κs. c .before .pre .few) (λ c κs. let a = c .before .before in
     rw (c .before .empty .ensures, c .axes-below .ensures) (omega (arith, remaining-length (a .pre), a .pre .few))) (λ c κs. let b = c .before in
