@@ -1,18 +1,25 @@
 // What the programs print of a plan file: `no NUMBER STEP`, or `ok STEPS` and a line for each state, its number and
-// its shard sizes. Numbers and sizes are those of `ishkrela::check` and `plan::state_after`, which answer document 01's
-// definitions; that the lines are 01's is tested (tests/plans.txt).
+// its shard sizes. `ishkrela::check` judges the file once; where it passed, each step is read again once, and the sizes
+// are those of `dims::shard_of` after it. These calls answer document 01's definitions; that the lines are 01's is
+// tested (tests/plans.txt).
 ghost use mathlib.Core.Path.{_≡_};
 ghost use Rattle.rules.specs.Refusals.{numberOf};
 ghost use Rattle.rules.specs.Promises.{CheckPromise};
+ghost use Rattle.judge.specs.Step.{Sharded};
+use dims::shard_of;
 use ishkrela::CheckOutcome;
 use ishkrela::Checked;
 use ishkrela::Dim;
 use ishkrela::Refusal;
+use ishkrela::Sharding;
 use ishkrela::check;
 use libc::STDOUT_FILENO;
-use plan::state_after;
+use opening::open;
+use reader::Next;
 use reasons::number_of;
+use rules::Mesh;
 use rules::Table;
+use taking::take_step;
 
 fn print_number(n: u64) {
     io::print_decimal(STDOUT_FILENO, n);
@@ -46,18 +53,42 @@ fn print_sizes(shard: Table) {
     }
 }
 
-fn print_state(file: &[u8], k: u16) {
-    let state = state_after(file, k as usize);
+fn print_state(k: u16, shard: Table) {
     print_number(k as u64);
-    print_sizes(state.shard);
+    print_sizes(shard);
     io::write_all(STDOUT_FILENO, b"\n");
+}
+
+// A line for the state after each step, as the step is read again.
+fn print_steps(file: &[u8], at: usize, steps: u16, mesh: Mesh, table: Table, start: Sharding)
+    requires { ⌜ Sharded mesh table start ⌝ }
+{
+    let mut sharding = start;
+    let mut place = at;
+    for k in 1..=steps {
+        let taken = take_step(file, place, k, mesh, table, sharding);
+        let next = taken.next;
+        let Next::At(end) = next else {
+            return;
+        };
+        sharding = taken.sharding;
+        place = end;
+        print_state(k, shard_of(table, sharding.dims, mesh));
+    }
 }
 
 // The start is state 0, so there is one line more than there are steps.
 fn print_states(file: &[u8], steps: u16) {
-    for k in 0..=steps {
-        print_state(file, k);
-    }
+    let opening = open(file);
+    let next = opening.next;
+    let Next::At(at) = next else {
+        return;
+    };
+    let mesh = opening.mesh;
+    let table = opening.table;
+    let start = opening.start;
+    print_state(0, shard_of(table, start.dims, mesh));
+    print_steps(file, at, steps, mesh, table, start);
 }
 
 fn print_passed(file: &[u8], steps: u16) {

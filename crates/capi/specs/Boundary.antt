@@ -6,7 +6,7 @@ use lib.ListN.{length, getD, replicate}
 use Rattle.rules.specs.Lists.{tab}
 use Rattle.rules.specs.Limits.{mostAxes, mostDims}
 use Rattle.rules.specs.Sharding.{Sharding}
-use Rattle.rules.specs.Refusals.{Judged, accept, refuse, refusedBy}
+use Rattle.rules.specs.Refusals.{Judged, accept, refuse, refusedAs}
 use Rattle.rules.specs.Types.{fourPlaces, shardingOf}
 use Rattle.rules.specs.Calls.{CheckAnswer, PlaceAnswer}
 use Rattle.rules.specs.declared.Checked.{Checked}
@@ -106,7 +106,7 @@ checkedReply (check.Passed t) c = record {
   shard = c .shard;
   sharding = shardingReply (shardingOf mostDims (c .sharding));
 }
-checkedReply (check.Refused r) c = checkReply (refusedBy r)
+checkedReply (check.Refused r) c = checkReply (refusedAs r)
 
 abbrev pub placedReply : PlaceOutcome → Placed → PlaceReply
 placedReply (place.Found rank) c = record {
@@ -116,4 +116,4 @@ placedReply (place.Found rank) c = record {
   first = c .first;
   sharding = shardingReply (shardingOf mostDims (c .sharding));
 }
-placedReply (place.Refused r) c = placeReply (refusedBy r)
+placedReply (place.Refused r) c = placeReply (refusedAs r)

@@ -5,9 +5,9 @@ ghost use Prim.Native.Nat.{_≤_, _<_, _+_, _*_};
 ghost use lib.ListN.{length, getD};
 ghost use Rattle.rules.specs.Lists.{tab};
 ghost use Rattle.rules.specs.Limits.{mostAxes, mostDims};
-ghost use Rattle.rules.specs.Refusals.{numberOf, refusedBy};
+ghost use Rattle.rules.specs.Refusals.{numberOf, refusedAs};
 ghost use Rattle.rules.specs.Types.{axesOf, shardingOf};
-ghost use Rattle.rules.specs.Calls.{checkOf, placeOf, groupsOf, groupsLeave, runOf};
+ghost use Rattle.rules.specs.Calls.{checkOf, placeOf, groupsOf, groupsLeave, groupsOrderedOf, groupsOrderedLeave, runOf};
 ghost use Rattle.capi.specs.Boundary.{refusalCode, lists, listOf, listCounts, listAxes, shardingReply, noSharding, checkReply, placeReply, checkedReply, placedReply};
 use ishkrela::Axis;
 use ishkrela::AxisList;
@@ -151,7 +151,7 @@ fn no_sharding() -> ShardingReply
 }
 
 fn check_refused(refusal: Refusal) -> CheckReply
-    ensures { λ r. ⌜ r ≡ checkReply (refusedBy refusal) ⌝ }
+    ensures { λ r. ⌜ r ≡ checkReply (refusedAs refusal) ⌝ }
 {
     let sharding = no_sharding();
     CheckReply {
@@ -196,7 +196,7 @@ pub extern "C" fn ishkrela_check(file: &[u8]) -> CheckReply
 }
 
 fn place_refused(refusal: Refusal) -> PlaceReply
-    ensures { λ r. ⌜ r ≡ placeReply (refusedBy refusal) ⌝ }
+    ensures { λ r. ⌜ r ≡ placeReply (refusedAs refusal) ⌝ }
 {
     let sharding = no_sharding();
     PlaceReply {
@@ -244,6 +244,24 @@ pub extern "C" fn ishkrela_groups(mesh: &[u16], axes: &[u8], out: &mut [u16]) ->
     ensures leaves { λ r. ⌜ now (out .exit) ≡ groupsLeave (now (mesh .entry)) (now (axes .entry)) (now (out .entry)) ⌝ }
 {
     let outcome = ishkrela::groups(mesh, axes, out);
+    match outcome {
+        GroupsOutcome::Listed(_) => 0,
+        GroupsOutcome::Refused(refusal) => code_of(refusal),
+    }
+}
+
+// The group listing by an order of the devices.
+#[no_mangle]
+pub extern "C" fn ishkrela_groups_ordered(
+    mesh: &[u16],
+    order: &[u16],
+    axes: &[u8],
+    out: &mut [u16],
+) -> u32
+    ensures answers { λ r. ⌜ r ≡ refusalCode (groupsOrderedOf (now (mesh .entry)) (now (order .entry)) (now (axes .entry)) (now (out .entry))) ⌝ }
+    ensures leaves { λ r. ⌜ now (out .exit) ≡ groupsOrderedLeave (now (mesh .entry)) (now (order .entry)) (now (axes .entry)) (now (out .entry)) ⌝ }
+{
+    let outcome = ishkrela::groups_ordered(mesh, order, axes, out);
     match outcome {
         GroupsOutcome::Listed(_) => 0,
         GroupsOutcome::Refused(refusal) => code_of(refusal),

@@ -77,6 +77,16 @@ pub(crate) fn read_mesh(sizes: &mut [u16]) -> u8
     count
 }
 
+// Reads device numbers to the front of an array: how many in two bytes, and each in two. Answers how many.
+pub(crate) fn read_order(order: &mut [u16]) -> u16
+    requires { ⌜ 65536 ≤ length (now order) ⌝ }
+{
+    let count = next_number();
+    let n = count as usize;
+    fill_numbers(&mut order[0..n]);
+    count
+}
+
 // Reads axes to the front of an array: how many in one byte, and each in one. Answers how many.
 pub(crate) fn read_axes(axes: &mut [u8]) -> u8
     requires { ⌜ 256 ≤ length (now axes) ⌝ }

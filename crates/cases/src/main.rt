@@ -17,6 +17,7 @@ fn one_case() -> bool {
         2 => placement::answer_case(),
         3 => listing::answer_case(),
         4 => running::answer_case(),
+        5 => listing::answer_ordered_case(),
         _ => return false,
     }
     true

@@ -1,6 +1,6 @@
-// The library as its users see it: the four calls, and the types of what they take and answer.
+// The library as its users see it: the calls, and the types of what they take and answer.
 // No call asks anything of its input; what each promises is in rules/specs/Promises.antt.
-ghost use Rattle.rules.specs.Promises.{CheckPromise, PlacePromise, GroupsPromise, RunPromise};
+ghost use Rattle.rules.specs.Promises.{CheckPromise, PlacePromise, GroupsPromise, GroupsOrderedPromise, RunPromise};
 pub use rules::Axis;
 pub use rules::AxisList;
 pub use rules::CheckOutcome;
@@ -36,6 +36,13 @@ pub fn groups(mesh: &[u16], axes: &[u8], out: &mut [u16]) -> GroupsOutcome
     ensures { λ r. ⌜ GroupsPromise (now (mesh .entry)) (now (axes .entry)) (now (out .entry)) r (now (out .exit)) ⌝ }
 {
     groups::groups(mesh, axes, out)
+}
+
+// The same by an order of the devices: the device at each coordinate tuple, in row-major order.
+pub fn groups_ordered(mesh: &[u16], order: &[u16], axes: &[u8], out: &mut [u16]) -> GroupsOutcome
+    ensures { λ r. ⌜ GroupsOrderedPromise (now (mesh .entry)) (now (order .entry)) (now (axes .entry)) (now (out .entry)) r (now (out .exit)) ⌝ }
+{
+    groups::groups_ordered(mesh, order, axes, out)
 }
 
 // Runs a plan: the last state at the front of work, and 0 in the rest of work and in all of spare.

@@ -1,0 +1,24 @@
+use borrow.Author.Needs.{needs}
+use mathlib.Core.Path.{sym, ap, _∙_}
+use Rattle.rules.specs.Calls.{groupsMeaning}
+use Rattle.capi.specs.Boundary.{refusalCode}
+use Rattle.capi.proofs.ishkrela_groups_ordered.Statement.{statement}
+use Rattle.capi.proofs.ishkrela_groups_ordered.Tie as tie
+
+enum-told : tie.Need-enum-told
+enum-told c = search needs
+
+pub ishkrela-groups-ordered-spec : {M : Type 1} → statement M
+ishkrela-groups-ordered-spec =
+    tie.close
+    (tie.spec
+    (λ c κs. search needs)
+    enum-told
+    (λ c. search needs)
+    (λ c κs. search needs)
+    (λ c. search needs)
+    (λ c. let g = c .before .before .before .before .groups-ordered .ensures in
+    (ap refusalCode (sym (ap groupsMeaning (c .enum-told .given .1)) ∙ g .answers), g .leaves))
+    (λ c. search needs)
+    (λ c. let g = c .before .before .before .before .before .before .groups-ordered .ensures in
+    (c .code-of .ensures ∙ ap refusalCode (sym (ap groupsMeaning (c .before .before .outcome .given .1)) ∙ g .answers), g .leaves)))
