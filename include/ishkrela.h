@@ -17,8 +17,11 @@
  * WORDS
  *
  * axis      an axis of the mesh, numbered from 0
- * device    a device, by the row-major number of its coordinates, the last axis fastest
  * D         the number of devices, the product of the mesh's sizes
+ * device    a device, by its number, 0 to D-1. In plain order that is the row-major number of its
+ *           coordinates, the last axis fastest
+ * order     the device at each coordinate tuple, tuples in row-major order: how devices are numbered
+ *           where it is not the plain way
  * shard     the part of the table that one device holds; its sizes are one number a dimension
  * sharding  for each dimension a list of axes that it is split along, outer to inner; a list of
  *           unreduced axes, along which the devices' shards are parts of a sum; and a list of
@@ -36,17 +39,19 @@
  *
  *     header     nine 16-bit numbers: edition, number of axes, rank, number of steps, the offsets
  *                of mesh sizes (18), table sizes, sharding and steps, and the length of the file
- *     mesh       a 16-bit size for each axis
+ *     mesh       a 16-bit size for each axis; in edition 3 the order, D 16-bit device numbers
  *     table      a 16-bit size for each dimension
- *     sharding   a list for each dimension, the unreduced list, in edition 2 the replicated list
+ *     sharding   a list for each dimension, the unreduced list, in editions 2 and 3 the replicated
+ *                list
  *     steps      a kind byte, then
  *                    1 all-slice, 2 all-gather   a list for each dimension
  *                    3 all-reduce                one list
  *                    4 all-to-all                source dimension, target dimension (bytes), one list
  *
- * A list is a count byte and that many axis bytes. A plan has one file: its edition is 1 where the
- * replicated list is empty and 2 where it is not. docs/PROMISES.md goes through the rules, and
- * crates/rules/specs/PlanFile.antt has them, test by test.
+ * A list is a count byte and that many axis bytes. A plan has one file: its edition is 3 where its
+ * devices have an order; of those in plain order it is 1 where the replicated list is empty and 2
+ * where it is not. docs/PROMISES.md goes through the rules, and crates/rules/specs/PlanFile.antt has
+ * them, test by test.
  *
  *
  * THE FOUR STEPS
@@ -80,7 +85,7 @@
  * example of each number, and what to do.
  *
  *      1  fewer than 18 bytes                  2  more than 8,192 bytes
- *      3  the edition is neither 1 nor 2       4  total length is not the number of bytes given
+ *      3  the edition is none of 1, 2 and 3    4  total length is not the number of bytes given
  *      5  number of axes, rank or number of steps outside its limits
  *      6  an offset is wrong                   7  a section runs past the end
  *      8  a list's count is above the number of axes
@@ -91,6 +96,7 @@
  *     16  start: unreduced or replicated list not strictly increasing
  *     17  start: a dimension is not divisible
  *     18  start: the replicated list of edition 2 is empty
+ *     19  the order is no rearrangement of 0 to D-1, or it is the plain one
  *     20  unknown kind of step                21  a step names no axis
  *     22  step: no such axis
  *     23  all-slice: the axis is in a list of the sharding, or was named earlier in this step
@@ -117,8 +123,9 @@
  * is 0, so it may be null. The calls keep no state of their own: threads may call at once where none
  * lends memory for writing that another uses.
  *
- * A call takes less than 20 KiB of stack: on the cases of tests/ at most 18,696 bytes for a run, 2,240
- * for a placement, 2,224 for a check, 208 for a group listing (tests/stack.c, which tools/try_c runs).
+ * A call takes less than 24 KiB of stack: on the cases of tests/ at most 22,952 bytes for a run, 6,976
+ * for a placement, 5,136 for a check, 1,360 for a group listing by an order and 288 for one without
+ * (tests/stack.c, which tools/try_c runs).
  */
 #ifndef ISHKRELA_H
 #define ISHKRELA_H
@@ -175,6 +182,11 @@ ishkrela_placed ishkrela_place(const uint8_t *file, size_t file_len, uint16_t st
  * Refusals 5, 10, 11, 14, 15, 33, in that order. */
 uint32_t ishkrela_groups(const uint16_t *mesh, size_t mesh_len, const uint8_t *axes, size_t axes_len,
                          uint16_t *out, size_t out_len);
+
+/* The same of devices with an order. Refusals 5, 10, 11, 19, 14, 15, 33, in that order; 19 also where
+ * the order has not D numbers, or none: plain order is for the call above. */
+uint32_t ishkrela_groups_ordered(const uint16_t *mesh, size_t mesh_len, const uint16_t *order, size_t order_len,
+                                 const uint8_t *axes, size_t axes_len, uint16_t *out, size_t out_len);
 
 /* Runs a plan. Work begins with the shards of the start, by device number, each in row-major order,
  * without gaps. Afterwards it begins with those of the last state, and the rest of work and all of

@@ -3,6 +3,7 @@
 A mesh is a grid of up to 1,024 devices, given by the sizes of its axes. A table (a tensor of up to
 65,536 words of 32 bits) is spread over it; its sharding says which axes split each dimension. A plan
 is a small file with the sizes of mesh and table, the sharding at the start, and steps that change it.
+Devices are numbered in row-major order of their coordinates, or as the order of a plan lists them.
 
     >>> from ishkrela import *
     >>> file = plan_file([2, 2], [4, 4], Sharding([[0], [1]]), [AllGather([[], [1]])])
@@ -61,7 +62,7 @@ MOST_DEVICES = 1024
 TEXTS = {
     1: "fewer than 18 bytes",
     2: "more than 8,192 bytes",
-    3: "the edition is neither 1 nor 2",
+    3: "the edition is none of 1, 2 and 3",
     4: "total length is not the number of bytes given",
     5: "number of axes, rank or number of steps outside its limits",
     6: "an offset is wrong",
@@ -77,6 +78,7 @@ TEXTS = {
     16: "start: unreduced or replicated list not strictly increasing",
     17: "start: a dimension is not divisible",
     18: "start: the replicated list of edition 2 is empty",
+    19: "the order is no rearrangement of 0 to D-1, or it is the plain one",
     20: "unknown kind of step",
     21: "a step names no axis",
     22: "step: no such axis",
@@ -166,22 +168,31 @@ def place(file: Bytes, state: int, device: int) -> Placed:
     return Placed(sharding, shard, _front(answer.first, answer.rank))
 
 
-def groups(mesh: Iterable[int], axes: Iterable[int], out: Optional[Lent] = None) -> List[List[int]]:
+def groups(
+    mesh: Iterable[int], axes: Iterable[int], out: Optional[Lent] = None, order: Optional[Iterable[int]] = None
+) -> List[List[int]]:
     """Lists the devices of a mesh by groups along a list of axes, each in order of position: a list for each group.
 
     `out`, 16-bit words such as an array.array("H") where it is given, is lent to the call: its first
     entries become the device numbers, one for each device of the mesh, and the others stay.
+
+    `order` is the device at each coordinate tuple, in row-major order; None is plain order. One that is
+    given is judged (19), the empty and the plain one too.
     """
     sizes, along = array.array("H", [*mesh]), array.array("B", [*axes])
     listing = array.array("H", bytes(2 * MOST_DEVICES)) if out is None else out
-    _raise(_library().ishkrela_groups(*_lent(sizes, "H"), *_lent(along, "B"), *_lent(listing, "H")))
+    lent = [*_lent(along, "B"), *_lent(listing, "H")]
+    if order is None:
+        _raise(_library().ishkrela_groups(*_lent(sizes, "H"), *lent))
+    else:
+        _raise(_library().ishkrela_groups_ordered(*_lent(sizes, "H"), *_lent(array.array("H", [*order]), "H"), *lent))
     devices, size = math.prod(sizes), math.prod(sizes[axis] for axis in along)
     listed = array.array("H", memoryview(listing).tobytes()[:2 * devices]).tolist()
     return [listed[at:at + size] for at in range(0, devices, size)]
 
 
 def run(file: Bytes, work: Lent, spare: Lent) -> None:
-    """Runs a plan on the words in `work`, each device's shard after the other.
+    """Runs a plan on the words in `work`, each device's shard after the other, by device number.
 
     `work` and `spare`, 32-bit words such as an array.array("I"), each with at least the check's `room`
     of them, are lent to the call and share no memory. Afterwards the last state stands at the front of
@@ -253,27 +264,31 @@ Step = Union[AllSlice, AllGather, AllReduce, AllToAll]
 
 
 def plan_file(
-    mesh: Iterable[int], table: Iterable[int], start: Sharding, steps: Iterable[Step] = (), edition: Optional[int] = None
+    mesh: Iterable[int], table: Iterable[int], start: Sharding, steps: Iterable[Step] = (),
+    edition: Optional[int] = None, order: Iterable[int] = ()
 ) -> bytes:
-    """The bytes of a plan: mesh sizes, table sizes, the Sharding at the start, and steps.
+    """The bytes of a plan: mesh sizes, table sizes, the Sharding at the start, and steps; and the order
+    of the devices, the one at each coordinate tuple in row-major order, where it is not the plain one.
 
     Judges nothing: a plan that the rules refuse has a file too. But a file has no place for how many
     lists there are, so one list for each dimension of the table is asked for (ValueError).
 
-    The edition is 1 where no axis is to stay replicated, and 2 otherwise. Naming another makes a file
-    that is refused; edition 1 has no place for the replicated list (ValueError).
+    The edition is 3 where an order is given; otherwise it is 1 where no axis is to stay replicated, and
+    2 where one is. Naming another makes a file that is refused; editions 1 and 2 have no place for an
+    order, and edition 1 has none for the replicated list (ValueError).
     """
-    mesh, table, steps = [*mesh], [*table], [*steps]
+    mesh, table, steps, order = [*mesh], [*table], [*steps], [*order]
     if edition is None:
-        edition = 2 if start.replicated else 1
-    if edition == 1 and start.replicated:
-        raise ValueError("edition 1 has no place for the replicated list: leave the edition out, or the list")
+        edition = 3 if order else 2 if start.replicated else 1
+    for part, given, first in (("the replicated list", start.replicated, 2), ("the order", order, 3)):
+        if given and edition in range(1, first):
+            raise ValueError(f"edition {edition} has no place for {part}: leave the edition out, or {part}")
     _count_lists("the sharding", start.dims, len(table))
     for number, step in enumerate(steps, 1):
         if isinstance(step, (AllSlice, AllGather)):
             _count_lists(f"step {number}, {type(step).__name__},", step.lists, len(table))
     sections = [
-        _numbers(mesh),
+        _numbers(mesh + order),
         _numbers(table),
         _lists([*start.dims, start.unreduced] + ([] if edition == 1 else [start.replicated])),
         b"".join(step.encode() for step in steps),
@@ -298,14 +313,15 @@ def spread(file: Bytes, table: Iterable[int]) -> List[int]:
 
     Of the devices along an unreduced axis the first holds the table's words and the others 0.
     """
-    mesh, sizes = _sizes(file)
+    mesh, order, sizes = _sizes(file)
     table = [*table]
     if len(table) != math.prod(sizes):
         raise ValueError(f"a table of {_by(sizes)} has {math.prod(sizes)} words: {len(table)} were given")
     words = []
-    for device in itertools.product(*map(range, mesh)):
-        at = place(file, 0, _row_major(mesh, device))
-        zero = any(device[axis] for axis in at.sharding.unreduced)
+    tuples = dict(zip(order, itertools.product(*map(range, mesh))))
+    for device in range(len(order)):
+        at = place(file, 0, device)
+        zero = any(tuples[device][axis] for axis in at.sharding.unreduced)
         for index in itertools.product(*map(range, at.shard)):
             words.append(0 if zero else table[_row_major(sizes, map(sum, zip(at.first, index)))])
     return words
@@ -313,12 +329,13 @@ def spread(file: Bytes, table: Iterable[int]) -> List[int]:
 
 def picture(file: Bytes, state: int, words: Iterable[int]) -> str:
     """A drawing of a state's words: the last axis of the mesh runs across, the others run down.
+    The words are given by device number; each device is drawn at its coordinates.
 
     Of a shard the last dimension runs across; planes of the other dimensions stand below each other.
     Devices are named beside the drawing, the first and the last of each row; those of a single row
     of more than two are named above it, where the names fit.
     """
-    mesh, _ = _sizes(file)
+    mesh, order, _ = _sizes(file)
     words = [*words]
     shard = _count_words(file, state, words)
     width = max(len(str(word)) for word in words)
@@ -334,7 +351,7 @@ def picture(file: Bytes, state: int, words: Iterable[int]) -> str:
         for line in range(down):
             text = "|"
             for column in range(mesh[-1]):
-                at = ((row * mesh[-1] + column) * down + line) * across
+                at = (order[row * mesh[-1] + column] * down + line) * across
                 text += "".join(f" {word:>{width}}" for word in words[at:at + across]) + " |"
             named = line == 0 and not above
             drawn.append(f"{first} -> {text}" + (f" <- {last}" if first != last else "") if named else margin + text)
@@ -387,6 +404,7 @@ def _typed(library: Any) -> Any:
         "ishkrela_check": (_Checked, file),
         "ishkrela_place": (_Placed, file + [ctypes.c_uint16, ctypes.c_uint16]),
         "ishkrela_groups": (ctypes.c_uint32, 3 * slice_of),
+        "ishkrela_groups_ordered": (ctypes.c_uint32, 4 * slice_of),
         "ishkrela_run": (ctypes.c_uint32, file + 2 * slice_of),
     }
     for name, (answer, takes) in calls.items():
@@ -485,12 +503,14 @@ def _count_words(file: Bytes, state: int, words: Sequence[int]) -> Tuple[int, ..
     return shard
 
 
-def _sizes(file: Bytes) -> Tuple[Tuple[int, ...], Tuple[int, ...]]:
-    """The sizes of mesh and table of a plan that is accepted."""
-    check(file)
+def _sizes(file: Bytes) -> Tuple[Tuple[int, ...], ...]:
+    """Of a plan that is accepted: the sizes of the mesh, the device at each coordinate tuple, the sizes of the table."""
+    devices = check(file).devices
     whole, _ = _read(file)
-    axes, rank = struct.unpack_from("<2H", whole, 2)
-    return struct.unpack_from(f"<{axes}H", whole, 18), struct.unpack_from(f"<{rank}H", whole, 18 + 2 * axes)
+    edition, axes, rank, _, at, table_at = struct.unpack_from("<6H", whole)
+    mesh, table = struct.unpack_from(f"<{axes}H", whole, at), struct.unpack_from(f"<{rank}H", whole, table_at)
+    order = struct.unpack_from(f"<{devices}H", whole, at + 2 * axes) if edition == 3 else tuple(range(devices))
+    return mesh, order, table
 
 
 def _by(sizes: Iterable[int]) -> str:

@@ -148,12 +148,89 @@ class Editions(Case):
     def test_one_plan_has_one_edition(self):
         self.assertRefused(18, 0, check, plan_file([2], [4], Sharding([[]]), edition=2))
         self.assertRefused(17, 0, check, plan_file([2], [3], Sharding([[0]]), edition=2))
-        for edition in (0, 3, 257, 258):
+        for edition in (0, 4, 257, 258, 259):
             self.assertRefused(3, 0, check, plan_file([2], [4], Sharding([[]], replicated=[0]), edition=edition))
 
     def test_the_first_edition_has_no_place_for_the_list(self):
         with self.assertRaisesRegex(ValueError, "edition 1 has no place"):
             plan_file([2], [4], Sharding([[]], replicated=[0]), edition=1)
+
+
+class Orders(Case):
+    """The order of the devices, which files of edition 3 have: that of document 02's case, on a mesh of 3x2."""
+
+    ORDER = (0, 2, 4, 1, 3, 5)
+
+    def cabled(self, *steps, start=Sharding([[0]]), table=(6,)):
+        return plan_file([3, 2], table, start, steps, order=self.ORDER)
+
+    def test_the_file_of_a_plan(self):
+        order = "000002000400010003000500"
+        file = "03000200010000001200220024002800280003000200" + order + "0600" "0100" "00" "00"
+        self.assertEqual(self.cabled().hex(), file)
+        self.assertEqual(plan_file([3, 2], [6], Sharding([[0]]), order=iter(self.ORDER), edition=3).hex(), file)
+        kept = plan_file([3, 2], [6], Sharding([[0]], replicated=[1]), order=self.ORDER)
+        self.assertEqual((kept[0], check(kept).sharding), (3, Sharding([[0]], [], [1])))
+        self.assertEqual(check(self.cabled()).sharding, Sharding([[0]]))
+        self.assertEqual(plan_file([3, 2], [6], Sharding([[0]]), order=()), plan_file([3, 2], [6], Sharding([[0]])))
+
+    def test_groups(self):
+        self.assertEqual(groups([3, 2], [1], order=self.ORDER), [[0, 2], [4, 1], [3, 5]])
+        self.assertEqual(groups([3, 2], [0], order=iter(self.ORDER)), [[0, 4, 3], [2, 1, 5]])
+        out = array.array("H", 7 * [9])
+        self.assertEqual(groups([3, 2], [1, 0], out, self.ORDER), [[0, 4, 3, 2, 1, 5]])
+        self.assertEqual(list(out), [0, 4, 3, 2, 1, 5, 9])
+
+    def test_refused_groups(self):
+        given = [([], (), 5), ([0], (), 10), ([1025], (), 11), ([3, 2], (), 19), ([3, 2], range(6), 19), ([1], [0], 19)]
+        given += [([3, 2], (0, 2, 4, 1, 3), 19), ([3, 2], (0, 2, 4, 1, 3, 3), 19), ([3, 2], (0, 2, 4, 1, 3, 6), 19)]
+        for mesh, order, number in given + [([3, 2], self.ORDER, 14)]:
+            self.assertRefused(number, 0, groups, mesh, [2], None, order)
+        self.assertRefused(15, 0, groups, [3, 2], [0, 0], None, self.ORDER)
+        self.assertRefused(33, 0, groups, [3, 2], [0], array.array("H", 5 * [9]), self.ORDER)
+
+    def test_first_indexes(self):
+        self.assertEqual([place(self.cabled(), 0, device).first[0] for device in range(6)], [0, 2, 0, 4, 2, 4])
+        self.assertRefused(32, 0, place, self.cabled(), 0, 6)
+
+    def test_shards_lie_by_device_number(self):
+        file = self.cabled(AllGather([[0]]))
+        left, right = [1, 2, 9, 10, 7, 8], [5, 6, 3, 4, 11, 12]
+        self.assertEqual(moved(file, range(1, 13)), left + right + right + left + left + right)
+        self.assertEqual(moved(self.cabled(), range(1, 13)), [*range(1, 13)])
+
+    def test_a_spread_and_its_sum(self):
+        file = self.cabled(AllReduce([0]), AllGather([[1]]), start=Sharding([[1]], [0]))
+        self.assertEqual(spread(file, range(1, 7)), [1, 2, 3, 0, 0, 0, 4, 5, 6] + 9 * [0])
+        self.assertEqual(moved(file, spread(file, range(1, 7))), 6 * [1, 2, 3, 4, 5, 6])
+
+    def test_a_spread_stays_one(self):
+        steps = [AllSlice([[1], []]), AllToAll(0, 1, [1]), AllGather([[0], []])]
+        for k in range(len(steps) + 1):
+            file = self.cabled(*steps[:k], start=Sharding([[0], []]), table=(6, 2))
+            last = self.cabled(start=check(file).sharding, table=(6, 2))
+            self.assertEqual(moved(file, spread(file, range(12))), spread(last, range(12)))
+
+    def test_a_picture_is_drawn_by_coordinates(self):
+        file = self.cabled(start=Sharding([[0], [1]]), table=(3, 2))
+        self.assertEqual(spread(file, range(1, 7)), [1, 4, 2, 5, 3, 6])
+        drawn = picture(file, 0, spread(file, range(1, 7)))
+        self.assertEqual([line for line in drawn.split("\n") if "->" in line], [
+            "device (0, 0) -> | 1 | 2 | <- device (0, 1)",
+            "device (1, 0) -> | 3 | 4 | <- device (1, 1)",
+            "device (2, 0) -> | 5 | 6 | <- device (2, 1)",
+        ])
+
+    def test_refused_files(self):
+        for order in (range(6), (0, 2, 4, 1, 3, 3), (0, 2, 4, 1, 3, 6), (6, 5, 4, 3, 2, 1)):
+            self.assertRefused(19, 0, check, plan_file([3, 2], [6], Sharding([[0]]), order=order))
+        self.assertRefused(19, 0, check, plan_file([1], [6], Sharding([[]]), order=[0]))
+        self.assertRefused(6, 0, check, plan_file([3, 2], [6], Sharding([[0]]), order=self.ORDER[:5] + (5, 6)))
+
+    def test_editions_with_no_place_for_it(self):
+        for edition in (1, 2):
+            with self.assertRaisesRegex(ValueError, f"edition {edition} has no place for the order"):
+                plan_file([3, 2], [6], Sharding([[0]]), edition=edition, order=self.ORDER)
 
 
 class Cases(Case):
@@ -190,13 +267,18 @@ class Cases(Case):
     def test_groups(self):
         for mesh, axes, length, answer in cases("groups.txt"):
             with self.subTest(mesh, axes=axes, length=length):
-                out = array.array("H", int(length) * [9999])
-                self.assertEqual(self.listed(json.loads(mesh), json.loads(axes), out), answer)
+                self.assertEqual(self.listed(mesh, axes, length), answer)
 
-    def listed(self, mesh, axes, out):
+    def test_groups_ordered(self):
+        for mesh, order, axes, length, answer in cases("groups_ordered.txt"):
+            with self.subTest(mesh, order=order, axes=axes, length=length):
+                self.assertEqual(self.listed(mesh, axes, length, json.loads(order)), answer)
+
+    def listed(self, mesh, axes, length, order=None):
+        out = array.array("H", int(length) * [9999])
         before = list(out)
         try:
-            numbers = sum(groups(mesh, axes, out), [])
+            numbers = sum(groups(json.loads(mesh), json.loads(axes), out, order), [])
         except Refused as refused:
             self.assertEqual(list(out), before)
             return f"no {refused.number} {refused.step}"
@@ -261,13 +343,15 @@ class Boundary(Case):
         self.assertEqual(ishkrela._library().ishkrela_check(None, 0).refusal, 1)
         self.assertEqual(ishkrela._library().ishkrela_place(None, 0, 0, 0).refusal, 1)
         self.assertEqual(ishkrela._library().ishkrela_groups(None, 0, None, 0, None, 0), 5)
+        self.assertEqual(ishkrela._library().ishkrela_groups_ordered(None, 0, None, 0, None, 0, None, 0), 5)
 
     def test_numbers_that_do_not_fit_are_not_cut(self):
         for state, device in ((65536, 0), (0, 65536), (-1, 0)):
             with self.assertRaises(OverflowError):
                 place(w4(), state, device)
-        with self.assertRaises(OverflowError):
-            groups([65538], [0])
+        for mesh, order in (([65538], None), ([2], [1, 65536])):
+            with self.assertRaises(OverflowError):
+                groups(mesh, [0], None, order)
 
     def test_short_buffers_are_refused_and_stay(self):
         room = check(W1).room
@@ -360,6 +444,8 @@ class Given(Case):
                                    ([2], Sharding([[]]), [AllToAll(0, 256, [0])])):
             with self.assertRaises(OverflowError):
                 plan_file(mesh, [2], start, steps)
+        with self.assertRaises(OverflowError):
+            plan_file([2], [2], Sharding([[]]), order=[1, 65536])
 
     def test_the_number_of_words(self):
         for count in (15, 17, 0, 32):

@@ -72,7 +72,7 @@ class Missing(unittest.TestCase):
         self.assertStops("none.txt: No such file or directory: name a file of cases", "vectors", "none.txt")
         self.assertStops("tests: Is a directory: name a file of cases", "vectors", "tests")
         self.assertStops("`rt check plancheck` proves and builds", "vectors", "tests/plans.txt")
-        for line in ("0|1|2", "zz|no 1 0", "-|0|70000|no 1 0", "[2|[]|2|ok 0 1", "-|-1|0|no 1 0"):
+        for line in ("0|1|2", "zz|no 1 0", "-|0|70000|no 1 0", "[2|[]|2|ok 0 1", "-|-1|0|no 1 0", "[2]|[1, 65536]|[]|2|no 19 0"):
             self.write("cases.txt", f"# a case\n{line}\n")
             self.assertStops("cases.txt, line 2: not a case: `tools/vectors --help` shows", "vectors", "cases.txt")
 
@@ -83,7 +83,7 @@ class Missing(unittest.TestCase):
     def test_json_cases(self):
         self.assertStops("usage: tools/json_cases FILE.jsonl", "json_cases")
         self.assertStops("none.jsonl: No such file or directory: name a file of cases", "json_cases", "none.jsonl")
-        for line in ("no JSON", "[]", '{"file": "00"}', '{"file": 0, "check": {}}'):
+        for line in ("no JSON", "[]", '{"file": "00"}', '{"file": 0, "check": {}}', '{"mesh": [2], "groups": []}'):
             self.write("cases.jsonl", line)
             self.assertStops("cases.jsonl, line 1: not a case: `tools/json_cases --help` shows", "json_cases", "cases.jsonl")
         self.write("cases.jsonl", '{"file": "00", "check": {"no": [1, 0]}}')

@@ -41,6 +41,13 @@ static const uint8_t kept[] = {2, 0, 4, 0, 1, 0, 1, 0, 18, 0, 26, 0, 28, 0, 35, 
 static const uint8_t unkept[] = {2, 0, 4, 0, 1, 0, 1, 0, 18, 0, 26, 0, 28, 0, 35, 0, 38, 0,
                                  2, 0, 3, 0, 2, 0, 2, 0, 6, 0, 1, 1, 1, 2, 2, 0, 3, 1, 1, 0};
 
+/* edition 3: mesh 3x2 with the devices 0 2 4 1 3 5, table of 6, sharding [[0]] with an empty replicated
+ * list; gather of [0]. The second has the plain order, which is for editions 1 and 2 */
+static const uint8_t cabled[] = {3, 0, 2, 0, 1, 0, 1, 0, 18, 0, 34, 0, 36, 0, 40, 0, 43, 0,
+                                 3, 0, 2, 0, 0, 0, 2, 0, 4, 0, 1, 0, 3, 0, 5, 0, 6, 0, 1, 0, 0, 0, 2, 1, 0};
+static const uint8_t plain[] = {3, 0, 2, 0, 1, 0, 1, 0, 18, 0, 34, 0, 36, 0, 40, 0, 43, 0,
+                                3, 0, 2, 0, 0, 0, 1, 0, 2, 0, 3, 0, 4, 0, 5, 0, 6, 0, 1, 0, 0, 0, 2, 1, 0};
+
 /* mesh 2x3x2x2x3x2, table 12x6x15x2, sharding [[5, 0], [1], [4], [2]] with unreduced [3]; gather of
  * [0] off dimension 0, and slice of it on again */
 static const uint8_t full[] = {1, 0, 6, 0, 4, 0, 2, 0, 18, 0, 30, 0, 38, 0, 49, 0, 61, 0,
@@ -93,6 +100,27 @@ static void replicated(void)
     assert(ishkrela_check(unkept, sizeof unkept).refusal == 23 + 256);
 }
 
+/* Devices 0 and 2 stand in row 0 of the mesh, 4 and 1 in row 1, 3 and 5 in row 2. */
+static void ordered(void)
+{
+    const uint16_t first[6] = {0, 2, 0, 4, 2, 4};
+    const uint32_t left[36] = {1, 2,  9, 10, 7, 8, 5, 6, 3, 4,  11, 12, 5, 6, 3, 4,  11, 12,
+                               1, 2,  9, 10, 7, 8, 1, 2, 9, 10, 7,  8,  5, 6, 3, 4,  11, 12};
+    uint32_t work[36] = {1, 2, 3, 4, 5, 6, 7, 8, 9, 10, 11, 12}, spare[36];
+    memset(spare, 0x55, sizeof spare);
+    ishkrela_checked checked = ishkrela_check(cabled, sizeof cabled);
+    assert(checked.refusal == 0 && checked.devices == 6 && checked.room == 36 && checked.shard[0] == 6);
+    for (uint16_t device = 0; device < 6; device++) {
+        ishkrela_placed placed = ishkrela_place(cabled, sizeof cabled, 0, device);
+        assert(placed.refusal == 0 && placed.shard[0] == 2 && placed.first[0] == first[device]);
+    }
+    assert(ishkrela_place(cabled, sizeof cabled, 0, 6).refusal == 32);
+    assert(ishkrela_check(plain, sizeof plain).refusal == 19);
+    assert(ishkrela_run(plain, sizeof plain, work, 36, spare, 36) == 19 && work[0] == 1 && spare[0] == 0x55555555);
+    assert(ishkrela_run(cabled, sizeof cabled, work, 36, spare, 36) == 0 && spare[0] == 0 && spare[35] == 0);
+    assert(memcmp(work, left, sizeof left) == 0);
+}
+
 static void refusals(void)
 {
     ishkrela_checked none = {0}, checked = ishkrela_check(front, sizeof front);
@@ -114,6 +142,30 @@ static void groups(void)
     assert(ishkrela_groups(mesh, 4, axes, 2, out, 119) == 33 && out[0] == 0x5555);
     assert(ishkrela_groups(mesh, 4, axes, 2, out, 121) == 0);
     assert(out[0] == 0 && out[1] == 20 && out[2] == 40 && out[3] == 1 && out[119] == 119 && out[120] == 0x5555);
+}
+
+static void groups_ordered(void)
+{
+    const uint16_t mesh[] = {3, 2}, order[] = {0, 2, 4, 1, 3, 5}, plain_order[] = {0, 1, 2, 3, 4, 5};
+    const uint16_t twice[] = {0, 2, 4, 1, 3, 3}, past[] = {0, 2, 4, 1, 3, 6}, rows[] = {0, 2, 4, 1, 3, 5, 0x5555};
+    const uint16_t columns[] = {0, 4, 3, 2, 1, 5, 0x5555}, zero[] = {3, 0}, many[] = {1025};
+    const uint8_t axes[] = {1, 0, 2}, again[] = {1, 1, 2};
+    uint16_t out[7];
+    memset(out, 0x55, sizeof out);
+    assert(ishkrela_groups_ordered(NULL, 0, NULL, 0, axes + 2, 1, out, 0) == 5);
+    assert(ishkrela_groups_ordered(zero, 2, NULL, 0, axes + 2, 1, out, 0) == 10);
+    assert(ishkrela_groups_ordered(many, 1, NULL, 0, axes + 2, 1, out, 0) == 11);
+    assert(ishkrela_groups_ordered(mesh, 2, NULL, 0, axes + 2, 1, out, 0) == 19);
+    assert(ishkrela_groups_ordered(mesh, 2, order, 5, axes + 2, 1, out, 0) == 19);
+    assert(ishkrela_groups_ordered(mesh, 2, plain_order, 6, axes + 2, 1, out, 0) == 19);
+    assert(ishkrela_groups_ordered(mesh, 2, twice, 6, axes + 2, 1, out, 0) == 19);
+    assert(ishkrela_groups_ordered(mesh, 2, past, 6, axes + 2, 1, out, 0) == 19);
+    assert(ishkrela_groups_ordered(mesh, 2, order, 6, axes, 3, out, 0) == 14);
+    assert(ishkrela_groups_ordered(mesh, 2, order, 6, again, 3, out, 0) == 15);
+    assert(ishkrela_groups_ordered(mesh, 2, order, 6, NULL, 0, out, 5) == 33 && out[0] == 0x5555);
+    assert(ishkrela_groups_ordered(mesh, 2, order, 6, axes, 1, out, 7) == 0 && memcmp(out, rows, sizeof out) == 0);
+    assert(ishkrela_groups_ordered(mesh, 2, order, 6, axes + 1, 1, out, 7) == 0);
+    assert(memcmp(out, columns, sizeof out) == 0);
 }
 
 static void runs(void)
@@ -144,8 +196,10 @@ int main(void)
     fields();
     answers();
     replicated();
+    ordered();
     refusals();
     groups();
+    groups_ordered();
     runs();
     empty();
     return 0;

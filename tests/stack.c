@@ -9,9 +9,9 @@
 #include <string.h>
 #include "ishkrela.h"
 
-enum { CHECK, PLACE, GROUPS, RUN, CALLS, PAINT = 0xa5, STACK = 1 << 18, ROOM = 67108864, SAID = 20480 };
+enum { CHECK, PLACE, GROUPS, GROUPS_ORDERED, RUN, CALLS, PAINT = 0xa5, STACK = 1 << 18, ROOM = 67108864, SAID = 24576 };
 
-static const char *const names[CALLS] = {"check", "place", "groups", "run"};
+static const char *const names[CALLS] = {"check", "place", "groups", "groups_ordered", "run"};
 static _Alignas(64) unsigned char stack[STACK];
 static uint32_t work[ROOM], spare[ROOM];
 static uint8_t file[10000];
@@ -24,7 +24,7 @@ static void *calling(void *which)
     unsigned char *top = __builtin_frame_address(0);
     static const uint16_t mesh[] = {2, 3, 2, 2, 3, 2};
     static const uint8_t axes[] = {5, 1, 3, 0, 4, 2};
-    static uint16_t out[1024];
+    static uint16_t order[144], out[1024];
     int call = *(int *)which;
     if (call == CHECK)
         plan = ishkrela_check(file, len);
@@ -32,6 +32,10 @@ static void *calling(void *which)
         ishkrela_place(file, len, plan.steps, plan.devices - 1);
     if (call == GROUPS)
         ishkrela_groups(mesh, 6, axes, len % 7, out, 1024);
+    for (uint16_t place = 0; place < 144; place++)
+        order[place] = (uint16_t)(143 - place);
+    if (call == GROUPS_ORDERED)
+        ishkrela_groups_ordered(mesh, 6, order, 144, axes, len % 7, out, 1024);
     if (call == RUN)
         ishkrela_run(file, len, work, plan.room, spare, plan.room);
     return top;

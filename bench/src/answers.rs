@@ -23,7 +23,7 @@ pub struct Axis(pub u8);
 #[repr(transparent)]
 pub struct Dim(pub u8);
 
-/// The number of a device, row-major in its coordinates.
+/// The number of a device: row-major in its coordinates, or the one that an order lists there.
 #[derive(Clone, Copy, Default, PartialEq, Eq, PartialOrd, Ord)]
 #[repr(transparent)]
 pub struct Device(pub u16);

@@ -5,6 +5,7 @@
 
 pub mod answers;
 pub mod hex;
+pub mod json;
 #[cfg(library)]
 pub mod library;
 pub mod plans;
@@ -15,7 +16,7 @@ pub mod spreads;
 
 use answers::{Axis, Checked, Device, Placed, Refusal, Sizes};
 
-/// The four calls of document 01.
+/// The four calls of document 01, and the listing by an order of document 02.
 pub trait Implementation {
     fn name(&self) -> &'static str;
 
@@ -24,6 +25,14 @@ pub trait Implementation {
     fn place(&self, file: &[u8], state: u16, device: Device) -> Result<Placed, Refusal>;
 
     fn groups(&self, mesh: &[u16], axes: &[Axis], out: &mut [Device]) -> Result<(), Refusal>;
+
+    fn groups_ordered(
+        &self,
+        mesh: &[u16],
+        order: &[Device],
+        axes: &[Axis],
+        out: &mut [Device],
+    ) -> Result<(), Refusal>;
 
     fn run(&self, file: &[u8], work: &mut [u32], spare: &mut [u32]) -> Result<(), Refusal>;
 
@@ -55,6 +64,16 @@ impl Implementation for Reference {
         reference::groups(mesh, axes, out)
     }
 
+    fn groups_ordered(
+        &self,
+        mesh: &[u16],
+        order: &[Device],
+        axes: &[Axis],
+        out: &mut [Device],
+    ) -> Result<(), Refusal> {
+        reference::groups_ordered(mesh, order, axes, out)
+    }
+
     fn run(&self, file: &[u8], work: &mut [u32], spare: &mut [u32]) -> Result<(), Refusal> {
         reference::run(file, work, spare)
     }
@@ -83,6 +102,16 @@ impl Implementation for Library {
 
     fn groups(&self, mesh: &[u16], axes: &[Axis], out: &mut [Device]) -> Result<(), Refusal> {
         library::groups(mesh, axes, out)
+    }
+
+    fn groups_ordered(
+        &self,
+        mesh: &[u16],
+        order: &[Device],
+        axes: &[Axis],
+        out: &mut [Device],
+    ) -> Result<(), Refusal> {
+        library::groups_ordered(mesh, order, axes, out)
     }
 
     fn run(&self, file: &[u8], work: &mut [u32], spare: &mut [u32]) -> Result<(), Refusal> {

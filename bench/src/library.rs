@@ -25,6 +25,16 @@ pub fn groups(mesh: &[u16], axes: &[Axis], out: &mut [Device]) -> Result<(), Ref
     refused(raw::groups(mesh, axes, out))
 }
 
+/// The same of devices with an order.
+pub fn groups_ordered(
+    mesh: &[u16],
+    order: &[Device],
+    axes: &[Axis],
+    out: &mut [Device],
+) -> Result<(), Refusal> {
+    refused(raw::groups_ordered(mesh, order, axes, out))
+}
+
 /// Runs a plan. Afterwards the last state stands at the front of `work`, and the rest of `work`
 /// and all of `spare` are 0.
 pub fn run(file: &[u8], work: &mut [u32], spare: &mut [u32]) -> Result<(), Refusal> {
@@ -189,7 +199,7 @@ impl From<Result<Placed, Refusal>> for RawPlaced {
     }
 }
 
-/// The four calls with their answers as they cross the boundary.
+/// The calls with their answers as they cross the boundary.
 pub mod raw {
     use super::{RawChecked, RawPlaced};
     use crate::answers::{Axis, Device};
@@ -211,6 +221,17 @@ pub mod raw {
             pub fn ishkrela_groups(
                 mesh: *const u16,
                 mesh_len: usize,
+                axes: *const u8,
+                axes_len: usize,
+                out: *mut u16,
+                out_len: usize,
+            ) -> u32;
+
+            pub fn ishkrela_groups_ordered(
+                mesh: *const u16,
+                mesh_len: usize,
+                order: *const u16,
+                order_len: usize,
                 axes: *const u8,
                 axes_len: usize,
                 out: *mut u16,
@@ -245,6 +266,27 @@ pub mod raw {
             c::ishkrela_groups(
                 mesh.as_ptr(),
                 mesh.len(),
+                axes.as_ptr().cast(),
+                axes.len(),
+                out.as_mut_ptr().cast(),
+                out.len(),
+            )
+        }
+    }
+
+    pub fn groups_ordered(
+        mesh: &[u16],
+        order: &[Device],
+        axes: &[Axis],
+        out: &mut [Device],
+    ) -> u32 {
+        // Safe: as above.
+        unsafe {
+            c::ishkrela_groups_ordered(
+                mesh.as_ptr(),
+                mesh.len(),
+                order.as_ptr().cast(),
+                order.len(),
                 axes.as_ptr().cast(),
                 axes.len(),
                 out.as_mut_ptr().cast(),

@@ -4,7 +4,8 @@
 //! so that it knows what each next step may name.
 
 use crate::answers::{
-    Axis, Dim, Refusal, MOST_AXES, MOST_BYTES, MOST_DEVICES, MOST_RANK, MOST_STEPS, MOST_WORDS,
+    Axis, Device, Dim, Refusal, MOST_AXES, MOST_BYTES, MOST_DEVICES, MOST_RANK, MOST_STEPS,
+    MOST_WORDS,
 };
 use crate::random::Random;
 use crate::spreads::product;
@@ -16,6 +17,8 @@ pub type Lists = Vec<Vec<Axis>>;
 #[derive(Clone, Debug, Default)]
 pub struct Draft {
     pub mesh: Vec<u16>,
+    /// The device at each coordinate tuple in row-major order; empty for plain order.
+    pub order: Vec<Device>,
     pub table: Vec<u16>,
     pub start: Lists,
     pub unreduced: Vec<Axis>,
@@ -51,9 +54,9 @@ impl Scale {
 }
 
 /// The refusals that a file alone can meet.
-pub const FILE_REFUSALS: [u8; 27] = [
-    1, 2, 3, 4, 5, 6, 7, 8, 9, 10, 11, 12, 13, 14, 15, 16, 17, 18, 20, 21, 22, 23, 24, 25, 26, 27,
-    28,
+pub const FILE_REFUSALS: [u8; 28] = [
+    1, 2, 3, 4, 5, 6, 7, 8, 9, 10, 11, 12, 13, 14, 15, 16, 17, 18, 19, 20, 21, 22, 23, 24, 25, 26,
+    27, 28,
 ];
 
 /// Axes by their numbers.
@@ -66,6 +69,11 @@ pub fn lists(numbers: &[&[u8]]) -> Lists {
     numbers.iter().map(|list| axes(list)).collect()
 }
 
+/// Devices by their numbers.
+pub fn devices(numbers: &[u16]) -> Vec<Device> {
+    numbers.iter().map(|&number| Device(number)).collect()
+}
+
 impl Draft {
     /// The file, with every offset where it belongs.
     pub fn encode(&self) -> Vec<u8> {
@@ -74,12 +82,20 @@ impl Draft {
 
     /// The edition that the plan's file has.
     pub fn edition(&self) -> usize {
-        1 + usize::from(!self.replicated.is_empty())
+        match (&*self.order, &*self.replicated) {
+            ([], []) => 1,
+            ([], _) => 2,
+            _ => 3,
+        }
     }
 
-    /// The same in an edition that may be the wrong one; the first has no replicated list.
+    /// The same in an edition that may be the wrong one; the first has no replicated list, and
+    /// only from the third on there is an order.
     pub fn encode_as(&self, edition: usize) -> Vec<u8> {
-        let mesh = sizes_section(&self.mesh);
+        let mut mesh = sizes_section(&self.mesh);
+        if edition > 2 {
+            mesh.extend(self.order.iter().flat_map(|device| device.0.to_le_bytes()));
+        }
         let table = sizes_section(&self.table);
         let mut start = lists_section(&self.start);
         start.extend(list_section(&self.unreduced));
@@ -312,6 +328,9 @@ pub fn accepted(random: &mut Random, scale: Scale) -> Draft {
     let rank = random.between(1, MOST_RANK);
     let mut draft = with_random_start(random, mesh, rank);
     draft.table = random_table(random, &draft, scale.words);
+    if random.once_in(3) {
+        draft.order = random_order(random, product(&draft.mesh));
+    }
     add_steps(random, &mut draft, scale.steps);
     draft
 }
@@ -375,6 +394,9 @@ fn with_largest_state(random: &mut Random, scale: Scale) -> Draft {
             _ => {}
         }
     }
+    if random.once_in(2) {
+        draft.order = random_order(random, product(&mesh));
+    }
     draft.mesh = mesh;
     add_steps(random, &mut draft, scale.steps);
     draft
@@ -406,6 +428,26 @@ fn random_mesh(random: &mut Random, most: usize) -> Vec<u16> {
     let mut mesh: Vec<u16> = (0..count).map(|_| size()).collect();
     random.shuffle(&mut mesh);
     mesh
+}
+
+/// An order that an accepted plan may have; none where there is one device. Most are not their own
+/// inverse, so that to take one for the other is found.
+pub fn random_order(random: &mut Random, count: usize) -> Vec<Device> {
+    let plain: Vec<Device> = (0..count as u16).map(Device).collect();
+    let mut order = plain.clone();
+    match random.below(6) {
+        0 => order.reverse(),
+        1 => order.rotate_left(random.below(count)),
+        // All but two, three or so stand where they would in plain order.
+        2 => order.swap(random.below(count), random.below(count)),
+        3 => order[random.below(count)..].rotate_left(1),
+        _ => random.shuffle(&mut order),
+    }
+    if order == plain {
+        order.reverse();
+    }
+    order.retain(|_| count > 1);
+    order
 }
 
 /// Gives each axis a place in the start: on a dimension, unreduced, explicitly replicated or in no
@@ -474,6 +516,7 @@ pub fn broken(random: &mut Random, number: u8) -> (Vec<u8>, Refusal) {
         let tried = match number {
             1..=9 => broken_bytes(random, &draft, number),
             10..=18 => broken_start(random, draft, number),
+            19 => broken_order(random, draft),
             _ => broken_step(random, draft, number),
         };
         // Not every plan can be broken in every way.
@@ -494,17 +537,26 @@ fn broken_bytes(random: &mut Random, draft: &Draft, number: u8) -> Option<(Vec<u
             file.resize(MOST_BYTES + random.between(1, more), 0);
         }
         3 => {
-            let any = random.between(3, 65535) as u16;
-            let edition = random.pick(&[0, 3, 256, 257, 258, any]);
+            let any = random.between(4, 65535) as u16;
+            let edition = random.pick(&[0, 4, 256, 257, 258, 259, any]);
             file[..2].copy_from_slice(&edition.to_le_bytes());
         }
         4 => change_number(random, &mut file, 8),
         5 => return Some((broken_limit(random, draft), Refusal::whole(5))),
-        // The steps' offset is wrong for an edition without the list that stands before them.
-        6 if draft.edition() == 2 && random.once_in(5) => file[0] = 1,
+        // An offset is wrong for an edition without the list or the order that stands before it.
+        6 if draft.edition() > 1 && random.once_in(5) => {
+            file[0] = random.between(1, draft.edition() - 1) as u8;
+        }
         6 => {
             let section = random.between(4, 7);
             change_number(random, &mut file, section);
+        }
+        // Inside an order, which is judged only where all of it is there.
+        7 if draft.edition() == 3 && random.once_in(3) => {
+            let order = 18 + 2 * draft.mesh.len()..18 + 2 * (draft.mesh.len() + draft.order.len());
+            file[order.start] ^= random.byte();
+            file.truncate(random.between(order.start, order.end - 1));
+            mend_length(&mut file);
         }
         7 => {
             file.truncate(random.between(18, whole - 1));
@@ -572,7 +624,7 @@ fn broken_limit(random: &mut Random, draft: &Draft) -> Vec<u8> {
 
 /// Where the counts of all lists stand in the file.
 fn count_places(draft: &Draft) -> Vec<usize> {
-    let mut at = 18 + 2 * (draft.mesh.len() + draft.table.len());
+    let mut at = 18 + 2 * (draft.mesh.len() + draft.order.len() + draft.table.len());
     let mut places = Vec::new();
     let mut pass = |lists: &[Vec<Axis>], before: usize| {
         at += before;
@@ -583,7 +635,7 @@ fn count_places(draft: &Draft) -> Vec<usize> {
     };
     pass(&draft.start, 0);
     pass(std::slice::from_ref(&draft.unreduced), 0);
-    if draft.edition() == 2 {
+    if draft.edition() > 1 {
         pass(std::slice::from_ref(&draft.replicated), 0);
     }
     for step in &draft.steps {
@@ -617,16 +669,50 @@ fn broken_start(random: &mut Random, mut draft: Draft, number: u8) -> Option<(Ve
             }
             draft.table[dim] -= random.between(1, usize::from(pieces) - 1) as u16;
         }
-        18 => draft.replicated.clear(),
+        18 => {
+            draft.order.clear();
+            draft.replicated.clear();
+        }
         _ => return None,
     }
     // Steps are judged after the start, and an empty list in edition 2 is the last in it.
     if random.once_in(4) {
         draft.steps = vec![no_kind(random)];
     }
-    let empty = number == 18 || (draft.replicated.is_empty() && random.once_in(4));
+    let empty = number == 18 || (draft.edition() == 1 && random.once_in(4));
     let edition = if empty { 2 } else { draft.edition() };
     Some((draft.encode_as(edition), Refusal::whole(number)))
+}
+
+/// Gives the devices an order that is none, or the plain one.
+fn broken_order(random: &mut Random, mut draft: Draft) -> Option<(Vec<u8>, Refusal)> {
+    let count = product(&draft.mesh);
+    draft.order = random_order(random, count);
+    let at = random.below(count);
+    match random.below(3) {
+        _ if count == 1 => draft.order = devices(&[random.pick(&[0, 0, 1, 256])]),
+        0 => draft.order.sort(),
+        // A number that is there already takes the place of another.
+        1 => draft.order[at] = draft.order[(at + random.between(1, count - 1)) % count],
+        _ => {
+            let last = random.pick(&[count, 65535]);
+            draft.order[at] = Device(random.between(count, last) as u16);
+        }
+    }
+    // The table and what follows it are judged after the order.
+    if random.once_in(4) {
+        let dim = random.below(draft.table.len());
+        draft.table[dim] = 0;
+    }
+    let mut file = draft.encode_as(3);
+    if random.once_in(4) {
+        change_number(random, &mut file, 5);
+    }
+    if random.once_in(4) {
+        file.truncate(18 + 2 * (draft.mesh.len() + count));
+        mend_length(&mut file);
+    }
+    Some((file, Refusal::whole(19)))
 }
 
 /// A size that passes a limit, often by one.
@@ -883,8 +969,8 @@ fn damage(random: &mut Random, file: &mut Vec<u8>) {
         2 => file[at] = random.byte(),
         3 => file.truncate(at),
         4 => file.insert(at, random.byte() % 8),
-        // The other edition.
-        5 => file[0] ^= 3,
+        // Another edition, most often.
+        5 => file[0] = random.between(1, 3) as u8,
         _ => drop(file.remove(at)),
     }
 }

@@ -3,6 +3,9 @@
 //!
 //! A file is judged into a `Plan`, which holds the state after every step. The calls read their
 //! answers off the plan. A run moves the words between the two lent buffers, step by step.
+//!
+//! A place is the row-major number of coordinates. Groups and steps go by place; the order of the
+//! devices tells which one stands there.
 
 use crate::answers::{
     Axis, AxisList, Checked, Device, Dim, DimLists, Placed, Refusal, Sharding, Sizes, LEAST_BYTES,
@@ -43,10 +46,11 @@ pub fn place(file: &[u8], state: u16, device: Device) -> Result<Placed, Refusal>
     if device.index() >= plan.mesh.devices {
         return Err(Refusal::whole(32));
     }
+    let place = plan.order.place(device);
     let lists = state.sharding.dims.iter();
     let first = lists
         .zip(&state.shard)
-        .map(|(list, &size)| plan.mesh.position(device.index(), list) as u16 * size)
+        .map(|(list, &size)| plan.mesh.position(place, list) as u16 * size)
         .collect();
     Ok(Placed {
         sharding: state.sharding,
@@ -57,17 +61,42 @@ pub fn place(file: &[u8], state: u16, device: Device) -> Result<Placed, Refusal>
 
 /// Lists the devices of a mesh group by group.
 pub fn groups(mesh: &[u16], axes: &[Axis], out: &mut [Device]) -> Result<(), Refusal> {
-    if !(1..=MOST_AXES).contains(&mesh.len()) {
+    let mesh = given_mesh(mesh)?;
+    list_groups(&mesh, &Order::PLAIN, axes, out)
+}
+
+/// The same of devices with an order.
+pub fn groups_ordered(
+    mesh: &[u16],
+    order: &[Device],
+    axes: &[Axis],
+    out: &mut [Device],
+) -> Result<(), Refusal> {
+    let mesh = given_mesh(mesh)?;
+    let order = Order::judge(order.to_vec(), mesh.devices)?;
+    list_groups(&mesh, &order, axes, out)
+}
+
+fn given_mesh(sizes: &[u16]) -> Result<Mesh, Refusal> {
+    if !(1..=MOST_AXES).contains(&sizes.len()) {
         return Err(Refusal::whole(5));
     }
-    let mesh = Mesh::judge(mesh.iter().copied().collect())?;
+    Mesh::judge(sizes.iter().copied().collect())
+}
+
+fn list_groups(
+    mesh: &Mesh,
+    order: &Order,
+    axes: &[Axis],
+    out: &mut [Device],
+) -> Result<(), Refusal> {
     let mut named = Named::default();
-    axes.iter().try_for_each(|&axis| named.name(&mesh, axis))?;
+    axes.iter().try_for_each(|&axis| named.name(mesh, axis))?;
     if out.len() < mesh.devices {
         return Err(Refusal::whole(33));
     }
-    for (entry, device) in out.iter_mut().zip(mesh.listing(axes)) {
-        *entry = Device(device as u16);
+    for (entry, place) in out.iter_mut().zip(mesh.listing(axes)) {
+        *entry = order.device(place);
     }
     Ok(())
 }
@@ -82,9 +111,9 @@ pub fn run(file: &[u8], work: &mut [u32], spare: &mut [u32]) -> Result<(), Refus
     if spare.len() < room {
         return Err(Refusal::whole(31));
     }
-    plan.apply(&mut work[..room], &mut spare[..room]);
+    let times = plan.apply(&mut work[..room], &mut spare[..room]);
     let words = plan.mesh.devices * plan.last().words();
-    if plan.steps.len() % 2 == 1 {
+    if times % 2 == 1 {
         work[..words].copy_from_slice(&spare[..words]);
     }
     work[words..].fill(0);
@@ -95,6 +124,7 @@ pub fn run(file: &[u8], work: &mut [u32], spare: &mut [u32]) -> Result<(), Refus
 /// An accepted plan; `states` has one entry more than `steps`.
 struct Plan {
     mesh: Mesh,
+    order: Order,
     steps: Vec<Step>,
     states: Vec<State>,
 }
@@ -105,6 +135,10 @@ impl Plan {
         let mut reader = Reader { file, at: 18 };
         reader.expect_at(header.mesh_at)?;
         let mesh = Mesh::judge(reader.sizes(header.axes)?)?;
+        let order = match header.edition {
+            3 => Order::judge(reader.devices(mesh.devices)?, mesh.devices)?,
+            _ => Order::PLAIN,
+        };
         reader.expect_at(header.table_at)?;
         let table: Sizes = reader.sizes(header.rank)?;
         product_within(&table, 12, MOST_WORDS, 13)?;
@@ -121,6 +155,7 @@ impl Plan {
         }
         Ok(Plan {
             mesh,
+            order,
             steps,
             states,
         })
@@ -135,13 +170,28 @@ impl Plan {
         self.mesh.devices * most.unwrap_or(0)
     }
 
-    /// Runs all steps. After an even number of them the state is in `work`, else in `spare`.
-    fn apply(&self, work: &mut [u32], spare: &mut [u32]) {
+    /// Runs all steps, on shards by place. Answers how often the state went from one buffer to the
+    /// other: after an even number of times it is in `work`, else in `spare`.
+    fn apply(&self, work: &mut [u32], spare: &mut [u32]) -> usize {
         let (mut old, mut new) = (work, spare);
-        for (step, states) in self.steps.iter().zip(self.states.windows(2)) {
-            step.apply(&self.mesh, &states[0], &states[1], old, new);
+        let mut times = 0;
+        let mut pass = |make: &dyn Fn(&[u32], &mut [u32])| {
+            make(old, new);
             mem::swap(&mut old, &mut new);
+            times += 1;
+        };
+        if !self.order.is_plain() {
+            let words = self.states[0].words();
+            pass(&|old, new| self.order.by_place(words, old, new));
         }
+        for (step, states) in self.steps.iter().zip(self.states.windows(2)) {
+            pass(&|old, new| step.apply(&self.mesh, &states[0], &states[1], old, new));
+        }
+        if !self.order.is_plain() {
+            let words = self.last().words();
+            pass(&|old, new| self.order.by_device(words, old, new));
+        }
+        times
     }
 }
 
@@ -189,7 +239,7 @@ impl Header {
             return Err(Refusal::whole(2));
         }
         let entry = |index: usize| usize::from(number_at(file, 2 * index));
-        if !(1..=2).contains(&entry(0)) {
+        if !(1..=3).contains(&entry(0)) {
             return Err(Refusal::whole(3));
         }
         if entry(8) != file.len() {
@@ -247,6 +297,12 @@ impl Reader<'_> {
     fn sizes<const N: usize>(&mut self, count: usize) -> Result<Short<u16, N>, Refusal> {
         let bytes = self.bytes(2 * count)?;
         Ok((0..count).map(|i| number_at(bytes, 2 * i)).collect())
+    }
+
+    fn devices(&mut self, count: usize) -> Result<Vec<Device>, Refusal> {
+        let bytes = self.bytes(2 * count)?;
+        let device = |i| Device(number_at(bytes, 2 * i));
+        Ok((0..count).map(device).collect())
     }
 
     fn list(&mut self, axes: usize) -> Result<AxisList, Refusal> {
@@ -314,7 +370,7 @@ fn product_within(sizes: &[u16], zero: u8, most: usize, past: u8) -> Result<usiz
 
 struct Mesh {
     sizes: Short<u16, MOST_AXES>,
-    /// How far apart neighbours along each axis are in device numbers.
+    /// How far apart the places of neighbours along each axis are.
     strides: Short<usize, MOST_AXES>,
     devices: usize,
 }
@@ -348,18 +404,18 @@ impl Mesh {
         axes.iter().map(|&axis| self.size(axis)).product()
     }
 
-    fn coordinate(&self, device: usize, axis: Axis) -> usize {
-        device / self.strides[axis.index()] % self.size(axis)
+    fn coordinate(&self, place: usize, axis: Axis) -> usize {
+        place / self.strides[axis.index()] % self.size(axis)
     }
 
-    /// The device's position in its group along these axes.
-    fn position(&self, device: usize, axes: &[Axis]) -> usize {
+    /// The position, in its group along these axes, of the device at a place.
+    fn position(&self, place: usize, axes: &[Axis]) -> usize {
         axes.iter().fold(0, |position, &axis| {
-            position * self.size(axis) + self.coordinate(device, axis)
+            position * self.size(axis) + self.coordinate(place, axis)
         })
     }
 
-    /// How far the device at a position of a group is from the one at position 0.
+    /// How far the place at a position of a group is from the one at position 0.
     fn offset(&self, axes: &[Axis], position: usize) -> usize {
         let mut left = position;
         let mut offset = 0;
@@ -370,7 +426,7 @@ impl Mesh {
         offset
     }
 
-    /// All devices, group after group, by position in each.
+    /// All places, group after group, by position in each.
     fn listing(&self, axes: &[Axis]) -> Vec<usize> {
         let all = (0..self.axes() as u8).map(Axis);
         let rest: AxisList = all.filter(|axis| !axes.contains(axis)).collect();
@@ -382,6 +438,52 @@ impl Mesh {
         let firsts = offsets_of(&rest);
         let group = |first: usize| members.iter().map(move |member| first + member);
         firsts.into_iter().flat_map(group).collect()
+    }
+}
+
+/// Which device stands at each place.
+struct Order(Vec<Device>);
+
+impl Order {
+    /// Every device's number is its place; no list is kept.
+    const PLAIN: Order = Order(Vec::new());
+
+    fn judge(listed: Vec<Device>, devices: usize) -> Result<Order, Refusal> {
+        let plain: Vec<Device> = (0..devices as u16).map(Device).collect();
+        let mut sorted = listed.clone();
+        sorted.sort_unstable();
+        if sorted != plain || listed == plain {
+            return Err(Refusal::whole(19));
+        }
+        Ok(Order(listed))
+    }
+
+    fn is_plain(&self) -> bool {
+        self.0.is_empty()
+    }
+
+    fn device(&self, place: usize) -> Device {
+        let plain = Device(place as u16);
+        self.0.get(place).copied().unwrap_or(plain)
+    }
+
+    fn place(&self, device: Device) -> usize {
+        let listed = self.0.iter().position(|&other| other == device);
+        listed.unwrap_or(device.index())
+    }
+
+    /// Puts shards that lie by device number where the places are.
+    fn by_place(&self, words: usize, old: &[u32], new: &mut [u32]) {
+        for (shard, device) in new.chunks_exact_mut(words).zip(&self.0) {
+            shard.copy_from_slice(&old[device.index() * words..][..words]);
+        }
+    }
+
+    /// The way back.
+    fn by_device(&self, words: usize, old: &[u32], new: &mut [u32]) {
+        for (shard, device) in old.chunks_exact(words).zip(&self.0) {
+            new[device.index() * words..][..words].copy_from_slice(shard);
+        }
     }
 }
 
@@ -587,19 +689,19 @@ impl Step {
     }
 }
 
-/// Gives each device the word-by-word sum of its group's shards.
+/// Gives each device the word-by-word sum of its group's shards, which lie by place.
 fn reduce(mesh: &Mesh, axes: &[Axis], words: usize, old: &[u32], new: &mut [u32]) {
     let mut sum = vec![0; words];
     for group in mesh.listing(axes).chunks(mesh.group_size(axes)) {
         sum.fill(0);
-        for device in group {
-            let shard = &old[device * words..][..words];
+        for place in group {
+            let shard = &old[place * words..][..words];
             for (total, word) in sum.iter_mut().zip(shard) {
                 *total = word.wrapping_add(*total);
             }
         }
-        for device in group {
-            new[device * words..][..words].copy_from_slice(&sum);
+        for place in group {
+            new[place * words..][..words].copy_from_slice(&sum);
         }
     }
 }
@@ -619,29 +721,29 @@ impl Move<'_> {
         let strides = row_major(&self.before.shard);
         let sources = self.sources(&strides);
         let shards = new.chunks_exact_mut(self.after.words());
-        for (device, shard) in shards.take(self.mesh.devices).enumerate() {
-            let old = &old[self.origin(device, &strides)..];
+        for (place, shard) in shards.take(self.mesh.devices).enumerate() {
+            let old = &old[self.origin(place, &strides)..];
             for (word, &source) in shard.iter_mut().zip(&sources) {
                 *word = old[source];
             }
         }
     }
 
-    /// Where the first word of a device's new shard lies in the old state.
-    fn origin(&self, device: usize, strides: &[usize]) -> usize {
-        let mut first = device;
+    /// Where the first word of the new shard at a place lies in the old state.
+    fn origin(&self, place: usize, strides: &[usize]) -> usize {
+        let mut first = place;
         for list in &self.gathered {
-            first -= self.mesh.offset(list, self.mesh.position(device, list));
+            first -= self.mesh.offset(list, self.mesh.position(place, list));
         }
         let mut origin = first * self.before.words();
         for ((list, &size), stride) in self.sliced.iter().zip(&self.after.shard).zip(strides) {
-            origin += self.mesh.position(device, list) * usize::from(size) * stride;
+            origin += self.mesh.position(place, list) * usize::from(size) * stride;
         }
         origin
     }
 
     /// How far each word of a new shard lies from its first word, in the old state. This is the
-    /// same for all devices.
+    /// same for all places.
     fn sources(&self, strides: &[usize]) -> Vec<usize> {
         let mut sources = vec![0];
         for (dim, stride) in strides.iter().enumerate() {

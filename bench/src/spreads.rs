@@ -3,12 +3,15 @@
 //! This is written from the definition, device by device and coordinate by coordinate, and
 //! shares nothing with the reference.
 
-use crate::answers::{Axis, Sharding};
+use crate::answers::{Axis, Device, Sharding};
 use crate::random::Random;
+use std::ops::Range;
 
-/// A sharding of a table over a mesh.
+/// A sharding of a table over a mesh. A place is the row-major number of coordinates.
 pub struct Layout<'a> {
     pub mesh: &'a [u16],
+    /// The device at each place; empty where that is its number.
+    pub order: &'a [Device],
     pub table: &'a [u16],
     pub sharding: &'a Sharding,
 }
@@ -27,52 +30,49 @@ impl Layout<'_> {
 
     /// A faithful spread of a table, otherwise random.
     pub fn spread(&self, table: &[u32], random: &mut Random) -> Vec<u32> {
-        let words = self.words();
-        let mut buffer = vec![0; self.devices() * words];
+        let mut buffer = vec![0; self.devices() * self.words()];
         let parts = self.parts();
-        for device in 0..self.devices() {
-            if self.lowest_part(device) != device {
+        for place in 0..self.devices() {
+            if self.lowest_part(place) != place {
                 continue;
             }
-            let mut left = self.block(table, device);
+            let mut left = self.block(table, place);
             for part in &parts[1..] {
-                let shard = &mut buffer[(device + part) * words..][..words];
+                let shard = &mut buffer[self.shard_at(place + part)];
                 for (word, left) in shard.iter_mut().zip(&mut left) {
                     *word = random.word();
                     *left = left.wrapping_sub(*word);
                 }
             }
-            buffer[device * words..][..words].copy_from_slice(&left);
+            buffer[self.shard_at(place)].copy_from_slice(&left);
         }
         self.make_replicas_equal(&mut buffer);
         buffer
     }
 
     fn make_replicas_equal(&self, buffer: &mut [u32]) {
-        let words = self.words();
-        for device in 0..self.devices() {
-            let first = self.without(device, |axis| self.is_replicated(axis));
-            buffer.copy_within(first * words..(first + 1) * words, device * words);
+        for place in 0..self.devices() {
+            let first = self.without(place, |axis| self.is_replicated(axis));
+            buffer.copy_within(self.shard_at(first), self.shard_at(place).start);
         }
     }
 
     /// Tries a buffer by the two conditions of a faithful spread; an error says where it fails.
     pub fn try_spread(&self, table: &[u32], buffer: &[u32]) -> Result<(), String> {
-        let words = self.words();
-        if buffer.len() < self.devices() * words {
+        if buffer.len() < self.devices() * self.words() {
             return Err("the buffer is shorter than the state".into());
         }
         let parts = self.parts();
-        let shard = |device: usize| &buffer[device * words..][..words];
-        for device in 0..self.devices() {
-            let replica = self.without(device, |axis| self.is_replicated(axis));
-            if shard(device) != shard(replica) {
-                return Err(format!("replicas {replica} and {device} differ"));
+        for place in 0..self.devices() {
+            let replica = self.without(place, |axis| self.is_replicated(axis));
+            if buffer[self.shard_at(place)] != buffer[self.shard_at(replica)] {
+                let (one, other) = (self.device(replica), self.device(place));
+                return Err(format!("replicas {one:?} and {other:?} differ"));
             }
             // The sum and the block are the same for all devices that are added up here, so one
             // of them stands for all.
-            if self.lowest_part(device) == device {
-                self.try_sum(table, buffer, device, &parts)?;
+            if self.lowest_part(place) == place {
+                self.try_sum(table, buffer, place, &parts)?;
             }
         }
         Ok(())
@@ -82,40 +82,55 @@ impl Layout<'_> {
         &self,
         table: &[u32],
         buffer: &[u32],
-        device: usize,
+        place: usize,
         parts: &[usize],
     ) -> Result<(), String> {
-        let words = self.words();
-        let mut sum = vec![0u32; words];
+        let mut sum = vec![0u32; self.words()];
         for part in parts {
-            for (sum, word) in sum.iter_mut().zip(&buffer[(device + part) * words..]) {
+            for (sum, word) in sum.iter_mut().zip(&buffer[self.shard_at(place + part)]) {
                 *sum = sum.wrapping_add(*word);
             }
         }
-        if sum == self.block(table, device) {
-            Ok(())
-        } else {
-            Err(format!("the block of device {device} is not the table's"))
+        if sum == self.block(table, place) {
+            return Ok(());
         }
+        let device = self.device(place);
+        Err(format!("the block of device {device:?} is not the table's"))
     }
 
-    /// The lowest of the devices that agree with this one outside the unreduced axes.
-    fn lowest_part(&self, device: usize) -> usize {
-        self.without(device, |axis| self.is_unreduced(axis))
+    fn device(&self, place: usize) -> Device {
+        let plain = Device(place as u16);
+        self.order.get(place).copied().unwrap_or(plain)
     }
 
-    /// How far the devices that agree outside the unreduced axes are from the lowest of them.
+    fn place(&self, device: Device) -> usize {
+        let all = 0..self.devices();
+        let mut found = all.filter(|&place| self.device(place) == device);
+        found.next().expect("a device of the mesh")
+    }
+
+    /// Where the words of the device at a place lie: shards lie by device number.
+    fn shard_at(&self, place: usize) -> Range<usize> {
+        let first = self.device(place).index() * self.words();
+        first..first + self.words()
+    }
+
+    /// The lowest of the places that agree with this one outside the unreduced axes.
+    fn lowest_part(&self, place: usize) -> usize {
+        self.without(place, |axis| self.is_unreduced(axis))
+    }
+
+    /// How far the places that agree outside the unreduced axes are from the lowest of them.
     fn parts(&self) -> Vec<usize> {
         let all = 0..self.devices();
-        all.filter(|&device| self.lowest_part(device) == 0)
-            .collect()
+        all.filter(|&place| self.lowest_part(place) == 0).collect()
     }
 
-    /// The table's block of a device.
-    fn block(&self, table: &[u32], device: usize) -> Vec<u32> {
+    /// The table's block of the device at a place.
+    fn block(&self, table: &[u32], place: usize) -> Vec<u32> {
         let mut indexes = vec![0];
         for (dim, &size) in self.table.iter().enumerate() {
-            let first = self.first_index(device, dim);
+            let first = self.first_index_at(place, dim);
             let along = first..first + self.shard_size(dim);
             let outer = indexes.iter();
             indexes = outer
@@ -126,8 +141,12 @@ impl Layout<'_> {
     }
 
     /// The device's first index along a dimension.
-    pub fn first_index(&self, device: usize, dim: usize) -> usize {
-        let coordinates = self.coordinates(device);
+    pub fn first_index(&self, device: Device, dim: usize) -> usize {
+        self.first_index_at(self.place(device), dim)
+    }
+
+    fn first_index_at(&self, place: usize, dim: usize) -> usize {
+        let coordinates = self.coordinates(place);
         let mut block = 0;
         for axis in &self.sharding.dims[dim] {
             block = block * usize::from(self.mesh[axis.index()]) + coordinates[axis.index()];
@@ -144,8 +163,8 @@ impl Layout<'_> {
         usize::from(self.table[dim]) / pieces
     }
 
-    fn coordinates(&self, device: usize) -> Vec<usize> {
-        let mut left = device;
+    fn coordinates(&self, place: usize) -> Vec<usize> {
+        let mut left = place;
         let mut coordinates = vec![0; self.mesh.len()];
         for (coordinate, &size) in coordinates.iter_mut().zip(self.mesh).rev() {
             *coordinate = left % usize::from(size);
@@ -154,22 +173,22 @@ impl Layout<'_> {
         coordinates
     }
 
-    fn device(&self, coordinates: &[usize]) -> usize {
+    fn place_at(&self, coordinates: &[usize]) -> usize {
         let pairs = coordinates.iter().zip(self.mesh);
-        pairs.fold(0, |device, (coordinate, &size)| {
-            device * usize::from(size) + coordinate
+        pairs.fold(0, |place, (coordinate, &size)| {
+            place * usize::from(size) + coordinate
         })
     }
 
-    /// The device with the chosen coordinates set to 0.
-    fn without(&self, device: usize, chosen: impl Fn(Axis) -> bool) -> usize {
-        let mut coordinates = self.coordinates(device);
+    /// The place with the chosen coordinates set to 0.
+    fn without(&self, place: usize, chosen: impl Fn(Axis) -> bool) -> usize {
+        let mut coordinates = self.coordinates(place);
         for (axis, coordinate) in coordinates.iter_mut().enumerate() {
             if chosen(Axis(axis as u8)) {
                 *coordinate = 0;
             }
         }
-        self.device(&coordinates)
+        self.place_at(&coordinates)
     }
 
     fn is_unreduced(&self, axis: Axis) -> bool {

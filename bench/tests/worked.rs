@@ -1,8 +1,8 @@
 //! The worked plans of document 01, the cases at the limits, those in its ledger's last line, as
-//! document 02 moves them, and the replicated list of edition 2.
+//! document 02 moves them, the replicated list of edition 2 and the order of edition 3.
 
 use bench::answers::{Device, Dim, Refusal};
-use bench::plans::{axes, lists, mend_length, Draft, Step};
+use bench::plans::{axes, devices, lists, mend_length, Draft, Step};
 use bench::{hex, implementations, Implementation};
 
 const W1: &str = "01 00 02 00 02 00 01 00 12 00 16 00 1a 00 1f 00 23 00 | 02 00 02 00 \
@@ -344,13 +344,196 @@ fn a_plan_has_one_edition() {
         assert_eq!(answer(&free, 2), refusal(18, 0));
         assert_eq!(answer(&uneven, 2), refusal(17, 0));
         assert_eq!(answer(&kept, 2), Ok(()));
-        for edition in [0, 3, 257, 258] {
+        for edition in [0, 4, 257, 258, 259] {
             assert_eq!(answer(&kept, edition), refusal(3, 0));
         }
         // The list stands before the steps, whose offset tells whether it was to be there.
         let mut file = kept.encode();
         file[0] = 1;
         assert_eq!(one.check(&file), refusal(6, 0));
+    }
+}
+
+/// The order of document 02's case, on a mesh of 3x2.
+const CABLED: [u16; 6] = [0, 2, 4, 1, 3, 5];
+
+/// Document 02's mesh and order, a table of 6x2 with this start, and a step.
+fn on_mesh_3x2(start: &[&[u8]], unreduced: &[u8], step: Step) -> Draft {
+    Draft {
+        mesh: vec![3, 2],
+        order: devices(&CABLED),
+        table: vec![6, 2],
+        start: lists(start),
+        unreduced: axes(unreduced),
+        steps: vec![step],
+        ..Draft::default()
+    }
+}
+
+#[test]
+fn a_listing_by_an_order_has_its_numbers() {
+    let cases: [(&[u8], [u16; 6]); 4] = [
+        (&[1], [0, 2, 4, 1, 3, 5]),
+        (&[0], [0, 4, 3, 2, 1, 5]),
+        (&[1, 0], [0, 4, 3, 2, 1, 5]),
+        (&[], [0, 2, 4, 1, 3, 5]),
+    ];
+    for one in implementations() {
+        for (list, listed) in cases {
+            let mut out = [Device(77); 7];
+            let answer = one.groups_ordered(&[3, 2], &devices(&CABLED), &axes(list), &mut out);
+            assert_eq!((answer, &out[..6]), (Ok(()), &listed.map(Device)[..]));
+            assert_eq!(out[6], Device(77));
+        }
+    }
+}
+
+#[test]
+fn a_listing_by_an_order_judges_it_after_the_mesh() {
+    // Refused before the axes, of which there is none with this number.
+    let cases: [(&[u16], &[u16], u8); 11] = [
+        (&[], &[], 5),
+        (&[1; 7], &[], 5),
+        (&[3, 0], &[], 10),
+        (&[1025], &[], 11),
+        (&[3, 2], &[], 19),
+        (&[3, 2], &[0, 2, 4, 1, 3], 19),
+        (&[3, 2], &[0, 2, 4, 1, 3, 5, 6], 19),
+        (&[3, 2], &[0, 1, 2, 3, 4, 5], 19),
+        (&[3, 2], &[0, 2, 4, 1, 3, 4], 19),
+        (&[3, 2], &[0, 2, 4, 1, 3, 6], 19),
+        (&[1], &[0], 19),
+    ];
+    let cases = cases.map(|(mesh, order, number)| (mesh, order, &[9][..], 0, number));
+    let after: [(&[u8], usize, u8); 3] = [(&[1, 2, 1], 0, 14), (&[1, 1, 2], 0, 15), (&[1], 5, 33)];
+    let after =
+        after.map(|(list, length, number)| (&[3, 2][..], &CABLED[..], list, length, number));
+    for one in implementations() {
+        for (mesh, order, list, length, number) in cases.into_iter().chain(after) {
+            let mut out = vec![Device(77); length];
+            let answer = one.groups_ordered(mesh, &devices(order), &axes(list), &mut out);
+            assert_eq!(answer, refusal(number, 0), "{order:?}");
+            assert!(out.iter().all(|&entry| entry == Device(77)));
+        }
+    }
+}
+
+#[test]
+fn a_device_is_placed_where_the_order_lists_it() {
+    let mut draft = on_mesh_3x2(&[&[0], &[1]], &[], Step::Gather(lists(&[&[0], &[]])));
+    let firsts = |one: &dyn Implementation, draft: &Draft, state| {
+        [0, 1, 2, 3, 4, 5].map(|device| {
+            let placed = one.place(&draft.encode(), state, Device(device));
+            let first = placed.expect("placed").first;
+            (first[0], first[1])
+        })
+    };
+    for one in implementations() {
+        let start = [(0, 0), (2, 1), (0, 1), (4, 0), (2, 0), (4, 1)];
+        assert_eq!(firsts(one, &draft, 0), start);
+        let after = [(0, 0), (0, 1), (0, 1), (0, 0), (0, 0), (0, 1)];
+        assert_eq!(firsts(one, &draft, 1), after);
+        assert_eq!(one.place(&draft.encode(), 0, Device(6)), refusal(32, 0));
+    }
+    // W4's mesh with an order that is not its own inverse.
+    draft.mesh = vec![2, 2];
+    draft.order = devices(&[2, 0, 3, 1]);
+    draft.table = vec![4];
+    draft.start = lists(&[&[1, 0]]);
+    draft.steps.clear();
+    for one in implementations() {
+        let first = |device| {
+            one.place(&draft.encode(), 0, Device(device))
+                .map(|at| at.first[0])
+        };
+        assert_eq!([0, 1, 2, 3].map(first), [2, 3, 0, 1].map(Ok));
+    }
+}
+
+#[test]
+fn shards_lie_by_device_number() {
+    let words: Vec<u32> = (1..=72).collect();
+    let of = |device: u32, words: u32| device * words + 1..=(device + 1) * words;
+    let joined = |group: &[u32]| -> Vec<u32> { group.iter().flat_map(|&d| of(d, 4)).collect() };
+    let (left, right) = (joined(&[0, 4, 3]), joined(&[2, 1, 5]));
+    let gather = on_mesh_3x2(&[&[0], &[]], &[], Step::Gather(lists(&[&[0], &[]])));
+    let gathered = [&left, &right, &right, &left, &left, &right].map(|shard| shard.clone());
+    // Devices 0 and 2, 4 and 1, 3 and 5 are in one row.
+    let reduce = on_mesh_3x2(&[&[], &[]], &[1], Step::Reduce(axes(&[1])));
+    let sum = |one: u32, other: u32| of(one, 12).zip(of(other, 12)).map(|(a, b)| a + b);
+    let rows = [(0, 2), (4, 1), (0, 2), (3, 5), (4, 1), (3, 5)];
+    let reduced = rows.map(|(one, other)| sum(one, other).collect::<Vec<u32>>());
+    // Device 4 is in row 1, column 0: it keeps rows 2 and 3 of the table, and column 0 of them.
+    let slice = on_mesh_3x2(&[&[], &[]], &[], Step::Slice(lists(&[&[0], &[1]])));
+    let sliced = vec![1, 3, 18, 20, 26, 28, 45, 47, 53, 55, 70, 72];
+    let to_all = Draft {
+        mesh: vec![3],
+        order: devices(&[1, 2, 0]),
+        table: vec![3, 3],
+        start: lists(&[&[0], &[]]),
+        steps: vec![Step::AllToAll(Dim(0), Dim(1), axes(&[0]))],
+        ..Draft::default()
+    };
+    for one in implementations() {
+        assert_run(one, &gather.encode(), &words[..24], &gathered.concat());
+        assert_run(one, &reduce.encode(), &words, &reduced.concat());
+        assert_run(one, &slice.encode(), &words, &sliced);
+        let columns = [6, 9, 3, 4, 7, 1, 5, 8, 2];
+        assert_run(one, &to_all.encode(), &words[..9], &columns);
+        assert_run(one, &to_all.prefix(0).encode(), &words[..9], &words[..9]);
+    }
+}
+
+#[test]
+fn an_order_is_a_rearrangement_and_not_the_plain_one() {
+    let mut draft = on_mesh_3x2(&[&[0], &[]], &[], Step::Bytes(vec![0]));
+    for one in implementations() {
+        draft.order = devices(&CABLED);
+        assert_eq!(one.check(&draft.encode()), refusal(20, 1));
+        for order in [
+            [0, 1, 2, 3, 4, 5],
+            [0, 2, 4, 1, 3, 3],
+            [0, 2, 4, 1, 3, 6],
+            [0, 2, 4, 1, 3, 256],
+            [6, 5, 4, 3, 2, 1],
+        ] {
+            draft.order = devices(&order);
+            let mut file = draft.encode();
+            assert_eq!(one.check(&file), refusal(19, 0));
+            // Before the table's offset and its bytes, and after its own.
+            file[10] ^= 1;
+            assert_eq!(one.check(&file), refusal(19, 0));
+            file.truncate(34);
+            mend_length(&mut file);
+            assert_eq!(one.check(&file), refusal(19, 0));
+            file.truncate(33);
+            mend_length(&mut file);
+            assert_eq!(one.check(&file), refusal(7, 0));
+            file[20] = 0;
+            assert_eq!(one.check(&file), refusal(10, 0));
+        }
+        let mut alone = resting(1, 4, &[]);
+        alone.order = devices(&[0]);
+        assert_eq!(one.check(&alone.encode()), refusal(19, 0));
+    }
+}
+
+#[test]
+fn the_replicated_list_of_edition_3_may_be_empty() {
+    let mut draft = on_mesh_3x2(&[&[0], &[]], &[], Step::Gather(lists(&[&[0], &[]])));
+    for one in implementations() {
+        for replicated in [vec![], axes(&[1])] {
+            draft.replicated = replicated.clone();
+            assert_eq!(draft.encode()[0], 3);
+            let checked = one.check(&draft.encode()).expect("accepted");
+            assert_eq!((checked.devices, checked.room), (6, 72));
+            assert_eq!(*checked.sharding.replicated, replicated);
+        }
+        for edition in [1, 2] {
+            let mut file = draft.encode();
+            file[0] = edition;
+            assert_eq!(one.check(&file), refusal(6, 0));
+        }
     }
 }
 

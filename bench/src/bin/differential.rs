@@ -34,11 +34,12 @@ struct Tally {
     /// Accepted plans with the most devices, and with the most words.
     most_devices: usize,
     most_words: usize,
-    /// Accepted plans with axes that are to stay replicated, and how many of them were run.
-    edition_2: usize,
-    runs_of_edition_2: usize,
+    /// Accepted plans of each edition, and how many of them were run.
+    editions: [usize; 3],
+    runs_of_editions: [usize; 3],
     placements: usize,
     listings: usize,
+    listings_by_order: usize,
     runs: usize,
     runs_at_a_limit: usize,
     runs_at_most_room: usize,
@@ -63,11 +64,11 @@ impl Tally {
     fn see_plan(&mut self, draft: &Draft) {
         self.most_devices += usize::from(product(&draft.mesh) == MOST_DEVICES);
         self.most_words += usize::from(product(&draft.table) == MOST_WORDS);
-        self.edition_2 += usize::from(draft.edition() == 2);
+        self.editions[draft.edition() - 1] += 1;
     }
 
     fn see_steps(&mut self, draft: &Draft) {
-        self.runs_of_edition_2 += usize::from(draft.edition() == 2);
+        self.runs_of_editions[draft.edition() - 1] += 1;
         for step in &draft.steps {
             match step {
                 Step::Slice(_) => self.steps[0] += 1,
@@ -274,15 +275,42 @@ fn same<T: PartialEq + Debug>(call: &str, file: &[u8], reference: &T, library: &
 fn compare_groups(random: &mut Random, library: &dyn Implementation, tally: &mut Tally) -> Outcome {
     let (mesh, axes) = random_listing(random);
     let devices = product(&mesh).min(MOST_DEVICES);
+    let order = listed_order(random, devices);
     let length = (devices + random.below(4)).saturating_sub(random.below(2));
     let untouched = vec![Device(random.draw() as u16); length];
     let (mut ours, mut theirs) = (untouched.clone(), untouched);
-    let answer = Reference.groups(&mesh, &axes, &mut ours);
-    let other = library.groups(&mesh, &axes, &mut theirs);
+    let listed = |one: &dyn Implementation, out: &mut [Device]| match &order {
+        None => one.groups(&mesh, &axes, out),
+        Some(order) => one.groups_ordered(&mesh, order, &axes, out),
+    };
+    let answer = listed(&Reference, &mut ours);
+    let other = listed(library, &mut theirs);
     tally.listings += 1;
+    tally.listings_by_order += usize::from(order.is_some());
     tally.see(&answer);
-    let call = format!("groups of mesh {mesh:?} along {axes:?} into {length} places");
+    let call =
+        format!("groups of mesh {mesh:?} along {axes:?} into {length} places, order {order:?}");
     same(&call, &[], &(answer, ours), &(other, theirs))
+}
+
+/// An order for half of the listings, sound most of the time.
+fn listed_order(random: &mut Random, devices: usize) -> Option<Vec<Device>> {
+    if random.once_in(2) {
+        return None;
+    }
+    let mut order = plans::random_order(random, devices.max(1));
+    match random.below(12) {
+        0 => order.sort(),
+        1 => drop(order.pop()),
+        2 => order.push(Device(random.draw() as u16)),
+        3 => order.clear(),
+        4 | 5 if !order.is_empty() => {
+            let at = random.below(order.len());
+            order[at] = Device(random.between(0, order.len()) as u16);
+        }
+        _ => {}
+    }
+    Some(order)
 }
 
 /// A mesh and an axis list, each sound most of the time.
@@ -506,6 +534,7 @@ fn start_layout<T>(
     let placed = placed.map_err(|refusal| refused("an accepted plan", file, refusal))?;
     Ok(then(Layout {
         mesh: &draft.mesh,
+        order: &draft.order,
         table: &draft.table,
         sharding: &placed.sharding,
     }))
@@ -549,10 +578,11 @@ impl Trial<'_> {
         ran.map_err(|refusal| refused(&call, &part, refusal))?;
         let layout = Layout {
             mesh: &self.draft.mesh,
+            order: &self.draft.order,
             table: &self.draft.table,
             sharding: &placed.sharding,
         };
-        let first = |dim| layout.first_index(device.index(), dim) as u16;
+        let first = |dim| layout.first_index(device, dim) as u16;
         let firsts: Vec<u16> = (0..self.draft.table.len()).map(first).collect();
         let told = match layout.try_spread(self.table, &work) {
             Err(told) => told,
@@ -590,11 +620,18 @@ impl fmt::Display for Tally {
             f,
             "{devices} plans with {MOST_DEVICES} devices, {words} with {MOST_WORDS} words"
         )?;
-        let (plans, runs) = (self.edition_2, self.runs_of_edition_2);
-        writeln!(f, "{plans} plans of edition 2, {runs} of them run")?;
+        for (at, (plans, runs)) in self.editions.iter().zip(self.runs_of_editions).enumerate() {
+            let edition = at + 1;
+            writeln!(f, "{plans} plans of edition {edition}, {runs} of them run")?;
+        }
         let met = self.refusals.len();
         writeln!(f, "{} placements", self.placements)?;
-        writeln!(f, "{} group listings", self.listings)?;
+        let by_order = self.listings_by_order;
+        writeln!(
+            f,
+            "{} group listings, {by_order} by an order",
+            self.listings
+        )?;
         writeln!(
             f,
             "{} runs, {} at a limit, {} with room for {MOST_ROOM} words",

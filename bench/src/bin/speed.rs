@@ -83,6 +83,7 @@ fn main() -> ExitCode {
         one_step_runs(&mut bench);
         steps_alone(&mut bench);
         whole_runs(&mut bench);
+        ordered_runs(&mut bench);
         bench.limits.tell(&mut bench.page);
         largest_runs(&mut bench);
     }
@@ -124,6 +125,7 @@ struct Limits {
     single: Limit,
     whole: Limit,
     reduction: Limit,
+    order: Limit,
     small_call: Limit,
     one_step_run: Limit,
     step: Limit,
@@ -175,6 +177,7 @@ impl Limits {
             single: Limit::new("step / copy, runs of 1 word", 10.0),
             whole: Limit::new("64 steps / copies, runs of 256 and more", 3.0),
             reduction: Limit::new("reduction / addition of shards", 1.5),
+            order: Limit::new("an order's part / copies in and out", 2.0),
             small_call: Limit::new("small call / reference", 1.0),
             one_step_run: Limit::new("run of one step / reference", 1.0),
             step: Limit::new("step / reference", 1.0),
@@ -211,7 +214,13 @@ impl Limits {
             "largest",
             ""
         );
-        let beside_copies = [&self.long, &self.middle, &self.single, &self.whole];
+        let beside_copies = [
+            &self.long,
+            &self.middle,
+            &self.single,
+            &self.whole,
+            &self.order,
+        ];
         let beside_additions = [&self.reduction];
         let beside_reference = [
             &self.small_call,
@@ -421,6 +430,14 @@ impl Case {
         self.words.max(self.words_back)
     }
 
+    /// The words of the state before the step.
+    fn words_before(&self) -> usize {
+        match self.back {
+            Some(_) => self.words_back,
+            None => self.words,
+        }
+    }
+
     /// The time of copying what the step and its undoing write.
     fn copies(&self, bench: &mut Bench) -> f64 {
         bench.copy(self.room(), self.words) + bench.copy(self.room(), self.words_back)
@@ -559,28 +576,37 @@ fn with_steps(case: &Case, steps: Vec<Step>) -> Vec<u8> {
     draft.encode()
 }
 
+/// An order of so many devices, the same in every round, that is not its own inverse.
+fn any_order(devices: usize) -> Vec<Device> {
+    let mut order: Vec<Device> = (0..devices as u16).map(Device).collect();
+    Random::new(0).shuffle(&mut order);
+    order
+}
+
 fn small_calls(bench: &mut Bench) {
     say!(bench.page, "\n### Small calls\n");
     say!(bench.page, "Each time is that of one call among many.\n");
     say!(
         bench.page,
-        "    {:<36} {:>9} {:>9} {:>7}",
+        "    {:<42} {:>9} {:>9} {:>7}",
         "call",
         "library",
         "reference",
         "lib/ref"
     );
-    for steps in [1, 8, 64] {
-        let file = steps_file(steps);
+    for (steps, order) in [(1, 0), (8, 0), (64, 0), (8, 32)] {
+        let file = steps_file(steps, order);
         let label = format!("check, {steps} steps, {} bytes", file.len());
-        small_call(bench, &label, |one| {
+        small_call(bench, &with_order(&label, order), |one| {
             black_box(one.check(black_box(&file)).is_ok());
         });
     }
-    let file = steps_file(8);
-    small_call(bench, "placement, 8 steps", |one| {
-        black_box(one.place(black_box(&file), 8, Device(3)).is_ok());
-    });
+    for order in [0, 32] {
+        let file = steps_file(8, order);
+        small_call(bench, &with_order("placement, 8 steps", order), |one| {
+            black_box(one.place(black_box(&file), 8, Device(3)).is_ok());
+        });
+    }
     let listings: [(&[u16], &[u8]); 3] = [
         (&[256], &[0]),
         (&[2, 4, 8, 4], &[3, 1]),
@@ -594,11 +620,22 @@ fn small_calls(bench: &mut Bench) {
             let answer = one.groups(black_box(mesh), black_box(&axes), &mut out);
             black_box((answer.is_ok(), &mut out));
         });
+        let order = any_order(MIDDLE.devices);
+        small_call(bench, &with_order(&label, order.len()), |one| {
+            let answer = one.groups_ordered(black_box(mesh), &order, black_box(&axes), &mut out);
+            black_box((answer.is_ok(), &mut out));
+        });
     }
 }
 
-/// A plan of some steps of several kinds, on four axes and three dimensions.
-fn steps_file(steps: usize) -> Vec<u8> {
+fn with_order(label: &str, devices: usize) -> String {
+    let order = if devices > 0 { ", order" } else { "" };
+    format!("{label}{order}")
+}
+
+/// A plan of some steps of several kinds, on four axes and three dimensions. Its 32 devices have an
+/// order, or none.
+fn steps_file(steps: usize, order: usize) -> Vec<u8> {
     let there_and_back = [
         Step::Slice(vec![axes(&[2]), axes(&[]), axes(&[3])]),
         Step::AllToAll(Dim(0), Dim(1), axes(&[2])),
@@ -607,6 +644,7 @@ fn steps_file(steps: usize) -> Vec<u8> {
     ];
     let draft = Draft {
         mesh: vec![2, 2, 4, 2],
+        order: any_order(order),
         table: vec![16, 16, 16],
         start: vec![axes(&[0]), axes(&[1]), axes(&[])],
         steps: there_and_back.iter().cycle().take(steps).cloned().collect(),
@@ -627,7 +665,7 @@ fn small_call(bench: &mut Bench, label: &str, mut call: impl FnMut(&dyn Implemen
     limit.see(times.library, times.reference, label);
     say!(
         bench.page,
-        "    {label:<36} {} {:>9.3} {}",
+        "    {label:<42} {} {:>9.3} {}",
         shown(times.library, 9, 3),
         times.reference,
         shown(ratio(times.library, times.reference), 7, 2),
@@ -803,6 +841,81 @@ fn whole_runs(bench: &mut Bench) {
         };
         row.tell(&mut bench.page);
     }
+}
+
+/// What an order of the devices adds to a run: shards that lie by device number are put by place
+/// before the first step, and back after the last.
+fn ordered_runs(bench: &mut Bench) {
+    say!(bench.page, "\n### Runs under an order\n");
+    say!(
+        bench.page,
+        "Runs of one step again, plain and with the {} devices in another order, by the",
+        MIDDLE.devices
+    );
+    say!(
+        bench.page,
+        "library. `more` is what the order adds; `copies` is a copy of all words of the"
+    );
+    say!(
+        bench.page,
+        "first state and one of the last, for shards are put by place once before the"
+    );
+    say!(
+        bench.page,
+        "first step and back once after the last, however many steps there are. `lib/ref`"
+    );
+    say!(bench.page, "is of the runs under the order.\n");
+    say!(
+        bench.page,
+        "    {:<13} {:<6} {:>4} {:>5} {:>9} {:>9} {:>8} {:>8} {:>8} {:>9} {:>7}",
+        "kind",
+        "dim",
+        "run",
+        "group",
+        "plain",
+        "ordered",
+        "more",
+        "copies",
+        "more/it",
+        "reference",
+        "lib/ref"
+    );
+    for case in &of_each_kind(MIDDLE) {
+        ordered_run(bench, case);
+    }
+}
+
+fn ordered_run(bench: &mut Bench, case: &Case) {
+    let ordered = Draft {
+        order: any_order(MIDDLE.devices),
+        ..case.draft.clone()
+    };
+    let [plain, ordered] = bench.runs([&case.draft.encode(), &ordered.encode()]);
+    let more = ordered
+        .with(plain, |ordered, plain| ordered - plain)
+        .library;
+    let before = bench.copy(case.room(), case.words_before());
+    let copies = before + bench.copy(case.room(), case.words);
+    let (limits, label) = (&mut bench.limits, case.label(case.kind));
+    limits.order.see(more, copies, &label);
+    let label = with_order(&label, MIDDLE.devices);
+    limits
+        .one_step_run
+        .see(ordered.library, ordered.reference, &label);
+    say!(
+        bench.page,
+        "    {:<13} {:<6} {:>4} {:>5} {} {} {} {copies:>8.1} {} {:>9.1} {}",
+        case.kind,
+        case.on,
+        case.run,
+        case.group,
+        shown(plain.library, 9, 1),
+        shown(ordered.library, 9, 1),
+        shown(more, 8, 1),
+        shown(ratio(more, copies), 8, 2),
+        ordered.reference,
+        shown(ratio(ordered.library, ordered.reference), 7, 2),
+    );
 }
 
 /// The same steps on a middle state and on the largest, as far as their kind allows, and what a

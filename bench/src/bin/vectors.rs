@@ -2,26 +2,42 @@
 //!
 //! Each argument is a file of vectors, or a folder that holds some. The name of a file tells
 //! what its cases are: `check.txt` or `plans.txt`, `run.txt` or `runs.txt`, `place.txt` or
-//! `placements.txt`, `groups.txt`. Empty lines and lines that begin with `#` are no cases.
+//! `placements.txt`, `groups.txt`, `groups_ordered.txt`. Empty lines and lines that begin with `#`
+//! are no cases. A file whose name ends with `-CALL.jsonl` has a JSON object in each line, as
+//! `tools/json_cases` takes them, and is compared where it is named itself.
 
 use bench::answers::{Axis, Device, Refusal, Sharding};
+use bench::json::Json;
 use bench::{hex, implementations, Implementation};
 use std::path::{Path, PathBuf};
 use std::process::ExitCode;
 use std::{env, fs};
 
-const NAMES: [&str; 7] = [
-    "check.txt",
-    "plans.txt",
-    "run.txt",
-    "runs.txt",
-    "place.txt",
-    "placements.txt",
-    "groups.txt",
+/// The files of a folder that are compared, and how each of their cases is.
+const FILES: [(&str, Compare); 8] = [
+    ("check.txt", compare_check),
+    ("plans.txt", compare_check),
+    ("run.txt", compare_run),
+    ("runs.txt", compare_run),
+    ("place.txt", compare_place),
+    ("placements.txt", compare_place),
+    ("groups.txt", compare_groups),
+    ("groups_ordered.txt", compare_groups_ordered),
+];
+
+/// The same of files in JSON, by the end of their name.
+const JSON_FILES: [(&str, CompareJson); 4] = [
+    ("-check.jsonl", json_check),
+    ("-run.jsonl", json_run),
+    ("-place.jsonl", json_place),
+    ("-groups.jsonl", json_groups),
 ];
 
 /// Whether an implementation gives a case's answer; an error tells that the case is malformed.
 type Compare = fn(&dyn Implementation, &[&str]) -> Result<bool, String>;
+
+/// The same, where nothing tells that the case is malformed.
+type CompareJson = fn(&dyn Implementation, &Json) -> Option<bool>;
 
 fn main() -> ExitCode {
     let arguments: Vec<PathBuf> = env::args_os().skip(1).map(PathBuf::from).collect();
@@ -65,22 +81,26 @@ fn files_at(path: &Path) -> Vec<PathBuf> {
     if !path.is_dir() {
         return vec![path.to_path_buf()];
     }
-    let inside = NAMES.iter().map(|name| path.join(name));
+    let inside = FILES.iter().map(|(name, _)| path.join(name));
     inside.filter(|file| file.exists()).collect()
 }
 
 fn compare_file(path: &Path) -> Result<usize, String> {
     let name = path.file_name().unwrap_or_default().to_string_lossy();
-    let compare: Compare = match name.as_ref() {
-        "check.txt" | "plans.txt" => compare_check,
-        "run.txt" | "runs.txt" => compare_run,
-        "place.txt" | "placements.txt" => compare_place,
-        "groups.txt" => compare_groups,
-        _ => {
-            let names = NAMES.join(", ");
-            return Err(format!("{}: name one of {names}", path.display()));
-        }
+    let by_name = FILES.iter().find(|(known, _)| *known == name);
+    let by_end = JSON_FILES.iter().find(|(end, _)| name.ends_with(end));
+    let compare = |implementation: &dyn Implementation, line: &str| match (by_name, by_end) {
+        (Some((_, compare)), _) => compare(implementation, &line.split('|').collect::<Vec<_>>()),
+        (_, Some((_, compare))) => Json::parse(line)
+            .and_then(|case| compare(implementation, &case))
+            .ok_or_else(|| "not a case".into()),
+        _ => Err("not a case of any call".into()),
     };
+    if by_name.is_none() && by_end.is_none() {
+        let names = FILES.map(|(name, _)| name).join(", ");
+        let ends = JSON_FILES.map(|(end, _)| format!("*{end}")).join(", ");
+        return Err(format!("{}: name one of {names}, {ends}", path.display()));
+    }
     let text = fs::read_to_string(path).map_err(|error| {
         let path = path.display();
         format!("{path}: {error}: name a file of vectors, such as tests/plans.txt")
@@ -94,8 +114,7 @@ fn compare_file(path: &Path) -> Result<usize, String> {
                 continue;
             }
             cases += 1;
-            let fields: Vec<&str> = line.split('|').collect();
-            let same = compare(implementation, &fields)
+            let same = compare(implementation, line)
                 .map_err(|message| format!("{name}, line {}: {message}", number + 1))?;
             if !same {
                 differences += 1;
@@ -169,12 +188,36 @@ fn compare_groups(implementation: &dyn Implementation, fields: &[&str]) -> Resul
     let [mesh, axes, length, outcome] = fields else {
         return Err("four fields are wanted".into());
     };
-    let mesh = numbers(mesh)?;
-    let axes: Vec<Axis> = numbers(axes)?.into_iter().map(Axis).collect();
+    let (mesh, axes) = (numbers(mesh)?, named(axes)?);
+    Ok(same_listing(number(length)?, outcome, |out| {
+        implementation.groups(&mesh, &axes, out)
+    }))
+}
+
+fn compare_groups_ordered(
+    implementation: &dyn Implementation,
+    fields: &[&str],
+) -> Result<bool, String> {
+    let [mesh, order, axes, length, outcome] = fields else {
+        return Err("five fields are wanted".into());
+    };
+    let (mesh, axes) = (numbers(mesh)?, named(axes)?);
+    let order: Vec<Device> = numbers(order)?.into_iter().map(Device).collect();
+    Ok(same_listing(number(length)?, outcome, |out| {
+        implementation.groups_ordered(&mesh, &order, &axes, out)
+    }))
+}
+
+/// Whether a listing into so many places is answered as printed.
+fn same_listing(
+    length: usize,
+    outcome: &str,
+    list: impl FnOnce(&mut [Device]) -> Result<(), Refusal>,
+) -> bool {
     // No device has this number, so an entry that was written can be told from one that was not.
     let untouched = Device(u16::MAX);
-    let mut out = vec![untouched; number(length)?];
-    let answer = implementation.groups(&mesh, &axes, &mut out);
+    let mut out = vec![untouched; length];
+    let answer = list(&mut out);
     let written = out.partition_point(|entry| *entry != untouched);
     let (listed, rest) = out.split_at(written);
     let line = printed(answer, |()| {
@@ -182,10 +225,102 @@ fn compare_groups(implementation: &dyn Implementation, fields: &[&str]) -> Resul
         format!("ok {}", joined(&numbers))
     });
     let refused = answer.is_err();
-    Ok(line == *outcome
-        && rest.iter().all(|entry| *entry == untouched)
-        && !(refused && written > 0))
+    line == outcome && rest.iter().all(|entry| *entry == untouched) && !(refused && written > 0)
 }
+
+// ---- cases in JSON: what is given, and under the call's name what it answers
+
+fn json_check(implementation: &dyn Implementation, case: &Json) -> Option<bool> {
+    let file = json_file(case)?;
+    let answer = implementation.check(&file).and_then(|checked| {
+        let states: Result<Vec<Json>, Refusal> = (0..=checked.steps)
+            .map(|state| {
+                let placed = implementation.place(&file, state, Device(0))?;
+                Ok(object([
+                    ("sharding", json_sharding(&placed.sharding)),
+                    ("shard", json_numbers(&placed.shard)),
+                ]))
+            })
+            .collect();
+        Ok(object([
+            ("room", Json::Number(checked.room.into())),
+            ("devices", Json::Number(checked.devices.into())),
+            ("states", Json::List(states?)),
+        ]))
+    });
+    same_json(case, "check", answer)
+}
+
+fn json_run(implementation: &dyn Implementation, case: &Json) -> Option<bool> {
+    let (before, spare_before) = (case.get("work")?, case.get("spare")?);
+    let mut work: Vec<u32> = before.numbers()?;
+    let mut spare: Vec<u32> = spare_before.numbers()?;
+    let answer = implementation.run(&json_file(case)?, &mut work, &mut spare);
+    let (work, spare) = (json_numbers(&work), json_numbers(&spare));
+    let stayed = work == *before && spare == *spare_before;
+    let answered = answer.map(|()| object([("work", work), ("spare", spare)]));
+    Some(same_json(case, "run", answered)? && (answer.is_ok() || stayed))
+}
+
+fn json_place(implementation: &dyn Implementation, case: &Json) -> Option<bool> {
+    let (state, device) = (case.get("state")?.number()?, case.get("device")?.number()?);
+    let placed = implementation.place(&json_file(case)?, state, Device(device));
+    let answer = placed.map(|placed| {
+        object([
+            ("sharding", json_sharding(&placed.sharding)),
+            ("shard", json_numbers(&placed.shard)),
+            ("first", json_numbers(&placed.first)),
+        ])
+    });
+    same_json(case, "place", answer)
+}
+
+fn json_groups(implementation: &dyn Implementation, case: &Json) -> Option<bool> {
+    let mesh: Vec<u16> = case.get("mesh")?.numbers()?;
+    let order = case.get("order")?.list(|id| id.number().map(Device))?;
+    let axes = case.get("axes")?.list(|axis| axis.number().map(Axis))?;
+    let answer = case.get("groups")?;
+    let outcome = match answer.get("no") {
+        Some(refusal) => format!("no {}", joined(&refusal.numbers()?)),
+        None => format!("ok {}", joined(&answer.numbers()?)),
+    };
+    let same = same_listing(case.get("room")?.number()?, &outcome, |out| {
+        implementation.groups_ordered(&mesh, &order, &axes, out)
+    });
+    Some(same)
+}
+
+fn same_json(case: &Json, call: &str, answer: Result<Json, Refusal>) -> Option<bool> {
+    let answer = answer
+        .unwrap_or_else(|refusal| object([("no", json_numbers(&[refusal.number, refusal.step]))]));
+    Some(*case.get(call)? == answer)
+}
+
+fn json_file(case: &Json) -> Option<Vec<u8>> {
+    hex::parse(case.get("file")?.text()?)
+}
+
+fn object<const N: usize>(fields: [(&str, Json); N]) -> Json {
+    Json::Object(fields.map(|(name, value)| (name.into(), value)).into())
+}
+
+fn json_numbers<T: Copy + Into<u64>>(numbers: &[T]) -> Json {
+    Json::List(numbers.iter().map(|&n| Json::Number(n.into())).collect())
+}
+
+fn json_sharding(sharding: &Sharding) -> Json {
+    let list = |axes: &[Axis]| json_numbers(&axes.iter().map(|axis| axis.0).collect::<Vec<u8>>());
+    object([
+        (
+            "dims",
+            Json::List(sharding.dims.iter().map(|axes| list(axes)).collect()),
+        ),
+        ("unreduced", list(&sharding.unreduced)),
+        ("replicated", list(&sharding.replicated)),
+    ])
+}
+
+// ---- parts of lines
 
 fn printed<T>(answer: Result<T, Refusal>, accepted: impl FnOnce(T) -> String) -> String {
     answer.map_or_else(|refusal| refusal.to_string(), accepted)
@@ -205,6 +340,10 @@ fn bytes(field: &str) -> Result<Vec<u8>, String> {
 
 fn words(field: &str) -> Result<Vec<u32>, String> {
     field.split_whitespace().map(number).collect()
+}
+
+fn named(field: &str) -> Result<Vec<Axis>, String> {
+    Ok(numbers(field)?.into_iter().map(Axis).collect())
 }
 
 /// The numbers of a list such as `[2, 3]`.
