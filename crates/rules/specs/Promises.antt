@@ -1,5 +1,5 @@
 -- The promises: what each call answers and leaves, on any input, as the `ensures` of its function and of the library's; and what the rules promise of
--- themselves (`RulesPromise`; proofs/Promises.antt proves it). `file`, `mesh` and `axes` are lent with `&`, so no call can change them. Assumes nothing.
+-- themselves (`RulesPromise`; proofs/Promises.antt proves it). `file`, `mesh`, `order` and `axes` are lent with `&`, so no call can change them. Assumes nothing.
 use Prim.Native.Nat.{ℕ, _≤_}
 use mathlib.Core.Path.{_≡_}
 use mathlib.Core.Logic.{_↔_}
