@@ -25,7 +25,8 @@ use Rattle.rules.specs.declared.RunOutcome.the-variants as run
 
 -- ---- the check
 
--- "The check returns the room, D, the final sharding and shard sizes, or a refusal." Beside them, the number of steps and the rank.
+-- "The check returns the room, D, the final sharding and shard sizes, or a refusal." Beside them, the number of outermost steps and the
+-- rank.
 pub record CheckAnswer : Type 0 where
   pub room : ℕ
   pub devices : ℕ
@@ -41,7 +42,7 @@ checkOf file = do
   accept (record {
     room = room p;
     devices = devices (p .mesh);
-    steps = length (p .steps);
+    steps = length (p .runs);
     rank = length (p .sizes);
     sharding = announced p (length (p .steps));
     shard = announcedShape p (length (p .steps));
@@ -139,7 +140,7 @@ groupsMeaning (groups.Refused r) = refusedAs r
 -- ---- the run
 
 -- "Before the first step each device has its shard from work, in the start's shard sizes. Each later step is given the shards that the step before it
--- left.": the shards after k steps.
+-- left.": the shards after k plain steps run.
 unfoldable pub shardsAfter : Plan → List ℕ → ℕ → Shards ℕ
 unfolding announcedShape heldBy stepped addWords
 shardsAfter p work k =

@@ -1,18 +1,34 @@
 -- What the rules promise of themselves: demand 3 over an accepted plan's whole list of steps, that it speaks of something, the room's limit, that the
--- replicated list stays, the numbers of refusals, the locality of one step, and what groups and sums of words are. These are statements;
--- proofs/Whole.antt, Refusing.antt, Locality.antt, Groups.antt and Sums.antt prove them. Assumes nothing.
-use Prim.Native.Nat.{ℕ, _+_, _*_, _%_, _≤_, _<_, _^_}
+-- replicated list stays, what repeats come to, the numbers of refusals, the locality of one step, and what groups and sums of words are. These are
+-- statements; proofs/Whole.antt, Accepted.antt, Repeats.antt, Refusing.antt, Locality.antt, Groups.antt and Sums.antt prove them. Assumes nothing.
+use Prim.Native.Nat.{ℕ, _+_, _*_, _%_, _≤_, _<_, _^_, max}
 use mathlib.Core.Path.{_≡_}
 use mathlib.Core.Logic.{_↔_, _⊎_}
-use mathlib.Core.List.{List, [], _∷_}
-use lib.ListN.{length, getD, take, drop}
-use Rattle.rules.specs.Lists.{tab, product, total, In, Distinct, All, Below}
+use mathlib.Core.Bool.{Bool}
+use mathlib.Core.List.{List, [], _∷_, _++_}
+use lib.ListN.{length, getD, take, drop, replicate}
+use Rattle.rules.specs.Lists.{tab, flat, inTurn, product, total, In, Distinct, All, Below}
 use Rattle.rules.specs.Mesh.{devices, SameGroup, IsGroup}
 use Rattle.rules.specs.Spread.{StateOf, Faithful, addWords, heldBy}
-use Rattle.rules.specs.Sharding.{IsSharding}
-use Rattle.rules.specs.Collectives.{Step, stepAxes, WithoutRemainder, stepped}
+use Rattle.rules.specs.Sharding.{Sharding, shardSizes, IsSharding}
+use Rattle.rules.specs.Collectives.{Step, stepAxes, WithoutRemainder, stepped, after}
+use Rattle.rules.specs.Limits.{mostRun}
 use Rattle.rules.specs.Refusals.{accept, refuse}
-use Rattle.rules.specs.PlanFile.{stepCount, Plan, judge, announced, announcedShape, room}
+use Rattle.rules.specs.PlanFile.{
+  Record,
+  plain,
+  repeat,
+  StepsRead,
+  stepsAt,
+  repeatAt,
+  itemAt,
+  stepCount,
+  Plan,
+  judge,
+  announced,
+  announcedShape,
+  room,
+}
 use Rattle.rules.specs.Calls.{checkOf, placeOf, groupsOf, groupsOrderedOf, shardsAfter, lastState, Ran, runOf}
 
 -- ---- demand 3
@@ -25,7 +41,7 @@ Words buffer = (j : ℕ) → getD buffer j 0 < 2 ^ 32
 abbrev pub Fits : Plan → (work spare : List ℕ) → Type 0
 Fits p work spare = (room p ≤ length work) × (room p ≤ length spare)
 
--- the state w is a faithful spread of the table under the sharding announced after k steps
+-- the state w is a faithful spread of the table under the sharding announced after k plain steps run
 abbrev pub SpreadAt : Plan → (table : List ℕ → ℕ) → ℕ → StateOf ℕ → Type 0
 SpreadAt p table k w = Faithful addWords (p .mesh) (announced p k) (announcedShape p k) table w
 
@@ -38,7 +54,8 @@ abbrev pub startWords : Plan → ℕ
 startWords p = devices (p .mesh) * product (announcedShape p 0)
 
 -- Demand 3, of a plan that the check passed, the words in two buffers, and what a run on them answers and leaves: one claim over the whole list of
--- steps in running order. `shardsAfter p work k` is what step k left.
+-- steps in running order (02, Ask 11: "Demand 3 holds after every plain step run; its list is these steps in running order."). `shardsAfter p work k` is
+-- what step k of them left.
 pub record Demand3 (p : Plan) (work spare : List ℕ) (ran : Ran) : Type 0 where
   -- "the run reaches the end exactly when neither buffer is shorter than the room the check named"
   pub ends : (ran .outcome ≡ accept tt) ↔ Fits p work spare
@@ -92,6 +109,49 @@ RoomLimit = (file : List ℕ) (p : Plan) → judge file ≡ accept p → room p 
 abbrev pub ReplicatedStays : Type 0
 ReplicatedStays = (p : Plan) (k : ℕ) → announced p k .replicated ≡ p .start .replicated
 
+-- ---- repeats (02, Ask 11)
+
+-- "State numbers and the header's step count still count outermost steps."; "More than 4,096 plain steps run in all is 43"
+pub record StepsOf (file : List ℕ) (p : Plan) : Type 0 where
+  pub outermost : length (p .runs) ≡ stepCount file
+  pub all : total (p .runs) ≡ length (p .steps)
+  pub few : length (p .steps) ≤ mostRun
+
+abbrev pub StepsCounted : Type 0
+StepsCounted = (file : List ℕ) (p : Plan) → judge file ≡ accept p → StepsOf file p
+
+-- "a count byte (the block is run that many times)", "The sharding after the block must equal the one before it": an accepted repeat runs its block so
+-- many times, and leaves the sharding as it was. After j steps of any round the sharding is that after j steps of the first, so that every round visits
+-- the same states, and a step that was accepted in the first is in all.
+pub record ComesBack (s : Sharding) (w : StepsRead) : Type 0 where
+  pub count : ℕ
+  pub block : List Step
+  pub rounds : w .steps ≡ flat (replicate count block)
+  pub back : w .sharding ≡ s
+  pub visits : (i j : ℕ) → i < count → j ≤ length block
+      → inTurn after (take (i * length block + j) (w .steps)) s ≡ inTurn after (take j block) s
+
+abbrev pub BlocksComeBack : Type 0
+BlocksComeBack =
+    (known : Bool) (mesh sizes file : List ℕ) (depth k at : ℕ) (s : Sharding) (w : StepsRead)
+    → repeatAt (stepsAt (itemAt known mesh sizes file depth)) file k at s ≡ accept w → ComesBack s w
+
+-- the plain steps in file order, each once; the largest of a number of the shardings on a list's way, the first included
+abbrev pub onePass : List Record → List Step
+onePass [] = []
+onePass (plain t ∷ records) = t ∷ onePass records
+onePass (repeat count number ∷ records) = onePass records
+
+abbrev pub largestOn : (Sharding → ℕ) → Sharding → List Step → ℕ
+largestOn f s [] = f s
+largestOn f s (t ∷ ts) = max (f s) (largestOn f (after t s) ts)
+
+-- "The room counts states inside blocks.": one pass through the file meets all states that its running order does
+abbrev pub RoomInOnePass : Type 0
+RoomInOnePass =
+    (file : List ℕ) (p : Plan) → judge file ≡ accept p
+    → room p ≡ devices (p .mesh) * largestOn (λ s. product (shardSizes (p .mesh) (p .sizes) (s .dims))) (p .start) (onePass (p .records))
+
 -- ---- refusals
 
 -- the numbers of a file's refusals outside its steps, and inside them
@@ -99,21 +159,22 @@ abbrev pub fileNumbers : List ℕ
 fileNumbers = tab 19 (λ i. i + 1)
 
 abbrev pub stepNumbers : List ℕ
-stepNumbers = tab 9 (λ i. i + 20)
+stepNumbers = tab 9 (λ i. i + 20) ++ tab 4 (λ i. i + 41)
 
--- "A refusal is a reason together with a step number, counted from 1; the step number is 0 for every refusal outside 20 to 28.": refusal n with step k
--- has one of the numbers, outside the steps, or is inside one of so many steps.
+-- "A refusal is a reason together with a step number, counted from 1; the step number is 0 for every refusal outside 20 to 28." "Step numbers count kind
+-- bytes in file order, and 41 to 44 carry one" (02, Ask 11): refusal n with step k has one of the numbers, outside the steps, or is inside one of so
+-- many steps. A kind byte is a byte of the file.
 abbrev pub Numbered : (numbers : List ℕ) → (steps n k : ℕ) → Type 0
 Numbered numbers steps n k = (In n numbers × (k ≡ 0)) ⊎ (In n stepNumbers × (1 ≤ k) × (k ≤ steps))
 
 -- the refusals of the calls, on any input
 pub record RefusalNumbers : Type 0 where
-  pub check : (file : List ℕ) (n k : ℕ) → checkOf file ≡ refuse n k → Numbered fileNumbers (stepCount file) n k
-  pub place : (file : List ℕ) (state device n k : ℕ) → placeOf file state device ≡ refuse n k → Numbered (32 ∷ 34 ∷ fileNumbers) (stepCount file) n k
+  pub check : (file : List ℕ) (n k : ℕ) → checkOf file ≡ refuse n k → Numbered fileNumbers (length file) n k
+  pub place : (file : List ℕ) (state device n k : ℕ) → placeOf file state device ≡ refuse n k → Numbered (32 ∷ 34 ∷ fileNumbers) (length file) n k
   pub groups : (mesh axes out : List ℕ) (n k : ℕ) → groupsOf mesh axes out ≡ refuse n k → Numbered (5 ∷ 10 ∷ 11 ∷ 14 ∷ 15 ∷ 33 ∷ []) 0 n k
   pub groups-ordered : (mesh order axes out : List ℕ) (n k : ℕ) → groupsOrderedOf mesh order axes out ≡ refuse n k
       → Numbered (5 ∷ 10 ∷ 11 ∷ 19 ∷ 14 ∷ 15 ∷ 33 ∷ []) 0 n k
-  pub run : (file work spare : List ℕ) (n k : ℕ) → runOf file work spare .outcome ≡ refuse n k → Numbered (30 ∷ 31 ∷ fileNumbers) (stepCount file) n k
+  pub run : (file work spare : List ℕ) (n k : ℕ) → runOf file work spare .outcome ≡ refuse n k → Numbered (30 ∷ 31 ∷ fileNumbers) (length file) n k
 
 -- ---- one step, groups, sums
 

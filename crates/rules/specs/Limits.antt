@@ -2,6 +2,7 @@
 -- of document 02, Ask 12: "D up to 1,024, tables up to 65,536 words, files up to 8,192 bytes; 2, 11 and 13 move with them."
 -- The constants of the code are stated against these (src/lib.rt). Assumes nothing.
 use Prim.Native.Nat.{ℕ}
+use mathlib.Core.Bool.{Bool, true}
 
 -- "n 1 to 6"
 abbrev pub mostAxes : ℕ
@@ -23,6 +24,14 @@ mostWords = 65536
 abbrev pub mostSteps : ℕ
 mostSteps = 64
 
+-- "More than 4,096 plain steps run in all is 43" (document 02, Ask 11)
+abbrev pub mostRun : ℕ
+mostRun = 4096
+
+-- "down to depth 4"
+abbrev pub mostDepth : ℕ
+mostDepth = 4
+
 -- "file 18 to"
 abbrev pub leastBytes : ℕ
 leastBytes = 18
@@ -41,7 +50,14 @@ pub record Reader : Type 0 where
   pub words : ℕ
   pub bytes : ℕ
   pub editions : ℕ
+  pub repeats : Bool
 
 -- the present reader
 abbrev pub present : Reader
-present = record { devices = mostDevices; words = mostWords; bytes = mostBytes; editions = latestEdition }
+present = record {
+  devices = mostDevices;
+  words = mostWords;
+  bytes = mostBytes;
+  editions = latestEdition;
+  repeats = true;
+}

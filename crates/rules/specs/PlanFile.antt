@@ -3,14 +3,14 @@
 -- the present reader. Assumes nothing.
 use Prim.Native.Nat.{ℕ, zero, suc, _+_, _-_, _*_}
 use mathlib.Core.Bool.{Bool, true, false, not, _&&_, _||_}
-use mathlib.Core.List.{List, [], _∷_}
-use lib.ListN.{length, getD, take, drop}
+use mathlib.Core.List.{List, [], _∷_, _++_}
+use lib.ListN.{length, getD, take, drop, replicate}
 use lib.Dec.{ltb, leb, eqb}
-use Rattle.rules.specs.Lists.{tab, both, flat, pick, inTurn, product, largest, mem}
+use Rattle.rules.specs.Lists.{tab, both, flat, pick, inTurn, product, total, largest, mem}
 use Rattle.rules.specs.Mesh.{devices, plainOrder}
 use Rattle.rules.specs.Sharding.{Sharding, varying, named, divisible, shardSizes}
 use Rattle.rules.specs.Collectives.{Step, allSlice, allGather, allReduce, allToAll, stepAxes, only, sliced, gathered, reduced, after}
-use Rattle.rules.specs.Limits.{mostAxes, mostDims, mostSteps, leastBytes, Reader, present}
+use Rattle.rules.specs.Limits.{mostAxes, mostDims, mostSteps, mostRun, mostDepth, leastBytes, Reader, present}
 use Rattle.rules.specs.Refusals.{Judged, accept, refuse, _>>=_, _>>_, need, needAt}
 use Rattle.rules.specs.declared.Kind.{Kind}
 use Rattle.rules.specs.declared.Kind.the-variants.{AllSlice, AllGather, AllReduce, AllToAll, Unknown}
@@ -330,15 +330,120 @@ judgeStep mesh sizes k t s = do
   judgeNamed (length mesh) k (stepAxes t)
   judgeKind mesh sizes k t s
 
--- so many steps, the first of them step k, each read and judged before the next is read
-unfoldable pub stepsAt : (mesh sizes : List ℕ) → (k count : ℕ) → List ℕ → ℕ → Sharding → Judged (Read (List Step))
+-- ---- repeats (document 02, Ask 11)
+
+-- "Step kind 9 is a repeat: a count byte (the block is run that many times), a byte with the number of inner steps, then those steps": what stands at
+-- each kind byte of a file, in file order
+pub data Record : Type 0 where
+  plain : Step → Record
+  repeat : (count number : ℕ) → Record
+
+-- what was read and judged: the records, the plain steps in running order, the sharding after them, and where the next byte is
+pub record StepsRead : Type 0 where
+  pub records : List Record
+  pub steps : List Step
+  pub sharding : Sharding
+  pub next : ℕ
+
+-- the judgement of what stands at the kind byte with number k, from a sharding on; and of so many steps one after the other
+abbrev pub JudgesStep : Type 0
+JudgesStep = (k at : ℕ) → Sharding → Judged StepsRead
+
+abbrev pub JudgesSteps : Type 0
+JudgesSteps = (count : ℕ) → JudgesStep
+
+-- "Inner steps are then read and judged in order.": each is read and judged before the next is read. "Step numbers count kind bytes in file order".
+unfoldable pub stepsAt : JudgesStep → JudgesSteps
+stepsAt one zero k at s = accept (record { records = []; steps = []; sharding = s; next = at })
+stepsAt one (suc count) k at s = do
+  t ← one k at s
+  ts ← stepsAt one count (k + length (t .records)) (t .next) (t .sharding)
+  accept (record {
+    records = t .records ++ ts .records;
+    steps = t .steps ++ ts .steps;
+    sharding = ts .sharding;
+    next = ts .next;
+  })
+
+unfoldable pub plainAt : (mesh sizes : List ℕ) → List ℕ → JudgesStep
 unfolding stepAt judgeStep
-stepsAt mesh sizes k zero file at s = accept (record { value = []; next = at })
-stepsAt mesh sizes k (suc count) file at s = do
+plainAt mesh sizes file k at s = do
   t ← stepAt (length mesh) (length sizes) k file at
-  next ← judgeStep mesh sizes k (t .value) s
-  ts ← stepsAt mesh sizes (k + 1) count file (t .next) next
-  accept (record { value = t .value ∷ ts .value; next = ts .next })
+  after ← judgeStep mesh sizes k (t .value) s
+  accept (record { records = plain (t .value) ∷ []; steps = t .value ∷ []; sharding = after; next = t .next })
+
+-- "A count or number of 0 is 44, judged when its byte is read"
+unfoldable pub positiveAt : (k : ℕ) → List ℕ → ℕ → Judged ℕ
+positiveAt k file at = do
+  need (ltb at (length file)) 7
+  needAt k (ltb 0 (getD file at 0)) 44
+  accept (getD file at 0)
+
+-- 41: "The sharding after the block must equal the one before it, list for list"
+unfoldable pub sameSharding : (s r : Sharding) → Bool
+unfolding same
+sameSharding s r = both same (s .dims) (r .dims) && (same (s .unreduced) (r .unreduced) && same (s .replicated) (r .replicated))
+
+-- A repeat with number k, behind its kind byte. "else 41 at the repeat's number. More than 4,096 plain steps run in all is 43, tested after 41 for the
+-- repeat alone". `inner` judges so many inner steps.
+unfoldable pub repeatAt : (inner : JudgesSteps) → List ℕ → JudgesStep
+unfolding positiveAt sameSharding
+repeatAt inner file k at s = do
+  count ← positiveAt k file at
+  number ← positiveAt k file (at + 1)
+  block ← inner number (k + 1) (at + 2) s
+  needAt k (sameSharding (block .sharding) s) 41
+  needAt k (leb (count * length (block .steps)) mostRun) 43
+  accept (record {
+    records = repeat count number ∷ block .records;
+    steps = flat (replicate count (block .steps));
+    sharding = block .sharding;
+    next = block .next;
+  })
+
+-- a repeat stands at this byte
+abbrev pub isRepeat : List ℕ → ℕ → Bool
+isRepeat file at = eqb (getD file at 0) 9
+
+unfoldable pub itemBy : (repeated : Bool) → (inner : JudgesSteps) → (mesh sizes : List ℕ) → List ℕ → JudgesStep
+unfolding plainAt repeatAt
+itemBy false inner mesh sizes file k at s = plainAt mesh sizes file k at s
+itemBy true inner mesh sizes file k at s = repeatAt inner file k (at + 1) s
+
+-- "depth above 4 is 42, tested after both": of the repeat with number k, in place of its inner steps
+abbrev pub tooDeep : (k : ℕ) → JudgesSteps
+tooDeep k count k′ at s = refuse 42 k
+
+-- A step or a repeat, where repeats may nest so deep. "Those steps .. may be repeats themselves down to depth 4". A reader that knows no repeats reads
+-- every kind byte as a plain step's.
+unfoldable pub itemAt : (known : Bool) → (mesh sizes : List ℕ) → List ℕ → (depth : ℕ) → JudgesStep
+unfolding itemBy stepsAt
+itemAt known mesh sizes file zero k at s = itemBy (known && isRepeat file at) (tooDeep k) mesh sizes file k at s
+itemAt known mesh sizes file (suc depth) k at s =
+    itemBy (known && isRepeat file at) (stepsAt (itemAt known mesh sizes file depth)) mesh sizes file k at s
+
+-- what was read and judged of the outermost steps; `runs` has the number of plain steps that each of them runs
+pub record Outermost : Type 0 where
+  pub records : List Record
+  pub steps : List Step
+  pub runs : List ℕ
+  pub next : ℕ
+
+-- So many outermost steps, where those before them run so many plain steps. "An outermost one is" of depth 1; 43 is "tested .. after each outermost step
+-- for the plan so far", with "the outermost step's" number.
+unfoldable pub outermostAt : (known : Bool) → (mesh sizes : List ℕ) → List ℕ → (ran count k at : ℕ) → Sharding → Judged Outermost
+unfolding itemAt
+outermostAt known mesh sizes file ran zero k at s = accept (record { records = []; steps = []; runs = []; next = at })
+outermostAt known mesh sizes file ran (suc count) k at s = do
+  t ← itemAt known mesh sizes file mostDepth k at s
+  needAt k (leb (ran + length (t .steps)) mostRun) 43
+  ts ← outermostAt known mesh sizes file (ran + length (t .steps)) count (k + length (t .records)) (t .next) (t .sharding)
+  accept (record {
+    records = t .records ++ ts .records;
+    steps = t .steps ++ ts .steps;
+    runs = length (t .steps) ∷ ts .runs;
+    next = ts .next;
+  })
 
 -- ---- the whole file
 
@@ -365,29 +470,40 @@ judgeFrontBy r file = do
 abbrev pub judgeFront : List ℕ → Judged Front
 judgeFront file = judgeFrontBy present file
 
--- "A plan names a device mesh, a table (tensor), a starting sharding and a list of collectives." The mesh has an order of its devices.
+-- "A plan names a device mesh, a table (tensor), a starting sharding and a list of collectives." The mesh has an order of its devices. The steps are the
+-- plain ones in running order; beside them the records of the file, and how many plain steps each outermost step runs.
 pub record Plan : Type 0 where
   pub mesh : List ℕ
   pub order : List ℕ
   pub sizes : List ℕ
   pub start : Sharding
+  pub records : List Record
   pub steps : List Step
+  pub runs : List ℕ
 
 -- "After the last step 9."
 unfoldable pub judgeBy : Reader → List ℕ → Judged Plan
-unfolding u16At judgeFrontBy stepsAt
+unfolding u16At judgeFrontBy outermostAt
 judgeBy r file = do
   f ← judgeFrontBy r file
-  ts ← stepsAt (f .mesh) (f .sizes) 1 (stepCount file) file (f .next) (f .start)
+  ts ← outermostAt (r .repeats) (f .mesh) (f .sizes) file 0 (stepCount file) 1 (f .next) (f .start)
   need (eqb (ts .next) (length file)) 9
-  accept (record { mesh = f .mesh; order = f .order; sizes = f .sizes; start = f .start; steps = ts .value })
+  accept (record {
+    mesh = f .mesh;
+    order = f .order;
+    sizes = f .sizes;
+    start = f .start;
+    records = ts .records;
+    steps = ts .steps;
+    runs = ts .runs;
+  })
 
 abbrev pub judge : List ℕ → Judged Plan
 judge file = judgeBy present file
 
 -- ---- what a plan announces
 
--- "The sharding announced before the first step is the starting one; after a step it is the one before, its lists changed": after k steps.
+-- "The sharding announced before the first step is the starting one; after a step it is the one before, its lists changed": after k plain steps run.
 unfoldable pub announced : Plan → ℕ → Sharding
 unfolding after
 announced p k = inTurn after (take k (p .steps)) (p .start)
@@ -397,7 +513,7 @@ unfoldable pub announcedShape : Plan → ℕ → List ℕ
 unfolding announced
 announcedShape p k = shardSizes (p .mesh) (p .sizes) (announced p k .dims)
 
--- "The room of a plan is D times the largest m among all its states, start included"
+-- "The room of a plan is D times the largest m among all its states, start included"; "The room counts states inside blocks" (02, Ask 11).
 unfoldable pub largestShard : Plan → ℕ
 unfolding announcedShape
 largestShard p = largest (tab (length (p .steps) + 1) (λ k. product (announcedShape p k)))
@@ -406,7 +522,7 @@ unfoldable pub room : Plan → ℕ
 unfolding largestShard
 room p = devices (p .mesh) * largestShard p
 
--- a state: what the plan announces after so many steps
+-- a state: what the plan announces after so many outermost steps
 pub record StateAnswer : Type 0 where
   pub mesh : List ℕ
   pub order : List ℕ
@@ -414,10 +530,20 @@ pub record StateAnswer : Type 0 where
   pub sharding : Sharding
   pub shard : List ℕ
 
+-- "State numbers and the header's step count still count outermost steps.": how many plain steps the first k of them run
+unfoldable pub stepsRun : Plan → ℕ → ℕ
+stepsRun p k = total (take k (p .runs))
+
 -- 34: "state number above the step count"
 unfoldable pub stateOf : List ℕ → ℕ → Judged StateAnswer
-unfolding judgeBy announced announcedShape
+unfolding judgeBy announced announcedShape stepsRun
 stateOf file k = do
   p ← judge file
-  need (leb k (length (p .steps))) 34
-  accept (record { mesh = p .mesh; order = p .order; sizes = p .sizes; sharding = announced p k; shard = announcedShape p k })
+  need (leb k (length (p .runs))) 34
+  accept (record {
+    mesh = p .mesh;
+    order = p .order;
+    sizes = p .sizes;
+    sharding = announced p (stepsRun p k);
+    shard = announcedShape p (stepsRun p k);
+  })

@@ -10,7 +10,7 @@ use Rattle.rules.specs.Mesh.{devices, Rearrangement}
 use Rattle.rules.specs.Refusals.{Judged, accept, refuse}
 use Rattle.rules.specs.PlanFile.{Plan, judge}
 use Rattle.rules.specs.Calls.{CheckAnswer, checkOf, checkedOf, placeOf, placedOf, groupsOf, groupsLeave, groupsOrderedOf, groupsOrderedLeave, groupsMeaning, runOf, runMeaning}
-use Rattle.rules.specs.Readers.{ReadersCompared, EarlierLimits, EarlierEditions}
+use Rattle.rules.specs.Readers.{ReadersCompared, EarlierLimits, EarlierEditions, EarlierSteps}
 use Rattle.rules.specs.Demands.{
   Demand3,
   WholePlan,
@@ -18,6 +18,9 @@ use Rattle.rules.specs.Demands.{
   Startable,
   RoomLimit,
   ReplicatedStays,
+  StepsCounted,
+  BlocksComeBack,
+  RoomInOnePass,
   RefusalNumbers,
   Locality,
   GroupByPosition,
@@ -85,19 +88,23 @@ pub record RunPromise (file work spare : List ℕ) (outcome : RunOutcome) (workA
 
 -- ---- what the rules promise of themselves
 
--- Demand 3 for every plan that passes, and that it speaks of something; the room's limit; that the replicated list stays; the numbers of refusals;
--- what readers that take less answer; a step's locality; what a group and a sum of words are; the ledger W1 to W10, and cases beside it; a file or a
--- call for each refusal number; each limit from both sides; files of the later editions.
+-- Demand 3 for every plan that passes, and that it speaks of something; the room's limit; that the replicated list stays; what repeats come to; the
+-- numbers of refusals; what readers that take less answer; a step's locality; what a group and a sum of words are; the ledger W1 to W10, and cases
+-- beside it; a file or a call for each refusal number; each limit from both sides; files of the later editions; files with repeats.
 pub record RulesPromise : Type 1 where
   pub whole-plan : WholePlan
   pub spreadable : Spreadable
   pub startable : Startable
   pub room-limit : RoomLimit
   pub replicated-stays : ReplicatedStays
+  pub steps-counted : StepsCounted
+  pub blocks-come-back : BlocksComeBack
+  pub room-in-one-pass : RoomInOnePass
   pub refusal-numbers : RefusalNumbers
   pub readers-compared : ReadersCompared
   pub earlier-limits : EarlierLimits
   pub earlier-editions : EarlierEditions
+  pub earlier-steps : EarlierSteps
   pub locality : Locality
   pub group-by-position : GroupByPosition
   pub sum-of-words : SumOfWords

@@ -1,15 +1,17 @@
 -- Readers of plan files beside each other: what one that takes less answers on a file that another accepts, and what is kept. Each reader is an
 -- instance of the one judgement (`judgeBy`, PlanFile). Statements; proofs/Readers.antt proves them. Assumes nothing.
-use Prim.Native.Nat.{ℕ, _≤_}
+use Prim.Native.Nat.{ℕ, _+_, _≤_}
 use mathlib.Core.Path.{_≡_}
-use mathlib.Core.List.{List}
+use mathlib.Core.Bool.{Bool, true, false}
+use mathlib.Core.List.{List, [], _∷_, _++_, map}
 use lib.ListN.{length}
 use lib.Dec.{leb}
 use Rattle.rules.specs.Lists.{product}
 use Rattle.rules.specs.Mesh.{devices}
+use Rattle.rules.specs.Collectives.{Step}
 use Rattle.rules.specs.Limits.{mostDevices, mostWords, mostBytes, latestEdition, Reader, present}
-use Rattle.rules.specs.Refusals.{Judged, accept, _>>_, need}
-use Rattle.rules.specs.PlanFile.{Plan, edition, editionKnown, judgeBy}
+use Rattle.rules.specs.Refusals.{Judged, accept, refuse, _>>_, need}
+use Rattle.rules.specs.PlanFile.{Record, plain, repeat, Plan, edition, editionKnown, judgeBy}
 
 -- r takes some meshes and tables, and nothing that s does not take
 pub record Narrower (r s : Reader) : Type 0 where
@@ -19,14 +21,23 @@ pub record Narrower (r s : Reader) : Type 0 where
   pub words-few : r .words ≤ s .words
   pub bytes-few : r .bytes ≤ s .bytes
   pub editions-few : r .editions ≤ s .editions
+  pub repeats-few : r .repeats ≡ true → s .repeats ≡ true
 
--- what a reader takes, of a file and its plan: 2, 3, 11 and 13, in the order of the tests
+-- a reader that knows no repeats answers 20 at the first one: of records, the first of them with number k
+abbrev pub repeatsKnown : (known : Bool) → (k : ℕ) → List Record → Judged (Unit {0})
+repeatsKnown true k records = accept tt
+repeatsKnown false k [] = accept tt
+repeatsKnown false k (plain t ∷ records) = repeatsKnown false (k + 1) records
+repeatsKnown false k (repeat count number ∷ records) = refuse 20 k
+
+-- what a reader takes, of a file and its plan: 2, 3, 11, 13 and repeats, in the order of the tests
 abbrev pub takenBy : Reader → (file : List ℕ) → Plan → Judged (Unit {0})
 takenBy r file p = do
   need (leb (length file) (r .bytes)) 2
   need (editionKnown r (edition file)) 3
   need (leb (devices (p .mesh)) (r .devices)) 11
   need (leb (product (p .sizes)) (r .words)) 13
+  repeatsKnown (r .repeats) 1 (p .records)
 
 -- a file that r accepts is accepted by s, with the same plan; a plan is all that any call's answer has of a file
 abbrev pub KeepsPlans : Reader → Reader → Type 0
@@ -40,10 +51,9 @@ abbrev pub ReadersCompared : Type 0
 ReadersCompared = (r s : Reader) → Narrower r s → KeepsPlans r s × MeetsTests r s
 
 -- The reader with the limits of document 01 itself, "D at most 256", "table at most 4,096 words", "file 18 to 4,096 bytes". What
--- later readers take besides is as the present one takes it. No accepted file is longer than 2,802 bytes while a plan has at most 64 steps, so that 2
--- is met only by a reader with a smaller limit than that.
+-- later readers take besides is as the present one takes it. A file of more than 2,802 bytes is accepted only with a repeat.
 abbrev pub original : Reader
-original = record { devices = 256; words = 4096; bytes = 4096; editions = latestEdition }
+original = record { devices = 256; words = 4096; bytes = 4096; editions = latestEdition; repeats = true }
 
 -- Document 02, Ask 12: "an accepted file over the old limits meets the last reader's 2, 11 or 13, and every file accepted before keeps its answer."
 pub record EarlierLimits : Type 0 where
@@ -53,9 +63,28 @@ pub record EarlierLimits : Type 0 where
 -- The reader of the editions up to one, all else as the present one takes it. Document 02, Ask 3: "Refusal 3 now means neither 1 nor 2." Files of the
 -- editions that it knows keep their plans, and it answers 3 on every accepted file of a later one.
 abbrev pub upTo : (latest : ℕ) → Reader
-upTo latest = record { devices = mostDevices; words = mostWords; bytes = mostBytes; editions = latest }
+upTo latest = record { devices = mostDevices; words = mostWords; bytes = mostBytes; editions = latest; repeats = true }
 
 pub record EarlierEditions : Type 0 where
   pub keeps : (latest : ℕ) → latest ≤ latestEdition → KeepsPlans (upTo latest) present
   pub meets : (latest : ℕ) → latest ≤ latestEdition → (file : List ℕ) (p : Plan) → judgeBy present file ≡ accept p
       → judgeBy (upTo latest) file ≡ _>>_ (need (leb (edition file) latest) 3) (accept p)
+
+-- The reader just before repeats. Document 02, Ask 11: "On an accepted file with a repeat, the reader just before this answers 20 at the first one."
+-- Files without one keep their plans.
+abbrev pub withoutRepeats : Reader
+withoutRepeats = record {
+  devices = mostDevices;
+  words = mostWords;
+  bytes = mostBytes;
+  editions = latestEdition;
+  repeats = false;
+}
+
+pub record EarlierSteps : Type 0 where
+  pub keeps : KeepsPlans withoutRepeats present
+  pub stops : (file : List ℕ) (p : Plan) → judgeBy present file ≡ accept p
+      → (before : List Step) (count number : ℕ) (rest : List Record) → p .records ≡ map plain before ++ repeat count number ∷ rest
+      → judgeBy withoutRepeats file ≡ refuse 20 (length before + 1)
+  pub passes : (file : List ℕ) (p : Plan) → judgeBy present file ≡ accept p
+      → (all : List Step) → p .records ≡ map plain all → judgeBy withoutRepeats file ≡ accept p

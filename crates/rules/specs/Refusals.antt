@@ -40,6 +40,10 @@ use Rattle.rules.specs.declared.Reason.the-variants.{
   NoSuchDevice,
   OutputTooShort,
   NoSuchState,
+  ShardingChanged,
+  TooDeep,
+  TooManyRun,
+  RepeatOfNothing,
 }
 use Rattle.rules.specs.declared.Refusal.{Refusal}
 
@@ -77,6 +81,10 @@ numberOf SpareTooShort = 31
 numberOf NoSuchDevice = 32
 numberOf OutputTooShort = 33
 numberOf NoSuchState = 34
+numberOf ShardingChanged = 41
+numberOf TooDeep = 42
+numberOf TooManyRun = 43
+numberOf RepeatOfNothing = 44
 
 -- the reason that has a number; one that no reason has stands for the first
 abbrev pub reasons : List Reason
@@ -84,7 +92,7 @@ reasons =
     FileTooShort ∷ FileTooLong ∷ UnknownEdition ∷ WrongLength ∷ CountOutsideLimits ∷ WrongOffset ∷ SectionPastEnd ∷ ListTooLong ∷ BytesLeft
     ∷ MeshSizeZero ∷ TooManyDevices ∷ TensorSizeZero ∷ TooManyWords ∷ StartAxisTooLarge ∷ StartAxisRepeated ∷ StartNotIncreasing ∷ StartNotDivisible
     ∷ ReplicatedEmpty ∷ WrongOrder ∷ UnknownKind ∷ NoAxis ∷ AxisTooLarge ∷ NotReplicated ∷ NotTail ∷ ShardNotDivisible ∷ NotIncreasing ∷ NotUnreduced ∷ WrongDims ∷ WorkTooShort
-    ∷ SpareTooShort ∷ NoSuchDevice ∷ OutputTooShort ∷ NoSuchState ∷ []
+    ∷ SpareTooShort ∷ NoSuchDevice ∷ OutputTooShort ∷ NoSuchState ∷ ShardingChanged ∷ TooDeep ∷ TooManyRun ∷ RepeatOfNothing ∷ []
 
 abbrev pub numbered : ℕ → List Reason → Reason
 numbered n [] = FileTooShort
@@ -107,7 +115,8 @@ abbrev pub _>>_ : {A B : Type 0} → Judged A → Judged B → Judged B
 _>>_ (accept a) m = m
 _>>_ (refuse n k) m = refuse n k
 
--- Refusal n unless the test holds: in step k; "the step number is 0 for every refusal outside 20 to 28".
+-- Refusal n unless the test holds: in step k; "the step number is 0 for every refusal outside 20 to 28", "and 41 to 44 carry
+-- one" (02, Ask 11).
 abbrev pub needAt : ℕ → Bool → ℕ → Judged (Unit {0})
 needAt k true n = accept tt
 needAt k false n = refuse n k

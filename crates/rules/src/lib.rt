@@ -4,7 +4,7 @@ ghost use mathlib.Core.Path.{_≡_};
 ghost use mathlib.Core.List.{List, [], _∷_, _++_};
 ghost use Prim.Native.Nat.{ℕ, _+_, _<_, _≤_};
 ghost use lib.ListN.{length, getD, set, replicate};
-ghost use Rattle.rules.specs.Limits.{mostAxes, mostDevices, mostDims, mostWords, mostSteps, leastBytes, mostBytes};
+ghost use Rattle.rules.specs.Limits.{mostAxes, mostDevices, mostDims, mostWords, mostSteps, mostRun, mostDepth, leastBytes, mostBytes};
 ghost use Rattle.rules.specs.Types.{axesOf, meshOf, dimsOf, listFrom};
 
 // An axis number of a mesh.
@@ -123,13 +123,31 @@ pub struct Step {
 }
 
 impl Step {
-    // The most steps of a plan.
+    // The most outermost steps of a plan.
     pub const MOST: usize = 64;
+
+    // The most plain steps that a plan runs.
+    pub const MOST_RUN: usize = 4096;
+
+    // The most depth of repeats; an outermost one has depth 1.
+    pub const MOST_DEPTH: usize = 4;
 
     pub fn most() -> usize
         ensures { λ r. ⌜ r ≡ mostSteps ⌝ }
     {
         Step::MOST
+    }
+
+    pub fn most_run() -> usize
+        ensures { λ r. ⌜ r ≡ mostRun ⌝ }
+    {
+        Step::MOST_RUN
+    }
+
+    pub fn most_depth() -> usize
+        ensures { λ r. ⌜ r ≡ mostDepth ⌝ }
+    {
+        Step::MOST_DEPTH
     }
 }
 
@@ -190,6 +208,10 @@ pub enum Reason {
     NoSuchDevice,
     OutputTooShort,
     NoSuchState,
+    ShardingChanged,
+    TooDeep,
+    TooManyRun,
+    RepeatOfNothing,
 }
 
 // A refusal: a reason, and the step that it is given in, counted from 1; 0 outside the steps.
