@@ -11,7 +11,7 @@ use Rattle.rules.specs.Lists.{both, flat, inTurn, total}
 use Rattle.rules.specs.Sharding.{Sharding}
 use Rattle.rules.specs.Collectives.{Step, after}
 use Rattle.rules.specs.Limits.{mostRun, mostDepth}
-use Rattle.rules.specs.Refusals.{Judged, accept, refuse, _>>=_, _>>_}
+use Rattle.rules.specs.Refusals.{Judged, accept, _>>=_, _>>_}
 use Rattle.rules.specs.PlanFile.{
   stepAt,
   judgeStep,
@@ -38,7 +38,7 @@ use Rattle.rules.specs.Demands.{onePass, largestOn, BlocksComeBack}
 use Rattle.rules.proofs.Lists.{T-and, in-turn-append}
 use Rattle.rules.proofs.Judging.{never, accept-inj, need-inv, bind-inv, same-eq}
 use Rattle.rules.proofs.Steps.{AcceptedStep, facts}
-use Rattle.rules.proofs.Turns.{Fine, in-turn-times, in-turn-round, length-times, fine-append, fine-times, largest-append, largest-times}
+use Rattle.rules.proofs.Turns.{Fine, in-turn-times, in-turn-round, fine-append, fine-times, largest-append, largest-times}
 
 -- ---- 41: list for list is equal
 
