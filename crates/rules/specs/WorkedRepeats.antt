@@ -144,9 +144,9 @@ repeats =
     -- "41 at the repeat's number": of an inner one, though the outer block comes back; of a later one
     ∷ checked (whole (times 1 (times 1 (slice ∷ []) ∷ gather ∷ []) ∷ [])) (refuse 41 2)
     ∷ checked (whole (slice ∷ times 1 (gather ∷ slice ∷ []) ∷ times 1 (gather ∷ []) ∷ [])) (refuse 41 5)
-    -- "More than 4,096 plain steps run in all is 43, tested after 41 for the repeat alone": 4,097 of them; at an inner repeat's number, for what it
+    -- "More than 4,096 plain steps run in all is 43, tested after 41 for the repeat alone": at the number of an inner one that runs 4,097; for what it
     -- runs itself, not for its count or its number; 41 first
-    ∷ checked (square (times 241 (sliceRows ∷ toColumns ∷ gatherColumns ∷ flat (replicate 7 (sliceRows ∷ gatherRows ∷ []))) ∷ [])) (refuse 43 1)
+    ∷ checked (square (times 1 (times 241 (sliceRows ∷ toColumns ∷ gatherColumns ∷ flat (replicate 7 (sliceRows ∷ gatherRows ∷ []))) ∷ []) ∷ [])) (refuse 43 2)
     ∷ checked (whole (times 1 (times 255 (times 9 (swings 1) ∷ []) ∷ []) ∷ [])) (refuse 43 2)
     ∷ checked (whole (times 2 (full ∷ []) ∷ [])) (refuse 43 1)
     ∷ checked (whole (times 255 (swings 8 ++ slice ∷ []) ∷ [])) (refuse 41 1)
