@@ -798,7 +798,7 @@ fn broken_step(random: &mut Random, mut draft: Draft, number: u8) -> Option<(Vec
     draft.steps.truncate(MOST_STEPS);
     let refusal = Refusal {
         number,
-        step: at as u8 + 1,
+        step: at as u16 + 1,
     };
     Some((draft.encode(), refusal))
 }
