@@ -372,9 +372,19 @@ pub(crate) fn broken(
     let mut inside = 0;
     let make = |random: &mut Random, state: &Tracked, depth: usize| match number {
         41 => ends_elsewhere(random, state, depth),
-        42 => Some(too_deep(random, state, depth, &mut inside)),
+        42 => {
+            let repeat = [positive(random), positive(random)];
+            let last = repeat_bytes(random, &repeat);
+            Some(too_deep(random, state, depth, last, &mut inside))
+        }
         43 => runs_too_often(random, state, depth),
-        _ => Some(of_nothing(random)),
+        _ => {
+            let last = of_nothing(random);
+            match random.once_in(4) {
+                true => Some(too_deep(random, state, depth, last, &mut inside)),
+                false => Some(last),
+            }
+        }
     };
     let last = random.once_in(4);
     let step = put(random, &mut draft, last, make)? + inside;
@@ -420,16 +430,16 @@ fn in_another_order(random: &mut Random, state: &mut Tracked) -> Option<Vec<Step
     Some(steps)
 }
 
-/// Repeats in repeats; the one that is too deep has so many kind bytes before it.
-fn too_deep(random: &mut Random, state: &Tracked, depth: usize, before: &mut u16) -> Step {
+/// Repeats in repeats, with this one where it is too deep: behind so many kind bytes.
+fn too_deep(
+    random: &mut Random,
+    state: &Tracked,
+    depth: usize,
+    last: Step,
+    before: &mut u16,
+) -> Step {
     if depth > MOST_DEPTH {
-        let mut bytes = vec![
-            9,
-            random.between(1, 255) as u8,
-            random.between(1, 255) as u8,
-        ];
-        bytes.extend((0..random.below(4)).map(|_| random.byte()));
-        return Step::Bytes(bytes);
+        return last;
     }
     let mut block = match random.once_in(3) {
         true => random_block(random, state, depth, 20).unwrap_or_default(),
@@ -437,8 +447,8 @@ fn too_deep(random: &mut Random, state: &Tracked, depth: usize, before: &mut u16
     };
     block.truncate(MOST_INNER - 1);
     *before += 1 + kinds(&block) as u16;
-    block.push(too_deep(random, state, depth + 1, before));
-    Step::Repeat(random.between(1, 255) as u8, block)
+    block.push(too_deep(random, state, depth + 1, last, before));
+    Step::Repeat(positive(random), block)
 }
 
 /// A repeat that alone runs more plain steps than a plan may, often by one pass.
@@ -481,28 +491,46 @@ fn runs_on(random: &mut Random, draft: &Draft) -> Option<(Vec<u8>, Refusal)> {
     (file.len() <= MOST_BYTES).then_some((file, refusal))
 }
 
-/// A repeat with a count or a number of inner steps of 0; what follows, if anything, is not read.
-fn of_nothing(random: &mut Random) -> Step {
-    let mut bytes = match random.once_in(2) {
-        true => vec![9, 0],
-        false => vec![9, random.between(1, 255) as u8, 0],
-    };
-    bytes.extend((0..random.below(4)).map(|_| random.byte()));
-    Step::Bytes(bytes)
+fn positive(random: &mut Random) -> u8 {
+    random.between(1, 255) as u8
 }
 
-/// A file that ends behind the kind byte of a repeat, behind its count, or before its inner steps.
+/// The kind byte of a repeat and what follows it, and then some other bytes or none.
+fn repeat_bytes(random: &mut Random, bytes: &[u8]) -> Step {
+    let more = random.below(4);
+    let more = (0..more).map(|_| random.byte());
+    Step::Bytes(
+        std::iter::once(9)
+            .chain(bytes.iter().copied())
+            .chain(more)
+            .collect(),
+    )
+}
+
+/// A repeat with a count or a number of inner steps of 0; what follows, if anything, is not read.
+fn of_nothing(random: &mut Random) -> Step {
+    match random.once_in(2) {
+        true => repeat_bytes(random, &[0]),
+        false => {
+            let count = positive(random);
+            repeat_bytes(random, &[count, 0])
+        }
+    }
+}
+
+/// A file that ends behind the kind byte of a repeat, behind its count, or before its inner steps;
+/// these are not read of one that is too deep.
 pub(crate) fn ends_early(random: &mut Random, draft: &Draft) -> Vec<u8> {
     let mut draft = draft.clone();
-    let make = |random: &mut Random, _: &Tracked, depth: usize| {
-        let bytes = [
-            9,
-            random.between(1, 255) as u8,
-            random.between(1, 255) as u8,
-        ];
-        // Of one that is too deep the inner steps are not read.
-        let kept = random.between(1, if depth > MOST_DEPTH { 2 } else { 3 });
-        Some(Step::Bytes(bytes[..kept].to_vec()))
+    let make = |random: &mut Random, state: &Tracked, depth: usize| {
+        let deep = depth > MOST_DEPTH || random.once_in(4);
+        let kept = random.between(1, if deep { 2 } else { 3 });
+        let bytes = [9, positive(random), positive(random)];
+        let last = Step::Bytes(bytes[..kept].to_vec());
+        match deep {
+            true => Some(too_deep(random, state, depth, last, &mut 0)),
+            false => Some(last),
+        }
     };
     put(random, &mut draft, true, make);
     draft.encode()

@@ -579,7 +579,12 @@ fn add_steps(random: &mut Random, draft: &mut Draft, scale: Scale) {
 pub fn broken(random: &mut Random, number: u8) -> (Vec<u8>, Refusal) {
     loop {
         let scale = random_scale(random);
-        let draft = accepted(random, scale);
+        let mut draft = accepted(random, scale);
+        // Sometimes with more kind bytes than a byte counts.
+        if random.once_in(8) {
+            let bytes = random.between(1000, MOST_BYTES / 2);
+            draft = blocks::of_length(random, &draft, bytes).unwrap_or(draft);
+        }
         let tried = match number {
             1..=9 => broken_bytes(random, &draft, number),
             10..=18 => broken_start(random, draft, number),
