@@ -4,7 +4,8 @@
  * most 65,536 words of 32 bits) is spread over it: each dimension is split along some of the axes.
  * How it is spread is its sharding. A plan is a small file that names the mesh's sizes, the
  * table's sizes, the sharding at the start, and up to 64 steps that change it: all-slice,
- * all-gather, all-reduce (by sum) and all-to-all. State 0 is the start, state k is after step k.
+ * all-gather, all-reduce (by sum) and all-to-all, and repeats of blocks of steps. State 0 is the
+ * start, state k is after the k-th of these steps, where a repeat with all that is in it is one.
  *
  * These calls judge a plan, say where its shards lie, run it, and list device groups. Their code is
  * proved to answer what the rules define on every input: any bytes may be handed over, nothing
@@ -30,15 +31,16 @@
  * group     for a list of axes: devices that agree on all other axes. The position in a group
  *           counts along the list, its first axis most significant
  * room      the words that the run of a plan needs: D times the most words of a shard in any state,
- *           67,108,864 at most
+ *           inside blocks too, 67,108,864 at most
  *
  *
  * A PLAN FILE
  *
  * 18 to 8,192 bytes; 16-bit numbers are little-endian. Without gaps:
  *
- *     header     nine 16-bit numbers: edition, number of axes, rank, number of steps, the offsets
- *                of mesh sizes (18), table sizes, sharding and steps, and the length of the file
+ *     header     nine 16-bit numbers: edition, number of axes, rank, number of outermost steps, the
+ *                offsets of mesh sizes (18), table sizes, sharding and steps, and the length of the
+ *                file
  *     mesh       a 16-bit size for each axis; in edition 3 the order, D 16-bit device numbers
  *     table      a 16-bit size for each dimension
  *     sharding   a list for each dimension, the unreduced list, in editions 2 and 3 the replicated
@@ -47,6 +49,7 @@
  *                    1 all-slice, 2 all-gather   a list for each dimension
  *                    3 all-reduce                one list
  *                    4 all-to-all                source dimension, target dimension (bytes), one list
+ *                    9 repeat                    count, number of inner steps (bytes), these steps
  *
  * A list is a count byte and that many axis bytes. A plan has one file: its edition is 3 where its
  * devices have an order; of those in plain order it is 1 where the replicated list is empty and 2
@@ -75,14 +78,25 @@
  *             is no state between, and no room is needed for one
  *
  *
+ * REPEATS
+ *
+ * A repeat runs a block, its inner steps, as often as its count says: 1 to 255 times (44), a block of
+ * 1 to 255 steps (44). These may be repeats themselves, down to depth 4 (42); an outermost repeat has
+ * depth 1. After the block the sharding is the one before it, list for list (41). A plan runs at most
+ * 4,096 plain steps, the four above, each counted as often as it is run (43). State numbers and the
+ * numbers of steps in the header and in the check's answer count outermost steps alone.
+ *
+ *
  * REFUSALS
  *
  * Each call answers a refusal as one number, 0 for none. Otherwise it is
  *
  *     refusal number + 256 * step        ISHKRELA_NUMBER(refusal), ISHKRELA_STEP(refusal)
  *
- * where steps count from 1; the step is 0 for numbers outside 20 to 28. docs/REFUSALS.md has an
- * example of each number, and what to do.
+ * where the step is 0 for numbers outside 20 to 28 and 41 to 44. Steps are numbered from 1 by their
+ * kind bytes in file order: a repeat has a number, and its inner steps have the next ones. 43 has that
+ * of a repeat which alone runs too many plain steps, or else that of the outermost step with which
+ * the plan so far does. docs/REFUSALS.md has an example of each number, and what to do.
  *
  *      1  fewer than 18 bytes                  2  more than 8,192 bytes
  *      3  the edition is none of 1, 2 and 3    4  total length is not the number of bytes given
@@ -108,6 +122,10 @@
  *     30  work is shorter than the room       31  spare is shorter than the room
  *     32  no such device                      34  no such state
  *     33  the group output is shorter than the number of devices
+ *     41  repeat: the sharding after the block is not the one before it
+ *     42  repeat: deeper than 4
+ *     43  more than 4,096 plain steps are run
+ *     44  repeat: the count or the number of inner steps is 0
  *
  *
  * MEMORY
@@ -155,7 +173,7 @@ typedef struct {
     uint32_t refusal;            /* 0, or the refusal; every other field is then 0 */
     uint32_t room;               /* the words that work and spare need for a run */
     uint16_t devices;            /* D */
-    uint16_t steps;              /* the number of steps */
+    uint16_t steps;              /* the number of outermost steps: of the last state */
     uint16_t rank;               /* the number of dimensions */
     uint16_t shard[4];           /* the sizes of a shard; 0 past the rank */
     ishkrela_sharding sharding;  /* how the table is spread */
@@ -170,10 +188,11 @@ typedef struct {
     ishkrela_sharding sharding;  /* how the table is spread */
 } ishkrela_placed;
 
-/* Judges a plan file, and announces its last state. Refusals 1 to 28. */
+/* Judges a plan file, and announces its last state. Refusals 1 to 28, and 41 to 44. */
 ishkrela_checked ishkrela_check(const uint8_t *file, size_t file_len);
 
-/* Announces a state of a plan, and where a device's shard begins in the table.
+/* Announces a state of a plan, the start or that after an outermost step, and where a device's shard
+ * begins in the table.
  * Refusals of the check; then 34, then 32. */
 ishkrela_placed ishkrela_place(const uint8_t *file, size_t file_len, uint16_t state, uint16_t device);
 

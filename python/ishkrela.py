@@ -2,7 +2,8 @@
 
 A mesh is a grid of up to 1,024 devices, given by the sizes of its axes. A table (a tensor of up to
 65,536 words of 32 bits) is spread over it; its sharding says which axes split each dimension. A plan
-is a small file with the sizes of mesh and table, the sharding at the start, and steps that change it.
+is a small file with the sizes of mesh and table, the sharding at the start, and steps that change it;
+a block of steps that ends in the sharding it begins with may be repeated.
 Devices are numbered in row-major order of their coordinates, or as the order of a plan lists them.
 
     >>> from ishkrela import *
@@ -48,10 +49,10 @@ import math
 import os
 import struct
 from dataclasses import dataclass
-from typing import Any, Iterable, List, Optional, Sequence, Tuple, Union
+from typing import Any, Iterable, Iterator, List, Optional, Sequence, Tuple, Union
 
 __all__ = [
-    "AllGather", "AllReduce", "AllSlice", "AllToAll", "Checked", "Placed", "Refused", "Sharding",
+    "AllGather", "AllReduce", "AllSlice", "AllToAll", "Checked", "Placed", "Refused", "Repeat", "Sharding",
     "check", "groups", "moved", "picture", "place", "plan_file", "run", "spread",
 ]
 
@@ -93,6 +94,10 @@ TEXTS = {
     32: "no such device",
     33: "the group output is shorter than the number of devices",
     34: "no such state",
+    41: "repeat: the sharding after the block is not the one before it",
+    42: "repeat: deeper than 4",
+    43: "more than 4,096 plain steps are run",
+    44: "repeat: the count or the number of inner steps is 0",
 }
 
 
@@ -103,7 +108,8 @@ Lists = Sequence[Axes]
 
 
 class Refused(Exception):
-    """A refusal: its number, the step that it is given in (from 1; 0 outside the steps), and a text.
+    """A refusal: its number, the step that it is given in (0 outside the steps), and a text. Steps are
+    numbered from 1 in the order of the file, repeats and the steps inside them too.
 
     docs/REFUSALS.md says of each number when it is given and what to do.
     """
@@ -131,7 +137,10 @@ class Sharding:
 
 @dataclass(frozen=True)
 class Checked:
-    """The check's answer: the words that a run needs, the numbers of devices and steps, and the last state."""
+    """The check's answer: the words that a run needs, the numbers of devices and steps, and the last state.
+
+    `steps` is the number of the last state: a repeat is one step, whatever is inside it.
+    """
 
     room: int
     devices: int
@@ -161,7 +170,8 @@ def check(file: Bytes) -> Checked:
 
 
 def place(file: Bytes, state: int, device: int) -> Placed:
-    """Announces a state of a plan (0 is the start) and where a device's shard begins. Answers Placed."""
+    """Announces a state of a plan and where a device's shard begins. State 0 is the start, state k is after
+    the k-th of the plan's steps, where a repeat is one step. Answers Placed."""
     answer = _library().ishkrela_place(*_read(file), _number(state, 16), _number(device, 16))
     _raise(answer.refusal)
     sharding, shard = _sharding(answer.sharding, answer.rank), _front(answer.shard, answer.rank)
@@ -260,7 +270,22 @@ class AllToAll:
         return b"\4" + _bytes([self.source, self.target]) + _lists([self.axes])
 
 
-Step = Union[AllSlice, AllGather, AllReduce, AllToAll]
+@dataclass(frozen=True)
+class Repeat:
+    """Runs a block of steps so many times, up to 255. The block has up to 255 steps, which may be repeats themselves
+    down to depth 4, and ends in the sharding that it begins with."""
+
+    count: int
+    steps: "Sequence[Step]"
+
+    def __post_init__(self) -> None:
+        _keep(self, steps=tuple(self.steps))
+
+    def encode(self) -> bytes:
+        return b"\x09" + _bytes([self.count, len(self.steps)]) + b"".join(step.encode() for step in self.steps)
+
+
+Step = Union[AllSlice, AllGather, AllReduce, AllToAll, Repeat]
 
 
 def plan_file(
@@ -284,7 +309,7 @@ def plan_file(
         if given and edition in range(1, first):
             raise ValueError(f"edition {edition} has no place for {part}: leave the edition out, or {part}")
     _count_lists("the sharding", start.dims, len(table))
-    for number, step in enumerate(steps, 1):
+    for number, step in enumerate(_in_file_order(steps), 1):
         if isinstance(step, (AllSlice, AllGather)):
             _count_lists(f"step {number}, {type(step).__name__},", step.lists, len(table))
     sections = [
@@ -477,6 +502,14 @@ def _bytes(numbers: Iterable[int]) -> bytes:
 
 def _lists(lists: Lists) -> bytes:
     return b"".join(_bytes([len(axes), *axes]) for axes in lists)
+
+
+def _in_file_order(steps: Iterable[Step]) -> Iterator[Step]:
+    """Each step, and after a repeat those inside it."""
+    for step in steps:
+        yield step
+        if isinstance(step, Repeat):
+            yield from _in_file_order(step.steps)
 
 
 def _count_lists(whose: str, lists: Lists, rank: int) -> None:

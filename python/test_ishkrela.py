@@ -17,7 +17,7 @@ import typing
 import unittest
 
 import ishkrela
-from ishkrela import AllGather, AllReduce, AllSlice, AllToAll, Refused, Sharding
+from ishkrela import AllGather, AllReduce, AllSlice, AllToAll, Refused, Repeat, Sharding
 from ishkrela import check, groups, moved, picture, place, plan_file, run, spread
 
 W1 = bytes.fromhex("0100020002000100120016001a001f002300" "02000200" "04000400" "0100010100" "02000101")
@@ -233,6 +233,102 @@ class Orders(Case):
                 plan_file([3, 2], [6], Sharding([[0]]), edition=edition, order=self.ORDER)
 
 
+class Repeats(Case):
+    """Blocks of steps that are repeated: of document 02, Ask 11."""
+
+    THERE, BACK = AllSlice([[0]]), AllGather([[0]])
+    PAIR = [THERE, BACK]
+
+    def plan(self, *steps):
+        return plan_file([2], [2], Sharding([[]]), steps)
+
+    def square(self, *steps, start=Sharding([[]])):
+        return plan_file([2, 2], [4], start, steps)
+
+    def nested(self, depth, steps):
+        return Repeat(1, steps if depth == 1 else [self.nested(depth - 1, steps)])
+
+    def test_the_file_of_a_plan(self):
+        file = "01000100010001001200140016001800" "2100" "0200" "0200" "0000" "090302" "010100" "020100"
+        self.assertEqual(self.plan(Repeat(3, self.PAIR)).hex(), file)
+        self.assertEqual(self.plan(Repeat(3, iter(self.PAIR))).hex(), file)
+        deep = self.plan(Repeat(2, [Repeat(3, self.PAIR)]), self.THERE)
+        self.assertEqual((deep[6], deep[24:].hex()), (2, "090201" "090302" "010100" "020100" "010100"))
+
+    def test_steps_and_states_are_outermost(self):
+        three = [AllSlice([[0]]), AllSlice([[1]]), AllGather([[0, 1]])]
+        file = self.square(Repeat(5, three), AllSlice([[1]]), Repeat(2, self.PAIR))
+        self.assertEqual(check(file), ishkrela.Checked(16, 4, 3, Sharding([[1]]), (2,)))
+        self.assertEqual([place(file, state, 3).shard for state in range(4)], [(4,), (4,), (2,), (2,)])
+        self.assertEqual([place(file, state, 3).first for state in range(4)], [(0,), (0,), (2,), (2,)])
+        self.assertRefused(34, 0, place, file, 4, 0)
+
+    def test_the_room_counts_states_inside_blocks(self):
+        split = Sharding([[0, 1]])
+        self.assertEqual(check(self.square(start=split)).room, 4)
+        self.assertEqual(check(self.square(Repeat(2, [AllGather([[0, 1]]), AllSlice([[0, 1]])]), start=split)).room, 16)
+
+    def test_runs(self):
+        for count in (1, 2, 3, 255):
+            self.assertEqual(moved(self.plan(Repeat(count, self.PAIR)), [1, 2, 3, 4]), [1, 4, 1, 4])
+            # An odd number of moves: after an odd number of passes the words stand in the other buffer.
+            three = Repeat(count, [AllSlice([[1]]), AllSlice([[0]]), AllGather([[1, 0]])])
+            self.assertEqual(moved(self.square(three), range(1, 17)), 4 * [1, 10, 7, 16])
+            self.assertEqual(moved(self.square(three, AllSlice([[0]])), range(1, 17)), 2 * [1, 10] + 2 * [7, 16])
+
+    def test_a_spread_stays_one(self):
+        block = Repeat(3, [AllGather([[1]]), Repeat(2, [AllSlice([[2]]), AllGather([[2]])]), AllSlice([[1]])])
+        steps, start, table = [block, AllReduce([0]), block, AllGather([[1]])], Sharding([[1]], [0]), [10, 20, 30, 40]
+        shards = [10, 20, 10, 20, 30, 40, 30, 40]
+        for k, state in enumerate((shards + 8 * [0], shards + 8 * [0], 2 * shards, 2 * shards, 8 * table)):
+            file = plan_file([2, 2, 2], [4], start, steps[:k])
+            self.assertEqual(moved(file, spread(file, table)), state)
+
+    def test_the_most_plain_steps(self):
+        full = Repeat(16, [Repeat(128, self.PAIR)])
+        self.assertEqual(moved(self.plan(full), [1, 2, 3, 4]), [1, 4, 1, 4])
+        self.assertRefused(43, 1, check, self.plan(Repeat(17, [Repeat(128, self.PAIR)])))
+        self.assertRefused(43, 1, check, self.plan(Repeat(16, [Repeat(129, self.PAIR)])))
+        inner = Repeat(129, 16 * [self.BACK, self.THERE])
+        self.assertRefused(43, 3, check, self.plan(Repeat(1, [self.THERE, inner, self.BACK])))
+        # For the plan so far, at a plain step and at a repeat.
+        self.assertRefused(43, 5, check, self.plan(full, self.THERE))
+        self.assertRefused(43, 5, check, self.plan(full, Repeat(1, self.PAIR)))
+
+    def test_depth(self):
+        for depth in range(1, 5):
+            self.assertEqual(check(self.plan(self.nested(depth, self.PAIR))).steps, 1)
+        self.assertRefused(42, 5, check, self.plan(self.nested(5, self.PAIR)))
+        self.assertRefused(44, 5, check, self.plan(self.nested(5, [])))
+
+    def test_refusals(self):
+        for number, step, steps in (
+            (44, 1, [Repeat(0, self.PAIR)]),
+            (44, 1, [Repeat(1, [])]),
+            (44, 4, [*self.PAIR, Repeat(1, [Repeat(1, [])])]),
+            (41, 1, [Repeat(1, [self.THERE])]),
+            (41, 3, [*self.PAIR, Repeat(255, 16 * self.PAIR + [self.THERE])]),
+            (23, 3, [Repeat(1, [self.THERE, self.THERE])]),
+            (24, 4, [Repeat(1, self.PAIR), self.BACK]),
+            (24, 766, 3 * [Repeat(1, 127 * self.PAIR)] + [self.BACK]),
+        ):
+            with self.subTest(number=number, step=step):
+                self.assertRefused(number, step, check, self.plan(*steps))
+        turned = Repeat(1, [AllGather([[0, 1]]), AllSlice([[1, 0]])])
+        self.assertRefused(41, 1, check, self.square(turned, start=Sharding([[0, 1]])))
+        self.assertRefused(41, 1, check, self.square(Repeat(1, [AllReduce([0])]), start=Sharding([[1]], [0])))
+
+    def test_the_longest_file(self):
+        pair = [AllSlice([[0], []]), AllGather([[0], []])]
+        blocks = 10 * [Repeat(2, 68 * pair)] + 5 * [Repeat(2, 67 * pair)]
+        file = plan_file([2], [2, 1], Sharding([[], []]), blocks)
+        self.assertEqual((len(file), check(file).steps), (8192, 15))
+        self.assertEqual(moved(file, [1, 2, 3, 4]), [1, 4, 1, 4])
+        longer = plan_file([2], [2, 1], Sharding([[], []]), 7 * [Repeat(1, 102 * pair)] + 3 * [Repeat(1, 101 * pair)])
+        self.assertEqual(len(longer), 8193)
+        self.assertRefused(2, 0, check, longer)
+
+
 class Cases(Case):
     """The cases of tests/, with the answers printed there."""
 
@@ -435,13 +531,17 @@ class Given(Case):
             (Sharding([[0], [1], []]), [], "the sharding has 3 lists"),
             (both, [AllGather([[]])], "step 1, AllGather, has 1 list"),
             (both, [AllGather([[], [1]]), AllSlice([])], "step 2, AllSlice, has 0 lists"),
+            (both, [Repeat(2, [AllReduce([0]), AllSlice([[]])])], "step 3, AllSlice, has 1 list"),
+            (both, [Repeat(2, [Repeat(2, [AllReduce([0])])]), AllGather([[]])], "step 4, AllGather, has 1 list"),
         ):
             with self.assertRaisesRegex(ValueError, whose + ".*: give a list of axes for each dimension"):
                 plan_file([2, 2], [4, 4], start, steps)
 
     def test_numbers_of_a_file_that_do_not_fit(self):
         for mesh, start, steps in (([65536], Sharding([[]]), []), ([2], Sharding([[256]]), []),
-                                   ([2], Sharding([[]]), [AllToAll(0, 256, [0])])):
+                                   ([2], Sharding([[]]), [AllToAll(0, 256, [0])]),
+                                   ([2], Sharding([[]]), [Repeat(256, [AllReduce([0])])]),
+                                   ([2], Sharding([[]]), [Repeat(1, 256 * [AllReduce([0])])])):
             with self.assertRaises(OverflowError):
                 plan_file(mesh, [2], start, steps)
         with self.assertRaises(OverflowError):
@@ -464,8 +564,9 @@ class Given(Case):
     def test_steps_are_values(self):
         steps = [AllSlice([[], [1]]), AllGather([[], [1]]), AllReduce([0]), AllToAll(0, 1, [0])]
         again = [AllSlice(((), (1,))), AllGather([(), [1]]), AllReduce((0,)), AllToAll(0, 1, iter([0]))]
+        steps, again = [*steps, Repeat(2, steps)], [*again, Repeat(2, iter(again))]
         self.assertEqual(steps, again)
-        self.assertEqual(len({*steps, *again}), 4)
+        self.assertEqual(len({*steps, *again}), 5)
         self.assertEqual(Sharding([[0], []]), Sharding(((0,), ()), [], iter([])))
         self.assertEqual(eval(repr(steps)), steps)
 
@@ -508,12 +609,17 @@ class Refusals(Case):
         for number, text in ishkrela.TEXTS.items():
             self.assertIn(f" {number}  {text}", table)
 
+    def step(self, number):
+        if number == 42:
+            return 5  # the first repeat that is too deep
+        return 1 if number in range(20, 29) or number in range(41, 45) else 0
+
     def test_examples(self):
         names = {}
         exec(self.page.split("```python\n")[1].split("```")[0], names)
         for number, _, example in self.rows():
             with self.subTest(example):
-                self.assertRefused(number, 1 if 20 <= number <= 28 else 0, eval, example, names)
+                self.assertRefused(number, self.step(number), eval, example, names)
 
 
 class Pictures(Case):

@@ -7,7 +7,12 @@ pub const MOST_AXES: usize = 6;
 pub const MOST_DEVICES: usize = 1024;
 pub const MOST_RANK: usize = 4;
 pub const MOST_WORDS: usize = 65536;
+/// The most outermost steps.
 pub const MOST_STEPS: usize = 64;
+/// The most plain steps that a plan runs.
+pub const MOST_RUN: usize = 4096;
+/// The most depth of repeats; an outermost one has depth 1.
+pub const MOST_DEPTH: usize = 4;
 pub const LEAST_BYTES: usize = 18;
 pub const MOST_BYTES: usize = 8192;
 /// No plan needs more words than this.
@@ -43,17 +48,19 @@ pub struct Sharding {
     pub replicated: AxisList,
 }
 
-/// Why a call did nothing: document 01's number, and the step from 1, or 0.
+/// Why a call did nothing: the number of document 01 or 02, and the step, or 0. Steps are counted
+/// from 1, by kind bytes in file order.
 #[derive(Clone, Copy, PartialEq, Eq)]
 pub struct Refusal {
     pub number: u8,
-    pub step: u8,
+    pub step: u16,
 }
 
 #[derive(Clone, Copy, Debug, PartialEq, Eq)]
 pub struct Checked {
     pub room: u32,
     pub devices: u16,
+    /// The number of outermost steps.
     pub steps: u16,
     /// The sharding after the last step.
     pub sharding: Sharding,

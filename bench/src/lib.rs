@@ -4,6 +4,7 @@
 //! tried on. `library` calls the archive, when it is there.
 
 pub mod answers;
+pub mod blocks;
 pub mod hex;
 pub mod json;
 #[cfg(library)]

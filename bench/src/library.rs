@@ -47,7 +47,7 @@ fn refused(code: u32) -> Result<(), Refusal> {
     }
     Err(Refusal {
         number: (code % 256) as u8,
-        step: (code / 256) as u8,
+        step: (code / 256) as u16,
     })
 }
 

@@ -1,12 +1,13 @@
 //! Random plan files: accepted ones, ones broken in a chosen way, damaged ones.
 //!
 //! A `Draft` is a plan before it is bytes. The generator keeps its own account of the sharding,
-//! so that it knows what each next step may name.
+//! so that it knows what each next step may name. `blocks` makes the steps of repeats.
 
 use crate::answers::{
-    Axis, Device, Dim, Refusal, MOST_AXES, MOST_BYTES, MOST_DEVICES, MOST_RANK, MOST_STEPS,
-    MOST_WORDS,
+    Axis, Device, Dim, Refusal, MOST_AXES, MOST_BYTES, MOST_DEVICES, MOST_RANK, MOST_RUN,
+    MOST_STEPS, MOST_WORDS,
 };
+use crate::blocks;
 use crate::random::Random;
 use crate::spreads::product;
 
@@ -32,6 +33,8 @@ pub enum Step {
     Gather(Lists),
     Reduce(Vec<Axis>),
     AllToAll(Dim, Dim, Vec<Axis>),
+    /// A block that is run so many times.
+    Repeat(u8, Vec<Step>),
     /// Bytes that are no step.
     Bytes(Vec<u8>),
 }
@@ -41,7 +44,9 @@ pub enum Step {
 pub struct Scale {
     pub devices: usize,
     pub words: usize,
+    /// The most outermost steps, and the most plain steps that are run.
     pub steps: usize,
+    pub run: usize,
 }
 
 impl Scale {
@@ -50,13 +55,14 @@ impl Scale {
         devices: MOST_DEVICES,
         words: MOST_WORDS,
         steps: MOST_STEPS,
+        run: MOST_RUN,
     };
 }
 
 /// The refusals that a file alone can meet.
-pub const FILE_REFUSALS: [u8; 28] = [
+pub const FILE_REFUSALS: [u8; 32] = [
     1, 2, 3, 4, 5, 6, 7, 8, 9, 10, 11, 12, 13, 14, 15, 16, 17, 18, 19, 20, 21, 22, 23, 24, 25, 26,
-    27, 28,
+    27, 28, 41, 42, 43, 44,
 ];
 
 /// Axes by their numbers.
@@ -115,25 +121,51 @@ impl Draft {
         header.chain([mesh, table, start, steps].concat()).collect()
     }
 
-    /// The same plan up to some step.
+    /// The same plan with other steps.
+    pub fn with_steps(&self, steps: Vec<Step>) -> Draft {
+        let parts = Draft {
+            steps: Vec::new(),
+            ..self.clone()
+        };
+        Draft { steps, ..parts }
+    }
+
+    /// The same plan up to some outermost step.
     pub fn prefix(&self, steps: usize) -> Draft {
         let mut draft = self.clone();
         draft.steps.truncate(steps);
         draft
     }
 
+    /// How many plain steps are run.
+    pub fn runs(&self) -> usize {
+        blocks::runs(&self.steps)
+    }
+
+    /// The plan that runs the first so many plain steps of this one.
+    pub fn cut(&self, runs: usize) -> Draft {
+        self.with_steps(blocks::first_run(&self.steps, runs))
+    }
+
+    /// The plain steps in running order as plans without repeats, each from where the one before
+    /// it ends, of so many steps at most.
+    pub fn pieces(&self, steps: usize) -> Vec<Draft> {
+        let mut tracked = Tracked::start(self);
+        let plain = blocks::unrolled(&self.steps);
+        let piece = |steps: &[Step]| {
+            let mut piece = self.with_steps(steps.to_vec());
+            piece.start = tracked.dims.clone();
+            piece.unreduced = tracked.unreduced.clone();
+            steps.iter().for_each(|step| tracked.advance(step));
+            piece
+        };
+        plain.chunks(steps).map(piece).collect()
+    }
+
     /// The start's lists in file order.
     fn start_lists(&mut self) -> Vec<&mut Vec<Axis>> {
         let others = [&mut self.unreduced, &mut self.replicated];
         self.start.iter_mut().chain(others).collect()
-    }
-
-    fn tracked(&self, steps: usize) -> Tracked<'_> {
-        let mut tracked = Tracked::start(self);
-        self.steps[..steps]
-            .iter()
-            .for_each(|step| tracked.advance(step));
-        tracked
     }
 }
 
@@ -160,22 +192,27 @@ impl Step {
             Step::AllToAll(source, target, list) => {
                 [vec![4, source.0, target.0], list_section(list)].concat()
             }
+            Step::Repeat(count, block) => {
+                let inner: Vec<u8> = block.iter().flat_map(Step::encode).collect();
+                [vec![9, *count, block.len() as u8], inner].concat()
+            }
             Step::Bytes(bytes) => bytes.clone(),
         }
     }
 }
 
 /// The generator's account of a state.
-struct Tracked<'a> {
+#[derive(Clone)]
+pub(crate) struct Tracked<'a> {
     mesh: &'a [u16],
-    dims: Lists,
-    unreduced: Vec<Axis>,
+    pub(crate) dims: Lists,
+    pub(crate) unreduced: Vec<Axis>,
     replicated: &'a [Axis],
-    shard: Vec<usize>,
+    pub(crate) shard: Vec<usize>,
 }
 
 impl<'a> Tracked<'a> {
-    fn start(draft: &'a Draft) -> Self {
+    pub(crate) fn start(draft: &'a Draft) -> Self {
         let mut tracked = Tracked {
             mesh: &draft.mesh,
             dims: draft.start.clone(),
@@ -189,15 +226,20 @@ impl<'a> Tracked<'a> {
         tracked
     }
 
-    fn rank(&self) -> usize {
+    pub(crate) fn rank(&self) -> usize {
         self.dims.len()
+    }
+
+    /// No step changes the replicated list.
+    pub(crate) fn same_sharding(&self, other: &Tracked) -> bool {
+        (&self.dims, &self.unreduced) == (&other.dims, &other.unreduced)
     }
 
     fn size(&self, axis: Axis) -> usize {
         self.mesh[axis.index()].into()
     }
 
-    fn pieces(&self, list: &[Axis]) -> usize {
+    pub(crate) fn pieces(&self, list: &[Axis]) -> usize {
         list.iter().map(|&axis| self.size(axis)).product()
     }
 
@@ -217,11 +259,11 @@ impl<'a> Tracked<'a> {
         axes
     }
 
-    fn no_lists(&self) -> Lists {
+    pub(crate) fn no_lists(&self) -> Lists {
         vec![Vec::new(); self.rank()]
     }
 
-    fn advance(&mut self, step: &Step) {
+    pub(crate) fn advance(&mut self, step: &Step) {
         match step {
             Step::Slice(lists) => self.slice(lists),
             Step::Gather(lists) => self.gather(lists),
@@ -234,7 +276,8 @@ impl<'a> Tracked<'a> {
                 onto[target.index()] = list.clone();
                 self.slice(&onto);
             }
-            Step::Bytes(_) => {}
+            // A block ends in the sharding that it begins with.
+            Step::Repeat(..) | Step::Bytes(_) => {}
         }
     }
 
@@ -253,10 +296,18 @@ impl<'a> Tracked<'a> {
         }
     }
 
-    /// A step that is accepted here, if there is one of some kind.
-    fn random_step(&self, random: &mut Random) -> Option<Step> {
-        let mut kinds = [1, 1, 2, 2, 3, 4, 4];
-        random.shuffle(&mut kinds);
+    /// A plain step that is accepted here, if there is one of some kind.
+    pub(crate) fn random_step(&self, random: &mut Random) -> Option<Step> {
+        self.step_of(random, &mut [1, 1, 2, 2, 3, 4, 4])
+    }
+
+    /// The same of steps that another one undoes.
+    pub(crate) fn random_move(&self, random: &mut Random) -> Option<Step> {
+        self.step_of(random, &mut [1, 1, 2, 2, 4, 4])
+    }
+
+    fn step_of(&self, random: &mut Random, kinds: &mut [u8]) -> Option<Step> {
+        random.shuffle(kinds);
         kinds.iter().find_map(|kind| match kind {
             1 => self.random_slice(random),
             2 => self.random_gather(random),
@@ -265,7 +316,7 @@ impl<'a> Tracked<'a> {
         })
     }
 
-    fn random_slice(&self, random: &mut Random) -> Option<Step> {
+    pub(crate) fn random_slice(&self, random: &mut Random) -> Option<Step> {
         let mut left = self.shard.clone();
         let mut lists = self.no_lists();
         let mut axes = self.free();
@@ -283,7 +334,7 @@ impl<'a> Tracked<'a> {
         names_some.then_some(Step::Slice(lists))
     }
 
-    fn random_gather(&self, random: &mut Random) -> Option<Step> {
+    pub(crate) fn random_gather(&self, random: &mut Random) -> Option<Step> {
         let lists: Lists = self.dims.iter().map(|list| tail(random, list, 0)).collect();
         let names_some = lists.iter().any(|list| !list.is_empty());
         names_some.then_some(Step::Gather(lists))
@@ -331,20 +382,25 @@ pub fn accepted(random: &mut Random, scale: Scale) -> Draft {
     if random.once_in(3) {
         draft.order = random_order(random, product(&draft.mesh));
     }
-    add_steps(random, &mut draft, scale.steps);
+    add_steps(random, &mut draft, scale);
     draft
 }
 
 /// A scale that is small most of the time, so that many plans can be run.
 pub fn random_scale(random: &mut Random) -> Scale {
     const ROOM: usize = 1 << 18;
+    const MOVED: usize = 1 << 22;
     let most = random.pick(&[0, 1, 2, 4, 8, 16, MOST_STEPS]);
     let devices = random.pick(&[1, 4, 8, 16, 16, 32, 64, 256, MOST_DEVICES]);
     let words = random.pick(&[8, 64, 64, 256, 256, 1024, 4096, MOST_WORDS]);
+    let words = words.min(ROOM / devices);
+    let run = random.pick(&[16, 64, 256, MOST_RUN]);
+    let steps = random.between(most / 2, most);
     Scale {
         devices,
-        words: words.min(ROOM / devices),
-        steps: random.between(most / 2, most),
+        words,
+        steps,
+        run: run.min(MOVED / (devices * words)).max(steps),
     }
 }
 
@@ -356,6 +412,7 @@ pub fn scale_at_a_limit(random: &mut Random) -> Scale {
         devices,
         words: ROOM / devices,
         steps: MOST_STEPS,
+        run: 2 * MOST_STEPS,
     }
 }
 
@@ -398,7 +455,7 @@ fn with_largest_state(random: &mut Random, scale: Scale) -> Draft {
         draft.order = random_order(random, product(&mesh));
     }
     draft.mesh = mesh;
-    add_steps(random, &mut draft, scale.steps);
+    add_steps(random, &mut draft, scale);
     draft
 }
 
@@ -495,14 +552,24 @@ fn random_table(random: &mut Random, draft: &Draft, most: usize) -> Vec<u16> {
     table
 }
 
-/// Adds up to so many steps; fewer when no step of any kind can be found.
-fn add_steps(random: &mut Random, draft: &mut Draft, count: usize) {
+/// Adds up to so many steps; fewer when no step of any kind can be found. Half of the plans have
+/// repeats among them.
+fn add_steps(random: &mut Random, draft: &mut Draft, scale: Scale) {
     let mut steps = Vec::new();
     let mut tracked = Tracked::start(draft);
-    for _ in 0..count {
-        let found = (0..20).find_map(|_| tracked.random_step(random));
-        let Some(step) = found else { break };
+    let with_repeats = random.once_in(2);
+    let mut more = scale.run - scale.steps;
+    for _ in 0..scale.steps {
+        // Each step that follows runs one plain step at least.
+        let found = match with_repeats && random.once_in(3) {
+            true => blocks::random_repeat(random, &tracked, 1, more + 1),
+            false => (0..20).find_map(|_| tracked.random_step(random)),
+        };
+        let Some(step) = found.or_else(|| tracked.random_step(random)) else {
+            break;
+        };
         tracked.advance(&step);
+        more -= step.runs() - 1;
         steps.push(step);
     }
     draft.steps = steps;
@@ -512,12 +579,18 @@ fn add_steps(random: &mut Random, draft: &mut Draft, count: usize) {
 pub fn broken(random: &mut Random, number: u8) -> (Vec<u8>, Refusal) {
     loop {
         let scale = random_scale(random);
-        let draft = accepted(random, scale);
+        let mut draft = accepted(random, scale);
+        // Sometimes with more kind bytes than a byte counts.
+        if random.once_in(8) {
+            let bytes = random.between(1000, MOST_BYTES / 2);
+            draft = blocks::of_length(random, &draft, bytes).unwrap_or(draft);
+        }
         let tried = match number {
             1..=9 => broken_bytes(random, &draft, number),
             10..=18 => broken_start(random, draft, number),
             19 => broken_order(random, draft),
-            _ => broken_step(random, draft, number),
+            20..=28 => broken_step(random, draft, number),
+            _ => blocks::broken(random, draft, number),
         };
         // Not every plan can be broken in every way.
         if let Some(broken) = tried {
@@ -558,6 +631,8 @@ fn broken_bytes(random: &mut Random, draft: &Draft, number: u8) -> Option<(Vec<u
             file.truncate(random.between(order.start, order.end - 1));
             mend_length(&mut file);
         }
+        // Behind the kind byte or the count of a repeat, or before its inner steps.
+        7 if random.once_in(3) => file = blocks::ends_early(random, draft),
         7 => {
             file.truncate(random.between(18, whole - 1));
             mend_length(&mut file);
@@ -624,29 +699,48 @@ fn broken_limit(random: &mut Random, draft: &Draft) -> Vec<u8> {
 
 /// Where the counts of all lists stand in the file.
 fn count_places(draft: &Draft) -> Vec<usize> {
-    let mut at = 18 + 2 * (draft.mesh.len() + draft.order.len() + draft.table.len());
-    let mut places = Vec::new();
-    let mut pass = |lists: &[Vec<Axis>], before: usize| {
-        at += before;
-        for list in lists {
-            places.push(at);
-            at += 1 + list.len();
-        }
+    let sizes = draft.mesh.len() + draft.order.len() + draft.table.len();
+    let mut places = CountPlaces {
+        at: 18 + 2 * sizes,
+        found: Vec::new(),
     };
-    pass(&draft.start, 0);
-    pass(std::slice::from_ref(&draft.unreduced), 0);
+    places.pass(0, &draft.start);
+    places.pass(0, std::slice::from_ref(&draft.unreduced));
     if draft.edition() > 1 {
-        pass(std::slice::from_ref(&draft.replicated), 0);
+        places.pass(0, std::slice::from_ref(&draft.replicated));
     }
-    for step in &draft.steps {
-        match step {
-            Step::Slice(lists) | Step::Gather(lists) => pass(lists, 1),
-            Step::Reduce(list) => pass(std::slice::from_ref(list), 1),
-            Step::AllToAll(_, _, list) => pass(std::slice::from_ref(list), 3),
-            Step::Bytes(_) => {}
+    draft.steps.iter().for_each(|step| places.pass_step(step));
+    places.found
+}
+
+/// The places found before a byte of the file.
+struct CountPlaces {
+    at: usize,
+    found: Vec<usize>,
+}
+
+impl CountPlaces {
+    /// Passes so many bytes, and then lists.
+    fn pass(&mut self, before: usize, lists: &[Vec<Axis>]) {
+        self.at += before;
+        for list in lists {
+            self.found.push(self.at);
+            self.at += 1 + list.len();
         }
     }
-    places
+
+    fn pass_step(&mut self, step: &Step) {
+        match step {
+            Step::Slice(lists) | Step::Gather(lists) => self.pass(1, lists),
+            Step::Reduce(list) => self.pass(1, std::slice::from_ref(list)),
+            Step::AllToAll(_, _, list) => self.pass(3, std::slice::from_ref(list)),
+            Step::Repeat(_, block) => {
+                self.pass(3, &[]);
+                block.iter().for_each(|step| self.pass_step(step));
+            }
+            Step::Bytes(bytes) => self.pass(bytes.len(), &[]),
+        }
+    }
 }
 
 /// Breaks the mesh, the table or the starting sharding.
@@ -790,17 +884,12 @@ fn unsort(random: &mut Random, draft: &mut Draft) -> Option<()> {
     Some(())
 }
 
-/// Puts a step that is refused somewhere among the steps.
+/// Puts a step that is refused somewhere among the steps, those of blocks too.
 fn broken_step(random: &mut Random, mut draft: Draft, number: u8) -> Option<(Vec<u8>, Refusal)> {
-    let at = random.between(0, draft.steps.len().min(MOST_STEPS - 1));
-    let step = faulty(random, &draft.tracked(at), number)?;
-    draft.steps.insert(at, step);
-    draft.steps.truncate(MOST_STEPS);
-    let refusal = Refusal {
-        number,
-        step: at as u8 + 1,
-    };
-    Some((draft.encode(), refusal))
+    let make = |random: &mut Random, state: &Tracked, _| faulty(random, state, number);
+    let last = random.once_in(4);
+    let step = blocks::put(random, &mut draft, last, make)?;
+    Some((draft.encode(), Refusal { number, step }))
 }
 
 fn faulty(random: &mut Random, state: &Tracked, number: u8) -> Option<Step> {
@@ -819,9 +908,11 @@ fn faulty(random: &mut Random, state: &Tracked, number: u8) -> Option<Step> {
 }
 
 fn no_kind(random: &mut Random) -> Step {
-    let kind = match random.once_in(3) {
-        true => 0,
-        false => random.between(5, 255) as u8,
+    let kind = match random.below(3) {
+        0 => 0,
+        // Next to a repeat's.
+        1 => random.pick(&[5, 8, 10]),
+        _ => random.between(10, 255) as u8,
     };
     let rest = (0..random.below(6)).map(|_| random.byte());
     Step::Bytes(std::iter::once(kind).chain(rest).collect())
@@ -965,10 +1056,10 @@ fn damage(random: &mut Random, file: &mut Vec<u8>) {
     let at = random.below(file.len());
     match random.below(7) {
         0 => file[at] ^= 1 << random.below(8),
-        1 => file[at] = random.byte() % 8,
+        1 => file[at] = random.byte() % 10,
         2 => file[at] = random.byte(),
         3 => file.truncate(at),
-        4 => file.insert(at, random.byte() % 8),
+        4 => file.insert(at, random.byte() % 10),
         // Another edition, most often.
         5 => file[0] = random.between(1, 3) as u8,
         _ => drop(file.remove(at)),

@@ -1,15 +1,16 @@
-//! Document 01 with the limits and the editions of document 02 in plain Rust, written from these
-//! documents alone.
+//! Document 01 with the limits, the editions and the repeats of document 02 in plain Rust, written
+//! from these documents alone.
 //!
-//! A file is judged into a `Plan`, which holds the state after every step. The calls read their
-//! answers off the plan. A run moves the words between the two lent buffers, step by step.
+//! A file is judged into a `Plan`, which holds the state after every outermost step. The calls read
+//! their answers off the plan. A run moves the words between the two lent buffers, step by step; the
+//! steps of a block are run as often as it says.
 //!
 //! A place is the row-major number of coordinates. Groups and steps go by place; the order of the
 //! devices tells which one stands there.
 
 use crate::answers::{
     Axis, AxisList, Checked, Device, Dim, DimLists, Placed, Refusal, Sharding, Sizes, LEAST_BYTES,
-    MOST_AXES, MOST_BYTES, MOST_DEVICES, MOST_RANK, MOST_STEPS, MOST_WORDS,
+    MOST_AXES, MOST_BYTES, MOST_DEPTH, MOST_DEVICES, MOST_RANK, MOST_RUN, MOST_STEPS, MOST_WORDS,
 };
 use crate::short::Short;
 use std::mem;
@@ -121,12 +122,15 @@ pub fn run(file: &[u8], work: &mut [u32], spare: &mut [u32]) -> Result<(), Refus
     Ok(())
 }
 
-/// An accepted plan; `states` has one entry more than `steps`.
+/// An accepted plan.
 struct Plan {
     mesh: Mesh,
     order: Order,
-    steps: Vec<Step>,
+    /// The outermost steps, and the states before and after them: one more.
+    steps: Vec<Item>,
     states: Vec<State>,
+    /// The words of the largest shard, in states inside blocks too.
+    most: usize,
 }
 
 impl Plan {
@@ -149,15 +153,18 @@ impl Plan {
         if header.edition == 2 && start.sharding.replicated.is_empty() {
             return Err(Refusal::whole(18));
         }
-        let (steps, states) = judge_steps(&mut reader, &mesh, start, header.steps)?;
-        if reader.at < file.len() {
+        let mut judge = Judge::new(&mesh, reader, start);
+        let (steps, states) = judge.outermost(header.steps)?;
+        if judge.reader.at < file.len() {
             return Err(Refusal::whole(9));
         }
+        let most = judge.most;
         Ok(Plan {
             mesh,
             order,
             steps,
             states,
+            most,
         })
     }
 
@@ -166,8 +173,7 @@ impl Plan {
     }
 
     fn room(&self) -> usize {
-        let most = self.states.iter().map(State::words).max();
-        self.mesh.devices * most.unwrap_or(0)
+        self.mesh.devices * self.most
     }
 
     /// Runs all steps, on shards by place. Answers how often the state went from one buffer to the
@@ -184,8 +190,8 @@ impl Plan {
             let words = self.states[0].words();
             pass(&|old, new| self.order.by_place(words, old, new));
         }
-        for (step, states) in self.steps.iter().zip(self.states.windows(2)) {
-            pass(&|old, new| step.apply(&self.mesh, &states[0], &states[1], old, new));
+        for item in &self.steps {
+            item.each_plain(&mut |step| pass(&|old, new| step.apply(&self.mesh, old, new)));
         }
         if !self.order.is_plain() {
             let words = self.last().words();
@@ -195,27 +201,146 @@ impl Plan {
     }
 }
 
-fn judge_steps(
-    reader: &mut Reader,
-    mesh: &Mesh,
-    start: State,
-    count: usize,
-) -> Result<(Vec<Step>, Vec<State>), Refusal> {
-    let mut steps = Vec::with_capacity(count);
-    let mut states = Vec::with_capacity(count + 1);
-    let mut state = start;
-    states.push(state);
-    for number in 1..=count as u8 {
-        let step = reader.step(mesh.axes(), state.shard.len(), number)?;
-        let judged = step.judge(mesh, &state);
-        state = judged.map_err(|reason| Refusal {
-            number: reason,
-            step: number,
-        })?;
-        steps.push(step);
-        states.push(state);
+/// What stands at one kind byte of an accepted plan.
+enum Item {
+    Plain(Taken),
+    /// A block, which is run so many times.
+    Repeat(usize, Vec<Item>),
+}
+
+/// A plain step between its states. A block ends in the sharding that it begins with, so that these
+/// are the same however often it is run.
+struct Taken {
+    step: Step,
+    before: State,
+    after: State,
+}
+
+impl Item {
+    /// How many plain steps it runs.
+    fn runs(&self) -> usize {
+        match self {
+            Item::Plain(_) => 1,
+            Item::Repeat(count, block) => count * block.iter().map(Item::runs).sum::<usize>(),
+        }
     }
-    Ok((steps, states))
+
+    /// Goes through its plain steps in running order.
+    fn each_plain(&self, act: &mut dyn FnMut(&Taken)) {
+        match self {
+            Item::Plain(taken) => act(taken),
+            Item::Repeat(count, block) => {
+                for _ in 0..*count {
+                    block.iter().for_each(|item| item.each_plain(act));
+                }
+            }
+        }
+    }
+}
+
+impl Taken {
+    fn apply(&self, mesh: &Mesh, old: &[u32], new: &mut [u32]) {
+        self.step.apply(mesh, &self.before, &self.after, old, new);
+    }
+}
+
+/// The kind byte of a repeat.
+const REPEAT: u8 = 9;
+
+/// Reads and judges the steps one after the other.
+struct Judge<'a> {
+    mesh: &'a Mesh,
+    reader: Reader<'a>,
+    /// The state after what was judged.
+    state: State,
+    /// The words of the largest shard so far.
+    most: usize,
+    /// The kind bytes read so far; the last one has this number.
+    number: u16,
+}
+
+impl<'a> Judge<'a> {
+    fn new(mesh: &'a Mesh, reader: Reader<'a>, start: State) -> Judge<'a> {
+        Judge {
+            mesh,
+            reader,
+            state: start,
+            most: start.words(),
+            number: 0,
+        }
+    }
+
+    /// So many outermost steps, and the states before and after them.
+    fn outermost(&mut self, count: usize) -> Result<(Vec<Item>, Vec<State>), Refusal> {
+        let mut steps = Vec::with_capacity(count);
+        let mut states = Vec::with_capacity(count + 1);
+        states.push(self.state);
+        let mut ran = 0;
+        for _ in 0..count {
+            let number = self.number + 1;
+            let item = self.item(1)?;
+            ran += item.runs();
+            if ran > MOST_RUN {
+                return Err(Refusal {
+                    number: 43,
+                    step: number,
+                });
+            }
+            steps.push(item);
+            states.push(self.state);
+        }
+        Ok((steps, states))
+    }
+
+    /// A step; a repeat there would have this depth.
+    fn item(&mut self, depth: usize) -> Result<Item, Refusal> {
+        let kind = self.reader.byte()?;
+        self.number += 1;
+        match kind {
+            REPEAT => self.repeat(depth),
+            _ => Ok(Item::Plain(self.plain(kind)?)),
+        }
+    }
+
+    fn plain(&mut self, kind: u8) -> Result<Taken, Refusal> {
+        let before = self.state;
+        let at = self.number;
+        let refused = |number| Refusal { number, step: at };
+        let read = self.reader.step(kind, self.mesh.axes(), before.shard.len());
+        let step = read?.ok_or(refused(20))?;
+        let after = step.judge(self.mesh, &before).map_err(refused)?;
+        self.state = after;
+        self.most = self.most.max(after.words());
+        Ok(Taken {
+            step,
+            before,
+            after,
+        })
+    }
+
+    fn repeat(&mut self, depth: usize) -> Result<Item, Refusal> {
+        let before = self.state.sharding;
+        let at = self.number;
+        let refused = |number| Refusal { number, step: at };
+        let positive = |byte: u8| match byte {
+            0 => Err(refused(44)),
+            _ => Ok(usize::from(byte)),
+        };
+        let count = positive(self.reader.byte()?)?;
+        let steps = positive(self.reader.byte()?)?;
+        if depth > MOST_DEPTH {
+            return Err(refused(42));
+        }
+        let inner: Result<Vec<Item>, Refusal> = (0..steps).map(|_| self.item(depth + 1)).collect();
+        let block = Item::Repeat(count, inner?);
+        if self.state.sharding != before {
+            return Err(refused(41));
+        }
+        if block.runs() > MOST_RUN {
+            return Err(refused(43));
+        }
+        Ok(block)
+    }
 }
 
 /// The numbers at the front of a file, within their limits.
@@ -335,21 +460,20 @@ impl Reader<'_> {
         })
     }
 
-    fn step(&mut self, axes: usize, rank: usize, number: u8) -> Result<Step, Refusal> {
-        match self.byte()? {
-            1 => Ok(Step::Slice(self.lists(axes, rank)?)),
-            2 => Ok(Step::Gather(self.lists(axes, rank)?)),
-            3 => Ok(Step::Reduce(self.list(axes)?)),
-            4 => Ok(Step::AllToAll {
+    /// A plain step behind its kind byte, or nothing where no step has this kind.
+    fn step(&mut self, kind: u8, axes: usize, rank: usize) -> Result<Option<Step>, Refusal> {
+        let step = match kind {
+            1 => Step::Slice(self.lists(axes, rank)?),
+            2 => Step::Gather(self.lists(axes, rank)?),
+            3 => Step::Reduce(self.list(axes)?),
+            4 => Step::AllToAll {
                 source: Dim(self.byte()?),
                 target: Dim(self.byte()?),
                 axes: self.list(axes)?,
-            }),
-            _ => Err(Refusal {
-                number: 20,
-                step: number,
-            }),
-        }
+            },
+            _ => return Ok(None),
+        };
+        Ok(Some(step))
     }
 }
 

@@ -1,12 +1,14 @@
 //! What the generator makes is what it says: accepted, refused with the chosen number, faithful.
+//! What a plan with repeats answers and does is what its plain steps in running order do.
 
-use bench::answers::Device;
-use bench::implementations;
+use bench::answers::{Device, Refusal};
 use bench::plans::{
-    accepted, broken, damaged, filling, random_scale, scale_at_a_limit, Scale, FILE_REFUSALS,
+    accepted, broken, damaged, filling, random_scale, scale_at_a_limit, Draft, Scale, Step,
+    FILE_REFUSALS,
 };
 use bench::random::Random;
 use bench::spreads::{product, Layout};
+use bench::{blocks, implementations, Implementation};
 
 #[test]
 fn accepted_plans_are_accepted() {
@@ -26,6 +28,120 @@ fn accepted_plans_are_accepted() {
         of_edition[1..].iter().all(|&plans| plans > 700),
         "{of_edition:?}"
     );
+}
+
+/// A plan of few words, so that many steps can be run.
+fn small(random: &mut Random) -> Draft {
+    let scale = Scale {
+        devices: 16,
+        words: 64,
+        steps: random.between(1, 16),
+        run: 64,
+    };
+    accepted(random, scale)
+}
+
+#[test]
+fn repeats_are_of_many_kinds() {
+    let mut random = Random::new(7);
+    let (mut of_depth, mut odd, mut past_64) = ([0; 5], 0, 0);
+    for _ in 0..1000 {
+        let draft = small(&mut random);
+        of_depth[blocks::depth(&draft.steps)] += 1;
+        past_64 += usize::from(blocks::kinds(&draft.steps) > 64);
+        let is_odd =
+            |step: &Step| matches!(step, Step::Repeat(_, block) if blocks::runs(block) % 2 == 1);
+        odd += usize::from(draft.steps.iter().any(is_odd));
+    }
+    assert!(of_depth.iter().all(|&plans| plans > 20), "{of_depth:?}");
+    assert!(odd > 50 && past_64 > 0, "{odd} {past_64}");
+}
+
+#[test]
+fn plans_with_the_most_plain_steps_are_accepted() {
+    let mut random = Random::new(8);
+    for _ in 0..300 {
+        let draft = blocks::running_most(&mut random, small);
+        assert_eq!(draft.runs(), 4096);
+        for one in implementations() {
+            let checked = one.check(&draft.encode()).expect("accepted");
+            assert_eq!(usize::from(checked.steps), draft.steps.len());
+        }
+    }
+}
+
+#[test]
+fn plans_of_the_most_bytes_are_accepted() {
+    let mut random = Random::new(9);
+    for _ in 0..100 {
+        for (bytes, answer) in [(8192, Ok(())), (8193, Err(Refusal::whole(2)))] {
+            let file = blocks::longest(&mut random, small, bytes).encode();
+            assert_eq!(file.len(), bytes);
+            for one in implementations() {
+                assert_eq!(one.check(&file).map(|_| ()), answer);
+            }
+        }
+    }
+}
+
+/// Runs a plan on these words, and gives the words of its last state.
+fn ran(one: &dyn Implementation, draft: &Draft, words: &[u32], room: usize) -> Vec<u32> {
+    let file = draft.encode();
+    let checked = one.check(&file).expect("accepted");
+    let mut work = words.to_vec();
+    work.resize(room, 7);
+    one.run(&file, &mut work, &mut vec![9; room])
+        .expect("a run");
+    work.truncate(usize::from(checked.devices) * product(&checked.shard));
+    work
+}
+
+#[test]
+fn a_plan_with_repeats_does_what_its_plain_steps_do() {
+    let mut random = Random::new(10);
+    for _ in 0..300 {
+        let draft = small(&mut random);
+        let pieces = draft.pieces(64);
+        for one in implementations() {
+            let checked = one.check(&draft.encode()).expect("accepted");
+            let rooms = pieces
+                .iter()
+                .map(|piece| one.check(&piece.encode()).expect("accepted").room);
+            let alone = one.check(&draft.prefix(0).encode()).expect("accepted").room;
+            assert_eq!(checked.room, rooms.max().unwrap_or(alone));
+            let room = checked.room as usize;
+            let mut words = random.words(alone as usize);
+            let whole = ran(one, &draft, &words, room);
+            for piece in &pieces {
+                words = ran(one, piece, &words, room);
+            }
+            assert_eq!(whole, words, "{}", one.name());
+            let last = pieces.last().map_or(&draft, |piece| piece);
+            let last = one.check(&last.encode()).expect("accepted");
+            assert_eq!(
+                (checked.sharding, checked.shard),
+                (last.sharding, last.shard)
+            );
+        }
+    }
+}
+
+#[test]
+fn states_are_those_after_outermost_steps() {
+    let mut random = Random::new(11);
+    for _ in 0..300 {
+        let draft = small(&mut random);
+        let file = draft.encode();
+        for one in implementations() {
+            for state in 0..=draft.steps.len() {
+                let placed = one.place(&file, state as u16, Device(0)).expect("placed");
+                let last = one.check(&draft.prefix(state).encode()).expect("accepted");
+                assert_eq!((placed.sharding, placed.shard), (last.sharding, last.shard));
+            }
+            let none = one.place(&file, draft.steps.len() as u16 + 1, Device(0));
+            assert_eq!(none, Err(Refusal::whole(34)));
+        }
+    }
 }
 
 #[test]

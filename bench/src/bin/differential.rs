@@ -3,7 +3,11 @@
 //! Arguments: a seed, a number of files, a number of runs. Without the library only demand 3 is
 //! tried, on the reference.
 
-use bench::answers::{Axis, Device, Refusal, MOST_BYTES, MOST_DEVICES, MOST_ROOM, MOST_WORDS};
+use bench::answers::{
+    Axis, Device, Refusal, MOST_BYTES, MOST_DEPTH, MOST_DEVICES, MOST_ROOM, MOST_RUN, MOST_STEPS,
+    MOST_WORDS,
+};
+use bench::blocks;
 use bench::plans::{self, Draft, Scale, Step, FILE_REFUSALS};
 use bench::random::Random;
 use bench::spreads::{product, Layout};
@@ -31,12 +35,20 @@ struct Tally {
     accepted_though_damaged: usize,
     limits: usize,
     most_bytes: usize,
-    /// Accepted plans with the most devices, and with the most words.
+    /// Accepted plans with the most devices, with the most words, and of the most bytes.
     most_devices: usize,
     most_words: usize,
+    accepted_of_most_bytes: usize,
+    /// Accepted plans with repeats, with the deepest ones, and with the most plain steps.
+    repeats: usize,
+    deepest: usize,
+    most_run: usize,
     /// Accepted plans of each edition, and how many of them were run.
     editions: [usize; 3],
     runs_of_editions: [usize; 3],
+    /// Runs of plans with repeats, and of the most plain steps.
+    runs_of_repeats: usize,
+    runs_of_most_steps: usize,
     placements: usize,
     listings: usize,
     listings_by_order: usize,
@@ -49,6 +61,7 @@ struct Tally {
     refused_runs: usize,
     faithful: usize,
     prefixes: usize,
+    prefixes_inside_blocks: usize,
     refusals: BTreeSet<u8>,
 }
 
@@ -64,18 +77,26 @@ impl Tally {
     fn see_plan(&mut self, draft: &Draft) {
         self.most_devices += usize::from(product(&draft.mesh) == MOST_DEVICES);
         self.most_words += usize::from(product(&draft.table) == MOST_WORDS);
+        self.accepted_of_most_bytes += usize::from(draft.encode().len() == MOST_BYTES);
+        let depth = blocks::depth(&draft.steps);
+        self.repeats += usize::from(depth > 0);
+        self.deepest += usize::from(depth == MOST_DEPTH);
+        self.most_run += usize::from(draft.runs() == MOST_RUN);
         self.editions[draft.edition() - 1] += 1;
     }
 
-    fn see_steps(&mut self, draft: &Draft) {
+    /// Sees a plan that is run.
+    fn see_run(&mut self, draft: &Draft) {
         self.runs_of_editions[draft.edition() - 1] += 1;
-        for step in &draft.steps {
+        self.runs_of_repeats += usize::from(blocks::depth(&draft.steps) > 0);
+        self.runs_of_most_steps += usize::from(draft.runs() == MOST_RUN);
+        for step in blocks::unrolled(&draft.steps) {
             match step {
                 Step::Slice(_) => self.steps[0] += 1,
                 Step::Gather(_) => self.steps[1] += 1,
                 Step::Reduce(_) => self.steps[2] += 1,
                 Step::AllToAll(..) => self.steps[3] += 1,
-                Step::Bytes(_) => {}
+                Step::Repeat(..) | Step::Bytes(_) => {}
             }
         }
     }
@@ -147,10 +168,19 @@ fn random_file(random: &mut Random, tally: &mut Tally) -> Vec<u8> {
         }
         _ => {
             tally.limits += 1;
-            let draft = plans::filling(random, Scale::MOST);
+            let draft = draft_at_a_limit(random);
             tally.see_plan(&draft);
             draft.encode()
         }
+    }
+}
+
+/// A plan with the most devices, words and steps, with the most plain steps, or of the most bytes.
+fn draft_at_a_limit(random: &mut Random) -> Draft {
+    match random.below(3) {
+        0 => plans::filling(random, Scale::MOST),
+        1 => blocks::running_most(random, random_draft),
+        _ => blocks::longest(random, random_draft, MOST_BYTES),
     }
 }
 
@@ -359,20 +389,34 @@ fn compare_run(random: &mut Random, tally: &mut Tally) -> Outcome {
     }
 }
 
-/// A plan to be run, now and then one with the most devices or the most words.
+/// A plan to be run, now and then one with the most devices, the most words or the most plain steps.
 fn random_run(random: &mut Random, tally: &mut Tally) -> Draft {
-    let at_a_limit = random.once_in(50);
-    let draft = match at_a_limit {
-        true => {
+    let limit = random.below(100);
+    let draft = match limit {
+        0 | 1 => {
             let scale = plans::scale_at_a_limit(random);
             plans::filling(random, scale)
         }
-        false => random_draft(random),
+        2 => blocks::running_most(random, small_draft),
+        3 => blocks::longest(random, small_draft, MOST_BYTES),
+        _ => random_draft(random),
     };
-    tally.runs_at_a_limit += usize::from(at_a_limit);
+    tally.runs_at_a_limit += usize::from(limit < 4);
     tally.see_plan(&draft);
-    tally.see_steps(&draft);
+    tally.see_run(&draft);
     draft
+}
+
+/// A plan of few words, so that thousands of steps can be run.
+fn small_draft(random: &mut Random) -> Draft {
+    let steps = random.between(1, MOST_STEPS / 4);
+    let scale = Scale {
+        devices: 16,
+        words: 64,
+        steps,
+        run: 2 * steps,
+    };
+    plans::accepted(random, scale)
 }
 
 /// A run that needs the most room, of few steps; on any words only where there is a library.
@@ -382,6 +426,7 @@ fn compare_most_room(random: &mut Random, faithful: bool, tally: &mut Tally) -> 
         random,
         Scale {
             steps,
+            run: steps,
             ..Scale::MOST
         },
     );
@@ -398,7 +443,7 @@ fn compare_most_room(random: &mut Random, faithful: bool, tally: &mut Tally) -> 
     tally.runs += 1;
     tally.runs_at_most_room += 1;
     tally.see_plan(&draft);
-    tally.see_steps(&draft);
+    tally.see_run(&draft);
     Ok(())
 }
 
@@ -510,14 +555,14 @@ fn try_demand_3(random: &mut Random, draft: &Draft, tally: &mut Tally) -> Outcom
         let answer = same_run(library, &file, &work, &spare)?;
         answer.map_err(|refusal| refused("a run of an accepted plan", &file, refusal))?;
     }
-    for steps in random_prefixes(random, draft.steps.len(), room) {
-        tally.prefixes += 1;
+    for (part, state) in random_parts(random, draft, room, tally) {
         for one in implementations() {
             let trial = Trial {
                 one,
-                draft,
+                announced: state.map_or(&part, |_| draft),
+                state: state.unwrap_or(part.steps.len()),
+                part: &part,
                 table: &table,
-                steps,
             };
             trial.run(random, work.clone(), spare.clone())?;
         }
@@ -548,42 +593,63 @@ fn refused(call: &str, file: &[u8], refusal: Refusal) -> Difference {
     }
 }
 
-/// All numbers of steps, or some of them where all would take too long.
-fn random_prefixes(random: &mut Random, steps: usize, room: usize) -> Vec<usize> {
-    let mut all: Vec<usize> = (0..=steps).collect();
-    if steps * steps * room > 1 << 24 {
-        random.shuffle(&mut all[..steps]);
-        all.drain(..steps.saturating_sub(4));
+/// Plans that run a part of this one: up to a state that it announces, with the number of the
+/// state, and up to some plain step inside a block. All states, or some where all would take long.
+fn random_parts(
+    random: &mut Random,
+    draft: &Draft,
+    room: usize,
+    tally: &mut Tally,
+) -> Vec<(Draft, Option<usize>)> {
+    let steps = draft.steps.len();
+    let mut states: Vec<usize> = (0..=steps).collect();
+    if steps * draft.runs() * room > 1 << 24 {
+        random.shuffle(&mut states[..steps]);
+        states.drain(..steps.saturating_sub(4));
     }
-    all
+    tally.prefixes += states.len();
+    let mut parts: Vec<(Draft, Option<usize>)> = states
+        .into_iter()
+        .map(|state| (draft.prefix(state), Some(state)))
+        .collect();
+    for _ in 0..if draft.runs() > steps { 3 } else { 0 } {
+        let part = draft.cut(random.between(1, draft.runs()));
+        // The steps of a pass that is cut short stand among the outermost ones.
+        if part.steps.len() <= MOST_STEPS {
+            tally.prefixes_inside_blocks += 1;
+            parts.push((part, None));
+        }
+    }
+    parts
 }
 
-/// One implementation, run up to one step of a plan.
+/// One implementation, run on a part of a plan that ends in a state which a plan announces.
 struct Trial<'a> {
     one: &'a dyn Implementation,
-    draft: &'a Draft,
+    announced: &'a Draft,
+    state: usize,
+    part: &'a Draft,
     table: &'a [u32],
-    steps: usize,
 }
 
 impl Trial<'_> {
     fn run(&self, random: &mut Random, mut work: Vec<u32>, mut spare: Vec<u32>) -> Outcome {
-        let whole = self.draft.encode();
-        let part = self.draft.prefix(self.steps).encode();
-        let call = format!("demand 3, {}, {} steps", self.one.name(), self.steps);
-        let device = Device(random.below(product(&self.draft.mesh)) as u16);
-        let placed = self.one.place(&whole, self.steps as u16, device);
+        let (whole, part) = (self.announced.encode(), self.part.encode());
+        let runs = self.part.runs();
+        let call = format!("demand 3, {}, {runs} plain steps", self.one.name());
+        let device = Device(random.below(product(&self.part.mesh)) as u16);
+        let placed = self.one.place(&whole, self.state as u16, device);
         let placed = placed.map_err(|refusal| refused(&call, &whole, refusal))?;
         let ran = self.one.run(&part, &mut work, &mut spare);
         ran.map_err(|refusal| refused(&call, &part, refusal))?;
         let layout = Layout {
-            mesh: &self.draft.mesh,
-            order: &self.draft.order,
-            table: &self.draft.table,
+            mesh: &self.part.mesh,
+            order: &self.part.order,
+            table: &self.part.table,
             sharding: &placed.sharding,
         };
         let first = |dim| layout.first_index(device, dim) as u16;
-        let firsts: Vec<u16> = (0..self.draft.table.len()).map(first).collect();
+        let firsts: Vec<u16> = (0..self.part.table.len()).map(first).collect();
         let told = match layout.try_spread(self.table, &work) {
             Err(told) => told,
             Ok(()) if *placed.first != firsts => format!("device {device:?} begins elsewhere"),
@@ -620,6 +686,16 @@ impl fmt::Display for Tally {
             f,
             "{devices} plans with {MOST_DEVICES} devices, {words} with {MOST_WORDS} words"
         )?;
+        let (repeats, deepest) = (self.repeats, self.deepest);
+        writeln!(
+            f,
+            "{repeats} plans with repeats, {deepest} of them {MOST_DEPTH} deep"
+        )?;
+        let (most_run, long) = (self.most_run, self.accepted_of_most_bytes);
+        writeln!(
+            f,
+            "{most_run} plans of {MOST_RUN} plain steps, {long} of {MOST_BYTES} bytes"
+        )?;
         for (at, (plans, runs)) in self.editions.iter().zip(self.runs_of_editions).enumerate() {
             let edition = at + 1;
             writeln!(f, "{plans} plans of edition {edition}, {runs} of them run")?;
@@ -637,6 +713,11 @@ impl fmt::Display for Tally {
             "{} runs, {} at a limit, {} with room for {MOST_ROOM} words",
             self.runs, self.runs_at_a_limit, self.runs_at_most_room
         )?;
+        let (repeats, most) = (self.runs_of_repeats, self.runs_of_most_steps);
+        writeln!(
+            f,
+            "    {repeats} with repeats, {most} of {MOST_RUN} plain steps"
+        )?;
         writeln!(f, "    {slices} slices, {gathers} gathers")?;
         writeln!(f, "    {reductions} reductions, {all_to_alls} all-to-alls")?;
         let any = self.runs - self.faithful;
@@ -648,7 +729,8 @@ impl fmt::Display for Tally {
         let (spreads, prefixes) = (self.faithful, self.prefixes);
         writeln!(
             f,
-            "    {spreads} on spreads of tables, demand 3 tried {prefixes} times"
+            "    {spreads} on spreads of tables, demand 3 tried {prefixes} times, and {} times inside a block",
+            self.prefixes_inside_blocks
         )?;
         write!(f, "{met} of {REFUSALS} refusal numbers met")
     }

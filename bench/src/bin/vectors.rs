@@ -291,8 +291,9 @@ fn json_groups(implementation: &dyn Implementation, case: &Json) -> Option<bool>
 }
 
 fn same_json(case: &Json, call: &str, answer: Result<Json, Refusal>) -> Option<bool> {
-    let answer = answer
-        .unwrap_or_else(|refusal| object([("no", json_numbers(&[refusal.number, refusal.step]))]));
+    let answer = answer.unwrap_or_else(|refusal| {
+        object([("no", json_numbers(&[refusal.number.into(), refusal.step]))])
+    });
     Some(*case.get(call)? == answer)
 }
 
