@@ -54,6 +54,10 @@ static const uint8_t full[] = {1, 0, 6, 0, 4, 0, 2, 0, 18, 0, 30, 0, 38, 0, 49, 
                                2, 0, 3, 0, 2, 0, 2, 0, 3, 0, 2, 0, 12, 0, 6, 0, 15, 0, 2, 0,
                                2, 5, 0, 1, 1, 1, 4, 1, 2, 1, 3, 2, 1, 0, 0, 0, 0, 1, 1, 0, 0, 0, 0};
 
+/* mesh 2, table of 2, nothing split; slice and gather of [0], 3 times. The repeat is at byte 24 */
+static const uint8_t block[] = {1, 0, 1, 0, 1, 0, 1, 0, 18, 0, 20, 0, 22, 0, 24, 0, 33, 0,
+                                2, 0, 2, 0, 0, 0, 9, 3, 2, 1, 1, 0, 2, 1, 0};
+
 /* Each field where it is not 0, and with a value that tells it from the others. */
 static void fields(void)
 {
@@ -119,6 +123,46 @@ static void ordered(void)
     assert(ishkrela_run(plain, sizeof plain, work, 36, spare, 36) == 19 && work[0] == 1 && spare[0] == 0x55555555);
     assert(ishkrela_run(cabled, sizeof cabled, work, 36, spare, 36) == 0 && spare[0] == 0 && spare[35] == 0);
     assert(memcmp(work, left, sizeof left) == 0);
+}
+
+/* The refusal of a plan that begins as the one above and has these bytes for its steps. */
+static uint32_t refused(uint16_t steps, const uint8_t *bytes, size_t len)
+{
+    static uint8_t file[8192];
+    memcpy(file, block, 24);
+    memcpy(file + 24, bytes, len);
+    file[6] = (uint8_t)steps;
+    file[16] = (uint8_t)((24 + len) % 256);
+    file[17] = (uint8_t)((24 + len) / 256);
+    return ishkrela_check(file, 24 + len).refusal;
+}
+
+/* States and the number of steps count outermost steps; a refusal's step counts kind bytes. */
+static void repeats(void)
+{
+    const uint8_t elsewhere[] = {9, 1, 1, 1, 1, 0}, deep[] = {9, 1, 1, 9, 1, 1, 9, 1, 1, 9, 1, 1, 9, 1, 1};
+    const uint8_t often[] = {9, 17, 1, 9, 128, 2, 1, 1, 0, 2, 1, 0}, none[] = {9, 0}, empty[] = {9, 1, 0};
+    const uint8_t so_far[] = {9, 16, 1, 9, 128, 2, 1, 1, 0, 2, 1, 0, 1, 1, 0};
+    uint8_t many[2 * (3 + 254 * 3) + 1] = {0};
+    uint32_t work[5] = {1, 2, 3, 4, 5}, spare[5] = {6, 7, 8, 9, 10};
+    const uint32_t left[5] = {1, 4, 1, 4}, zeros[5] = {0};
+    ishkrela_checked checked = ishkrela_check(block, sizeof block);
+    assert(checked.refusal == 0 && checked.room == 4 && checked.devices == 2 && checked.steps == 1);
+    assert(ishkrela_place(block, sizeof block, 1, 1).shard[0] == 2);
+    assert(ishkrela_place(block, sizeof block, 2, 1).refusal == 34);
+    assert(ishkrela_run(block, sizeof block, work, 5, spare, 5) == 0);
+    assert(memcmp(work, left, sizeof work) == 0 && memcmp(spare, zeros, sizeof spare) == 0);
+    assert(refused(1, block + 24, 9) == 0 && refused(1, elsewhere, sizeof elsewhere) == 41 + 256);
+    assert(refused(1, deep, sizeof deep) == 42 + 256 * 5 && refused(1, often, sizeof often) == 43 + 256);
+    assert(refused(1, so_far, sizeof so_far - 3) == 0 && refused(2, so_far, sizeof so_far) == 43 + 256 * 5);
+    assert(refused(1, none, sizeof none) == 44 + 256 && refused(1, empty, sizeof empty) == 44 + 256);
+    for (size_t at = 0; at < sizeof many - 1; at += 3) {
+        const uint8_t steps[3][3] = {{9, 1, 254}, {1, 1, 0}, {2, 1, 0}};
+        size_t kind = at / 3 % 255;
+        memcpy(many + at, steps[kind == 0 ? 0 : 2 - kind % 2], 3);
+    }
+    uint32_t refusal = refused(3, many, sizeof many);
+    assert(ISHKRELA_NUMBER(refusal) == 20 && ISHKRELA_STEP(refusal) == 511);
 }
 
 static void refusals(void)
@@ -197,6 +241,7 @@ int main(void)
     answers();
     replicated();
     ordered();
+    repeats();
     refusals();
     groups();
     groups_ordered();

@@ -262,6 +262,10 @@ fn an_inner_repeat_is_counted_alone_first() {
     assert_accepted(&inner(127, gather(&[0])), 1);
     // The inner one is refused before the steps after it are read.
     assert_refused(&inner(129, bytes(&[77])), 43, 3);
+    // 65,536, which 16 bits count as 0.
+    let wide = repeat(64, vec![repeat(64, pairs_back(8))]);
+    let around = repeat(1, vec![slice(&[0]), wide, gather(&[0])]);
+    assert_refused(&plan(vec![around]), 43, 3);
 }
 
 #[test]

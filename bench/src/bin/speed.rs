@@ -5,7 +5,7 @@
 //! time printed is the least of all. What is printed is Markdown, which `tools/benchmarks` puts
 //! into docs/BENCHMARKS.md.
 
-use bench::answers::{Axis, Device, Dim, MOST_DEVICES, MOST_ROOM, MOST_WORDS};
+use bench::answers::{Axis, Device, Dim, MOST_DEVICES, MOST_ROOM, MOST_RUN, MOST_WORDS};
 use bench::plans::{axes, Draft, Lists, Step};
 use bench::random::Random;
 use bench::{library, Implementation, Reference};
@@ -26,6 +26,18 @@ struct Extent {
     devices: usize,
     words: usize,
 }
+
+/// Where thousands of steps can be run: what a step costs whatever it moves, and by its words.
+const SMALL: [Extent; 2] = [
+    Extent {
+        devices: 16,
+        words: 256,
+    },
+    Extent {
+        devices: 64,
+        words: 1024,
+    },
+];
 
 /// What is measured in a millisecond or less.
 const MIDDLE: Extent = Extent {
@@ -83,6 +95,7 @@ fn main() -> ExitCode {
         one_step_runs(&mut bench);
         steps_alone(&mut bench);
         whole_runs(&mut bench);
+        repeated_runs(&mut bench);
         ordered_runs(&mut bench);
         bench.limits.tell(&mut bench.page);
         largest_runs(&mut bench);
@@ -126,10 +139,12 @@ struct Limits {
     whole: Limit,
     reduction: Limit,
     order: Limit,
+    repeated: Limit,
     small_call: Limit,
     one_step_run: Limit,
     step: Limit,
     whole_run: Limit,
+    repeated_run: Limit,
 }
 
 impl Limit {
@@ -178,10 +193,12 @@ impl Limits {
             whole: Limit::new("64 steps / copies, runs of 256 and more", 3.0),
             reduction: Limit::new("reduction / addition of shards", 1.5),
             order: Limit::new("an order's part / copies in and out", 2.0),
+            repeated: Limit::new("step of a block / step of a flat file", 1.2),
             small_call: Limit::new("small call / reference", 1.0),
             one_step_run: Limit::new("run of one step / reference", 1.0),
             step: Limit::new("step / reference", 1.0),
             whole_run: Limit::new("run of 64 steps / reference", 1.0),
+            repeated_run: Limit::new("run of 4,096 steps / reference", 1.0),
         }
     }
 
@@ -221,14 +238,15 @@ impl Limits {
             &self.whole,
             &self.order,
         ];
-        let beside_additions = [&self.reduction];
+        let beside_others = [&self.reduction, &self.repeated];
         let beside_reference = [
             &self.small_call,
             &self.one_step_run,
             &self.step,
             &self.whole_run,
+            &self.repeated_run,
         ];
-        let groups: [&[&Limit]; 3] = [&beside_copies, &beside_additions, &beside_reference];
+        let groups: [&[&Limit]; 3] = [&beside_copies, &beside_others, &beside_reference];
         for limit in groups.concat() {
             limit.tell(page);
         }
@@ -601,6 +619,12 @@ fn small_calls(bench: &mut Bench) {
             black_box(one.check(black_box(&file)).is_ok());
         });
     }
+    for file in [repeated_file(128, 16), repeated_file(2, 500)] {
+        let label = format!("check, blocks, {} bytes", file.len());
+        small_call(bench, &label, |one| {
+            black_box(one.check(black_box(&file)).is_ok());
+        });
+    }
     for order in [0, 32] {
         let file = steps_file(8, order);
         small_call(bench, &with_order("placement, 8 steps", order), |one| {
@@ -648,6 +672,24 @@ fn steps_file(steps: usize, order: usize) -> Vec<u8> {
         table: vec![16, 16, 16],
         start: vec![axes(&[0]), axes(&[1]), axes(&[])],
         steps: there_and_back.iter().cycle().take(steps).cloned().collect(),
+        ..Draft::default()
+    };
+    draft.encode()
+}
+
+/// The same plan with so many times two steps, in blocks that are run so many times.
+fn repeated_file(count: u8, pairs: usize) -> Vec<u8> {
+    let lists = vec![axes(&[2]), axes(&[]), axes(&[3])];
+    let pair = vec![Step::Slice(lists.clone()), Step::Gather(lists)];
+    let blocks = (0..pairs).step_by(100).map(|at| {
+        let pairs = (pairs - at).min(100);
+        Step::Repeat(count, vec![pair.clone(); pairs].concat())
+    });
+    let draft = Draft {
+        mesh: vec![2, 2, 4, 2],
+        table: vec![16, 16, 16],
+        start: vec![axes(&[0]), axes(&[1]), axes(&[])],
+        steps: blocks.collect(),
         ..Draft::default()
     };
     draft.encode()
@@ -841,6 +883,76 @@ fn whole_runs(bench: &mut Bench) {
         };
         row.tell(&mut bench.page);
     }
+}
+
+/// What a step costs in a block that is run again and again, beside a file that has each step.
+fn repeated_runs(bench: &mut Bench) {
+    say!(bench.page, "\n### Runs of a block\n");
+    say!(
+        bench.page,
+        "Two steps that undo each other in turn, at smaller states: 64 steps of a flat file,"
+    );
+    say!(
+        bench.page,
+        "and {MOST_RUN} from one block of 32 steps that is run 128 times. `room` is the words of"
+    );
+    say!(
+        bench.page,
+        "the larger state. Times are nanoseconds a step, of the whole call by its steps;"
+    );
+    say!(bench.page, "`lib/ref` is of the runs of the block.\n");
+    say!(
+        bench.page,
+        "    {:<13} {:<6} {:>4} {:>5} {:>8} {:>9} {:>9} {:>10} {:>9} {:>7}",
+        "kind",
+        "dim",
+        "run",
+        "group",
+        "room",
+        "flat",
+        "block",
+        "block/flat",
+        "reference",
+        "lib/ref"
+    );
+    for extent in SMALL {
+        for (run, group) in [(16, 2), (1, 4)] {
+            let (slice, _) = slice_and_gather(extent, "last", run, group);
+            repeated_run(bench, "slice, gather", &slice);
+            repeated_run(bench, "all-to-all x2", &all_to_all(extent, run, group));
+        }
+    }
+}
+
+fn repeated_run(bench: &mut Bench, kind: &str, case: &Case) {
+    let Some(back) = case.back.clone() else {
+        return;
+    };
+    let pair = [case.draft.steps[0].clone(), back];
+    let flat = with_steps(case, vec![pair.clone(); 32].concat());
+    let block = Step::Repeat(128, vec![pair; 16].concat());
+    let [flat, block] = bench.runs([&flat, &with_steps(case, vec![block])]);
+    let by = |steps: usize, time: f64| time * 1e3 / steps as f64;
+    let flat = flat.library.map(|time| by(64, time));
+    let reference = by(MOST_RUN, block.reference);
+    let block = block.library.map(|time| by(MOST_RUN, time));
+    let label = format!("{}, room {}", case.label(kind), case.room());
+    let limits = &mut bench.limits;
+    let against = flat.zip(block).map(|(flat, block)| block / flat);
+    limits.repeated.see(against, 1.0, &label);
+    limits.repeated_run.see(block, reference, &label);
+    say!(
+        bench.page,
+        "    {kind:<13} {:<6} {:>4} {:>5} {:>8} {} {} {} {reference:>9.0} {}",
+        case.on,
+        case.run,
+        case.group,
+        case.room(),
+        shown(flat, 9, 0),
+        shown(block, 9, 0),
+        shown(against, 10, 2),
+        shown(ratio(block, reference), 7, 2),
+    );
 }
 
 /// What an order of the devices adds to a run: shards that lie by device number are put by place
