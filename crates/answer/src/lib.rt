@@ -1,12 +1,14 @@
 // What the programs print of a plan file: `no NUMBER STEP`, or `ok STEPS` and a line for each state, its number and
-// its shard sizes. `ishkrela::check` judges the file once; where it passed, each step is read again once, and the sizes
-// are those of `dims::shard_of` after it. These calls answer document 01's definitions; that the lines are 01's is
-// tested (tests/plans.txt).
+// its shard sizes. `ishkrela::check` judges the file once; where it passed, each outermost step is read again once, with
+// the steps inside it, and the sizes are those of `dims::shard_of` after it. These calls answer document 01's
+// definitions; that the lines are 01's is tested (tests/plans.txt).
 ghost use mathlib.Core.Path.{_≡_};
 ghost use Rattle.rules.specs.Refusals.{numberOf};
 ghost use Rattle.rules.specs.Promises.{CheckPromise};
-ghost use Rattle.judge.specs.Step.{Sharded};
+ghost use Rattle.plan.specs.Parts.{Begins};
+use blocks::judge_item;
 use dims::shard_of;
+use dims::words;
 use ishkrela::CheckOutcome;
 use ishkrela::Checked;
 use ishkrela::Dim;
@@ -18,8 +20,9 @@ use opening::open;
 use reader::Next;
 use reasons::number_of;
 use rules::Mesh;
+use rules::Step;
 use rules::Table;
-use taking::take_step;
+use taking::shard_words;
 
 fn print_number(n: u64) {
     io::print_decimal(STDOUT_FILENO, n);
@@ -53,32 +56,40 @@ fn print_sizes(shard: Table) {
     }
 }
 
-fn print_state(k: u16, shard: Table) {
+fn print_state(k: usize, shard: Table) {
     print_number(k as u64);
     print_sizes(shard);
     io::write_all(STDOUT_FILENO, b"\n");
 }
 
-// A line for the state after each step, as the step is read again.
-fn print_steps(file: &[u8], at: usize, steps: u16, mesh: Mesh, table: Table, start: Sharding)
-    requires { ⌜ Sharded mesh table start ⌝ }
+// A line for the state after each outermost step, as it is read again.
+fn print_steps(file: &[u8], at: usize, count: usize, mesh: Mesh, table: Table, start: Sharding)
+    requires { ⌜ Begins (now file) at count mesh table start ⌝ }
 {
-    let mut sharding = start;
+    let total = words(table);
+    let depth = Step::MOST_DEPTH;
+    let mut after = start;
+    let mut most = shard_words(total, mesh, table, start);
     let mut place = at;
-    for k in 1..=steps {
-        let taken = take_step(file, place, k, mesh, table, sharding);
-        let next = taken.next;
+    let mut number: u16 = 1;
+    let mut k: usize = 0;
+    while k < count {
+        let item = judge_item(file, place, number, depth, mesh, table, total, most, after);
+        let next = item.next;
         let Next::At(end) = next else {
             return;
         };
-        sharding = taken.sharding;
         place = end;
-        print_state(k, shard_of(table, sharding.dims, mesh));
+        number = item.number;
+        most = item.largest;
+        after = item.sharding;
+        k += 1;
+        print_state(k, shard_of(table, after.dims, mesh));
     }
 }
 
-// The start is state 0, so there is one line more than there are steps.
-fn print_states(file: &[u8], steps: u16) {
+// The start is state 0, so there is one line more than there are outermost steps.
+fn print_states(file: &[u8]) {
     let opening = open(file);
     let next = opening.next;
     let Next::At(at) = next else {
@@ -88,14 +99,14 @@ fn print_states(file: &[u8], steps: u16) {
     let table = opening.table;
     let start = opening.start;
     print_state(0, shard_of(table, start.dims, mesh));
-    print_steps(file, at, steps, mesh, table, start);
+    print_steps(file, at, opening.steps, mesh, table, start);
 }
 
 fn print_passed(file: &[u8], steps: u16) {
     io::write_all(STDOUT_FILENO, b"ok ");
     print_number(steps as u64);
     io::write_all(STDOUT_FILENO, b"\n");
-    print_states(file, steps);
+    print_states(file);
 }
 
 // Prints the outcome for a plan file. Answers what the check answered.

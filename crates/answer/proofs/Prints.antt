@@ -1,0 +1,55 @@
+-- A step that was read again leaves all that is asked before the next one. Assumes nothing.
+use Prim.Native.Nat.{ℕ, _+_, _<_, _≤_, max}
+use mathlib.Core.Path.{_≡_, ap, _∙_, subst}
+use mathlib.Core.Bool.{true}
+use mathlib.Core.List.{List}
+use native.Mathlib.Omega.{arith}
+use lib.ListN.{length, getD}
+use Rattle.rules.specs.Sharding.{Sharding, IsSharding}
+use Rattle.rules.specs.PlanFile.{Read, StepsRead, itemAt}
+use Rattle.rules.specs.Demands.{onePass, largestOn}
+use Rattle.rules.specs.Types.{shardingOf, meshOf, sizesOf}
+use Rattle.rules.proofs.Repeats.{Told, item-tells}
+use Rattle.rules.proofs.Bytes.{Takes, item-takes}
+use Rattle.rules.specs.declared.Mesh.{Mesh}
+use Rattle.rules.specs.declared.Table.{Table}
+use Rattle.rules.specs.declared.Sharding as code
+use Rattle.judge.specs.Step.{Sharded}
+use Rattle.blocks.specs.Blocks.{shardWords, Summary, summaryIn, summarized, StepsTell, Judging}
+use Rattle.blocks.specs.declared.StepsJudged.{StepsJudged}
+use Rattle.blocks.proofs.Plain.{last-largest, fine-sound, summary-inv}
+use Rattle.reader.specs.declared.Next.the-variants as next
+use Rattle.reader.proofs.Answers.{read-on}
+
+pub judging-next : (file : List ℕ) (depth : ℕ) (mesh : Mesh) (table : Table) {at k total largest end : ℕ} {s : code.Sharding} (r : StepsJudged)
+    → Judging file at k mesh table total largest s
+    → StepsTell (table .rank) (shardingOf (table .rank) s)
+    (summarized (meshOf mesh) (sizesOf table) k largest (shardingOf (table .rank) s)
+    (itemAt true (meshOf mesh) (sizesOf table) file depth k at (shardingOf (table .rank) s))) r
+    → r .next ≡ next.At end → Judging file end (r .number) mesh table total (r .largest) (r .sharding)
+judging-next file depth mesh table {at} {k} {total} {largest} {end} {s} r g e n =
+    let M : List ℕ = meshOf mesh in
+    let N : List ℕ = sizesOf table in
+    let z : Sharding = shardingOf (table .rank) s in
+    let x = summary-inv M N k largest z _ _ (read-on _ (e .reads) n) in
+    let w : StepsRead = x .0 in
+    let t : Takes M N file at w = item-takes M N file true depth k at z w (x .1) in
+    let u : Told M N file z w = item-tells M N file true depth k at z w (x .1) in
+    let f : Sharding → ℕ = λ y. shardWords M N y in
+    let n-is : k + length (w .records) ≡ r .number = ap (λ (y : Read Summary). y .value .number) (x .2) in
+    let m-is : max largest (largestOn f z (onePass (w .records))) ≡ r .largest = ap (λ (y : Read Summary). y .value .largest) (x .2) in
+    let s-is : w .sharding ≡ shardingOf (table .rank) (r .sharding) = ap (λ (y : Read Summary). y .value .sharding) (x .2) in
+    let a-is : w .next ≡ end = ap (λ (y : Read Summary). y .next) (x .2) in
+    let last : f (shardingOf (table .rank) (r .sharding)) ≤ largestOn f z (onePass (w .records)) =
+    subst (λ (y : Sharding). f y ≤ largestOn f z (onePass (w .records))) (u .pass-ends ∙ s-is) (last-largest f z (onePass (w .records))) in
+    record {
+      ready = record {
+        fits = g .ready .fits;
+        sound = subst (IsSharding M N) (u .ends ∙ s-is) (fine-sound M N (g .ready .fits .sized .least) z (w .steps) (g .ready .sound) (u .fine));
+      };
+      total-is = g .total-is;
+      counted = omega (arith, last, m-is);
+      number-few = omega (arith, g .number-few, t .bytes, n-is, a-is);
+      inside = omega (arith, t .inside, a-is);
+      short = g .short;
+    }
