@@ -12,7 +12,7 @@ use Rattle.rules.specs.Mesh.{span, position, devices, plainOrder, coords, place
 use Rattle.rules.specs.Sharding.{firstIndexes}
 use Rattle.rules.specs.Limits.{mostDevices, mostWords}
 use Rattle.rules.specs.Refusals.{Judged, accept, refuse, refusedAs}
-use Rattle.rules.specs.PlanFile.{u16At, edition, carriesOrder, Plan, announced, announcedShape, StateAnswer, stateOf}
+use Rattle.rules.specs.PlanFile.{u16At, edition, carriesOrder, Plan, announced, announcedShape, StateAnswer, stepsRun, stateOf}
 use Rattle.rules.specs.Types.{shardingOf, dimsOf, meshOf, sizesOf}
 use Rattle.rules.specs.Calls.{PlaceAnswer, placeOf}
 use Rattle.rules.specs.declared.Refusal.{Refusal}
@@ -79,7 +79,8 @@ within file k d a e l =
     let g : AcceptedPlan p = accepted file p (i .1) in
     let lt : placeIn d (p .order) < devices (p .mesh) =
     place-below (devices (p .mesh)) (p .order) (g .ordered) d (subst (λ (z : StateAnswer). d < devices (z .mesh)) (sym (i .2)) l) in
-    let c = cut-divisible (p .mesh) (p .sizes) (announced p k .dims) (state g k .sharding .divides) in
+    let n : ℕ = stepsRun p k in
+    let c = cut-divisible (p .mesh) (p .sizes) (announced p n .dims) (state g n .sharding .divides) in
     subst (λ (z : StateAnswer). Within z (placeIn d (z .order))) (i .2) (
       record {
         on = record {
