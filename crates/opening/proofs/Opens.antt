@@ -139,8 +139,10 @@ open-refused {r} e h q = record {
 }
 
 module _ {file : List ℕ} {header : Header} {shape : Shape} {at : ℕ} (o : Opens file header shape at) where
-  sizes-facts : MeshAndTableFacts (header .axes) (header .rank)
-      (record { mesh = meshOf (shape .mesh); order = orderIn file (shape .mesh .n) (shape .devices); sizes = sizesOf (shape .table) })
+  sizes-facts : MeshAndTableFacts (header .axes) (header .rank) file (record {
+    value = record { mesh = meshOf (shape .mesh); order = orderIn file (shape .mesh .n) (shape .devices); sizes = sizesOf (shape .table) };
+    next = at;
+  })
   sizes-facts = mesh-and-table-facts (carriesOrder (header .edition)) (header .axes) (header .rank) file _ (o .shape-is)
 
   axes-are : shape .mesh .n ≡ header .axes

@@ -1,7 +1,7 @@
 -- What an accepted file tells, part by part: its header, its sizes, what stands before its steps (`front-accepted`), and its plan (`accepted`):
--- limits, positive sizes, a sharding at the start, each step accepted in turn. Records that omega reads. Assumes nothing.
+-- limits, positive sizes, a sharding at the start, each plain step accepted in turn; the room by one pass. Records that omega reads. Assumes nothing.
 use Prim.Native.Nat.{ℕ, zero, suc, _+_, _*_, _<_, _≤_}
-use mathlib.Core.Path.{_≡_, refl, sym, ap, subst}
+use mathlib.Core.Path.{_≡_, refl, sym, ap, _∙_, subst}
 use mathlib.Core.Logic.{_⊎_, inl, inr, ⊎-elim}
 use mathlib.Core.Bool.{Bool, true, false, not, _&&_}
 use mathlib.Core.List.{List, [], _∷_}
@@ -9,11 +9,11 @@ use native.Mathlib.Nat.{mul-pos, mul-assoc, mul-le-mul}
 use native.Mathlib.Omega.{arith}
 use lib.ListN.{length, getD}
 use lib.Dec.{T, ltb, leb, eqb, ltb→lt, leb→le, lit<, lit≤}
-use Rattle.rules.specs.Lists.{tab, pick, flat, product, mem, In, Distinct}
+use Rattle.rules.specs.Lists.{tab, pick, flat, inTurn, product, total, mem, In, Distinct}
 use Rattle.rules.specs.Mesh.{devices, Rearrangement}
-use Rattle.rules.specs.Sharding.{Sharding, varying, divisible, IsSharding}
-use Rattle.rules.specs.Collectives.{Step, after}
-use Rattle.rules.specs.Limits.{present, mostAxes, mostDevices, mostDims, mostWords, mostSteps, leastBytes, mostBytes}
+use Rattle.rules.specs.Sharding.{Sharding, varying, divisible, shardSizes, IsSharding}
+use Rattle.rules.specs.Collectives.{after}
+use Rattle.rules.specs.Limits.{present, mostAxes, mostDevices, mostDims, mostWords, mostSteps, mostRun, leastBytes, mostBytes}
 use Rattle.rules.specs.Refusals.{accept, _>>=_, _>>_}
 use Rattle.rules.specs.PlanFile.{
   Read,
@@ -43,9 +43,7 @@ use Rattle.rules.specs.PlanFile.{
   judgeAxes,
   judgeStart,
   oneMeaning,
-  stepAt,
-  judgeStep,
-  stepsAt,
+  outermostAt,
   Front,
   judgeFront,
   judgeFrontBy,
@@ -54,13 +52,19 @@ use Rattle.rules.specs.PlanFile.{
   judgeBy,
   announced,
   announcedShape,
+  largestShard,
+  room,
   StateAnswer,
+  stepsRun,
   stateOf,
 }
+use Rattle.rules.specs.Demands.{onePass, largestOn, StepsCounted, RoomInOnePass}
 use Rattle.rules.proofs.Orders.{order-read}
 use Rattle.rules.proofs.Lists.{T-and, length-tab, not-mem, distinct-append, in-append}
 use Rattle.rules.proofs.Judging.{accept-inj, need-inv, need-true, then-inv, bind-inv}
-use Rattle.rules.proofs.Steps.{AcceptedStep, facts}
+use Rattle.rules.proofs.Turns.{Fine, largest-tab}
+use Rattle.rules.proofs.Repeats.{ToldOutermost, outermost-tells}
+use Rattle.rules.proofs.Bytes.{order-bytes, sharding-bytes}
 
 -- ---- sizes
 
@@ -131,28 +135,6 @@ start-sharding mesh sizes s e =
       divides = need-true 0 (divisible mesh sizes (s .dims)) 17 (r .1);
     }
 
--- ---- steps
-
--- each step of a list is accepted in turn, from the sharding s on
-abbrev pub Fine : (mesh sizes : List ℕ) → Sharding → List Step → Type 0
-Fine mesh sizes s [] = Unit {0}
-Fine mesh sizes s (t ∷ ts) = AcceptedStep mesh sizes t s × Fine mesh sizes (after t s) ts
-
-pub steps-fine : (mesh sizes : List ℕ) (k count : ℕ) (file : List ℕ) (at : ℕ) (s : Sharding) (r : Read (List Step)) → stepsAt mesh sizes k count file at s ≡ accept r
-    → Fine mesh sizes s (r .value) × (length (r .value) ≡ count)
-unfolding stepsAt
-steps-fine mesh sizes k zero file at s r e = subst (λ (z : Read (List Step)). Fine mesh sizes s (z .value) × (length (z .value) ≡ 0)) (accept-inj e) (tt, refl)
-steps-fine mesh sizes k (suc count) file at s r e =
-    let p = bind-inv (stepAt (length mesh) (length sizes) k file at) _ r e in
-    let t : Step = p .0 .value in
-    let q = bind-inv (judgeStep mesh sizes k t s) _ r (p .2) in
-    let f : AcceptedStep mesh sizes t s × (after t s ≡ q .0) = facts mesh sizes k t s (q .0) (q .1) in
-    let w = bind-inv (stepsAt mesh sizes (k + 1) count file (p .0 .next) (q .0)) _ r (q .2) in
-    let ts : List Step = w .0 .value in
-    let g : Fine mesh sizes (q .0) ts × (length ts ≡ count) = steps-fine mesh sizes (k + 1) count file (p .0 .next) (q .0) (w .0) (w .1) in
-    subst (λ (z : Read (List Step)). Fine mesh sizes s (z .value) × (length (z .value) ≡ suc count)) (accept-inj (w .2))
-    ((f .0, subst (λ (z : Sharding). Fine mesh sizes z ts) (sym (f .1)) (g .0)), ap suc (g .1))
-
 -- ---- the whole file
 
 -- A mesh and a table within their limits.
@@ -222,16 +204,18 @@ section-facts most z o count offset file at r l e =
       inside = leb→le (at + 2 * count) (length file) (b .0);
     })
 
--- What accepted mesh and tensor sections tell.
-pub record MeshAndTableFacts (n rank : ℕ) (r : MeshAndTable) : Type 0 where
-  pub axes-many : length (r .mesh) ≡ n
-  pub mesh : SizesFacts mostDevices 1 (r .mesh)
-  pub rank-many : length (r .sizes) ≡ rank
-  pub sizes : SizesFacts mostWords 1 (r .sizes)
-  pub ordered : Rearrangement (devices (r .mesh)) (r .order)
+-- What accepted mesh and tensor sections tell, and where they end.
+pub record MeshAndTableFacts (n rank : ℕ) (file : List ℕ) (r : Read MeshAndTable) : Type 0 where
+  pub axes-many : length (r .value .mesh) ≡ n
+  pub mesh : SizesFacts mostDevices 1 (r .value .mesh)
+  pub rank-many : length (r .value .sizes) ≡ rank
+  pub sizes : SizesFacts mostWords 1 (r .value .sizes)
+  pub ordered : Rearrangement (devices (r .value .mesh)) (r .value .order)
+  pub begins : leastBytes ≤ r .next
+  pub inside : r .next ≤ length file
 
 pub mesh-and-table-facts : (carried : Bool) (n rank : ℕ) (file : List ℕ) (r : Read MeshAndTable) → meshAndTableAt carried n rank file ≡ accept r
-    → MeshAndTableFacts n rank (r .value)
+    → MeshAndTableFacts n rank file r
 unfolding meshAndTableAtBy
 mesh-and-table-facts carried n rank file r e =
     let m = bind-inv (sizesAt mostDevices 10 11 n (meshOffset file) file 18) _ r e in
@@ -240,13 +224,16 @@ mesh-and-table-facts carried n rank file r e =
     let f : SectionFacts mostDevices n file 18 (m .0) = section-facts mostDevices 10 11 n (meshOffset file) file 18 (m .0) (lit≤ tt) (m .1) in
     let g : SectionFacts mostWords rank file (o .0 .next) (t .0) =
     section-facts mostWords 12 13 rank (tensorOffset file) file (o .0 .next) (t .0) (lit≤ tt) (t .1) in
-    subst (λ (x : Read MeshAndTable). MeshAndTableFacts n rank (x .value)) (accept-inj (t .2))
+    let b : (m .0 .next ≤ o .0 .next) × (o .0 .next ≤ length file) = order-bytes file carried (devices (m .0 .value)) (m .0 .next) (o .0) (f .inside) (o .1) in
+    subst (MeshAndTableFacts n rank file) (accept-inj (t .2))
     (record {
       axes-many = f .many;
       mesh = f .sizes;
       rank-many = g .many;
       sizes = g .sizes;
       ordered = order-read carried (devices (m .0 .value)) file (m .0 .next) (o .0) (o .1);
+      begins = omega (arith, f .next-is, b .0, g .next-is);
+      inside = g .inside;
     })
 
 -- What stands before the steps, where it is accepted.
@@ -255,6 +242,9 @@ pub record AcceptedFront (file : List ℕ) (f : Front) : Type 0 where
   pub ordered : Rearrangement (devices (f .mesh)) (f .order)
   pub start-is : IsSharding (f .mesh) (f .sizes) (f .start)
   pub steps-few : stepCount file ≤ mostSteps
+  pub begins : leastBytes ≤ f .next
+  pub inside : f .next ≤ length file
+  pub short : length file ≤ mostBytes
 
 pub front-accepted : (file : List ℕ) (f : Front) → judgeFront file ≡ accept f → AcceptedFront file f
 unfolding judgeFrontBy
@@ -265,9 +255,11 @@ front-accepted file f e =
     let s = bind-inv (shardingAt (carriesReplicated (edition file)) (axisCount file) (rankCount file) (shardingOffset file) file (m .0 .next)) _ f (m .2) in
     let o = need-inv 0 (eqb (stepsOffset file) (s .0 .next)) 6 _ f (s .2) in
     let j = then-inv (judgeStart (m .0 .value .mesh) (m .0 .value .sizes) (s .0 .value)) _ f (o .1) in
-    let g : MeshAndTableFacts (axisCount file) (rankCount file) (m .0 .value) =
+    let g : MeshAndTableFacts (axisCount file) (rankCount file) file (m .0) =
     mesh-and-table-facts (carriesOrder (edition file)) (axisCount file) (rankCount file) file (m .0) (m .1) in
     let z = need-inv 0 (oneMeaning (edition file) (s .0 .value .replicated)) 18 _ f (j .1) in
+    let b : (m .0 .next ≤ s .0 .next) × (s .0 .next ≤ length file) =
+    sharding-bytes file (carriesReplicated (edition file)) (axisCount file) (rankCount file) (shardingOffset file) (m .0 .next) (s .0) (g .inside) (s .1) in
     subst (AcceptedFront file) (accept-inj (z .1)) (record {
       within = record {
         axes-some = omega (arith, g .axes-many);
@@ -284,33 +276,80 @@ front-accepted file f e =
       ordered = g .ordered;
       start-is = start-sharding (m .0 .value .mesh) (m .0 .value .sizes) (s .0 .value) (j .0 .1);
       steps-few = h .steps-few;
+      begins = omega (arith, g .begins, b .0);
+      inside = b .1;
+      short = h .short;
     })
 
--- What an accepted plan satisfies.
+-- What an accepted plan satisfies, of its steps in running order and of one pass through its records.
 pub record AcceptedPlan (p : Plan) : Type 0 where
   pub within : Within (p .mesh) (p .sizes)
   pub ordered : Rearrangement (devices (p .mesh)) (p .order)
   pub start-is : IsSharding (p .mesh) (p .sizes) (p .start)
-  pub steps-few : length (p .steps) ≤ mostSteps
+  pub steps-few : length (p .runs) ≤ mostSteps
   pub fine : Fine (p .mesh) (p .sizes) (p .start) (p .steps)
+  pub run-few : length (p .steps) ≤ mostRun
+  pub runs-are : total (p .runs) ≡ length (p .steps)
+  pub pass-fine : Fine (p .mesh) (p .sizes) (p .start) (onePass (p .records))
+  pub pass-ends : inTurn after (p .steps) (p .start) ≡ inTurn after (onePass (p .records)) (p .start)
+  pub pass-largest : (f : Sharding → ℕ) → largestOn f (p .start) (p .steps) ≡ largestOn f (p .start) (onePass (p .records))
 
 -- THE FACTS OF AN ACCEPTED FILE
-pub accepted : (file : List ℕ) (p : Plan) → judge file ≡ accept p → AcceptedPlan p
+accepted-counted : (file : List ℕ) (p : Plan) → judge file ≡ accept p → AcceptedPlan p × (length (p .runs) ≡ stepCount file)
 unfolding judgeBy
-accepted file p e =
+accepted-counted file p e =
     let f = bind-inv (judgeFront file) _ p e in
     let a : AcceptedFront file (f .0) = front-accepted file (f .0) (f .1) in
-    let ts = bind-inv (stepsAt (f .0 .mesh) (f .0 .sizes) 1 (stepCount file) file (f .0 .next) (f .0 .start)) _ p (f .2) in
+    let ts = bind-inv (outermostAt true (f .0 .mesh) (f .0 .sizes) file 0 (stepCount file) 1 (f .0 .next) (f .0 .start)) _ p (f .2) in
     let z = need-inv 0 (eqb (ts .0 .next) (length file)) 9 _ p (ts .2) in
-    let fs : Fine (f .0 .mesh) (f .0 .sizes) (f .0 .start) (ts .0 .value) × (length (ts .0 .value) ≡ stepCount file) =
-    steps-fine (f .0 .mesh) (f .0 .sizes) 1 (stepCount file) file (f .0 .next) (f .0 .start) (ts .0) (ts .1) in
-    subst AcceptedPlan (accept-inj (z .1))
-    (record { within = a .within; ordered = a .ordered; start-is = a .start-is; steps-few = omega (arith, fs .1, a .steps-few); fine = fs .0 })
+    let g : ToldOutermost (f .0 .mesh) (f .0 .sizes) file 0 (stepCount file) (f .0 .start) (ts .0) =
+    outermost-tells (f .0 .mesh) (f .0 .sizes) file true 0 (stepCount file) 1 (f .0 .next) (f .0 .start) (ts .0) (lit≤ tt) (ts .1) in
+    subst (λ (q : Plan). AcceptedPlan q × (length (q .runs) ≡ stepCount file)) (accept-inj (z .1)) (
+      record {
+        within = a .within;
+        ordered = a .ordered;
+        start-is = a .start-is;
+        steps-few = omega (arith, g .many, a .steps-few);
+        fine = g .fine;
+        run-few = omega (arith, g .few);
+        runs-are = g .runs-are;
+        pass-fine = g .pass-fine;
+        pass-ends = g .same-end;
+        pass-largest = g .largest-same;
+      },
+      g .many,
+    )
+
+pub accepted : (file : List ℕ) (p : Plan) → judge file ≡ accept p → AcceptedPlan p
+accepted file p e = accepted-counted file p e .0
+
+pub steps-counted : StepsCounted
+steps-counted file p e =
+    let a = accepted-counted file p e in
+    record { outermost = a .1; all = a .0 .runs-are; few = a .0 .run-few }
+
+-- the room is D times the largest of the states in running order, and so of one pass
+pub room-running : (p : Plan) → room p ≡ devices (p .mesh) * largestOn (λ s. product (shardSizes (p .mesh) (p .sizes) (s .dims))) (p .start) (p .steps)
+unfolding room largestShard announcedShape announced
+room-running p = ap (λ (n : ℕ). devices (p .mesh) * n) (largest-tab (λ s. product (shardSizes (p .mesh) (p .sizes) (s .dims))) (p .steps) (p .start))
+
+pub room-in-one-pass : RoomInOnePass
+room-in-one-pass file p e =
+    room-running p
+    ∙ ap (λ (n : ℕ). devices (p .mesh) * n) (accepted file p e .pass-largest (λ s. product (shardSizes (p .mesh) (p .sizes) (s .dims))))
 
 -- the plan of an accepted state
 pub state-inv : (file : List ℕ) (k : ℕ) (a : StateAnswer) → stateOf file k ≡ accept a
-    → (p : Plan) × (judge file ≡ accept p) × (record { mesh = p .mesh; order = p .order; sizes = p .sizes; sharding = announced p k; shard = announcedShape p k } ≡ a)
+    → (p : Plan) × (judge file ≡ accept p)
+    × (record {
+      mesh = p .mesh;
+      order = p .order;
+      sizes = p .sizes;
+      sharding = announced p (stepsRun p k);
+      shard = announcedShape p (stepsRun p k);
+    }
+    ≡ a)
 unfolding stateOf
 state-inv file k a e =
     let p = bind-inv (judge file) _ a e in
-    (p .0, p .1, accept-inj (need-inv 0 (leb k (length (p .0 .steps))) 34 _ a (p .2) .1))
+    (p .0, p .1, accept-inj (need-inv 0 (leb k (length (p .0 .runs))) 34 _ a (p .2) .1))

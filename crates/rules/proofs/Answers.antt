@@ -13,7 +13,7 @@ use Rattle.rules.specs.Mesh.{devices}
 use Rattle.rules.specs.Sharding.{Sharding}
 use Rattle.rules.specs.Limits.{mostAxes, mostDims}
 use Rattle.rules.specs.Refusals.{accept, refuse, numberOf, reasonOf}
-use Rattle.rules.specs.PlanFile.{stepCount, Plan, judge, announced, StateAnswer, stateOf}
+use Rattle.rules.specs.PlanFile.{Plan, judge, announced, StateAnswer, stepsRun, stateOf}
 use Rattle.rules.specs.Calls.{CheckAnswer, PlaceAnswer, checkOf, placeOf}
 use Rattle.rules.specs.Demands.{fileNumbers, stepNumbers, Numbered}
 use Rattle.rules.proofs.Lists.{T-and}
@@ -40,11 +40,11 @@ listed numbers steps n k t = ⊎-elim (λ o. one-listed numbers n t (o .0)) (λ 
 
 pub check-listed : (file : List ℕ) (n k : ℕ) → checkOf file ≡ refuse n k → numberOf (reasonOf n) ≡ n
 unfolding reasonOf
-check-listed file n k e = listed fileNumbers (stepCount file) n k tt (refusal-numbers .check file n k e)
+check-listed file n k e = listed fileNumbers (length file) n k tt (refusal-numbers .check file n k e)
 
 pub place-listed : (file : List ℕ) (state device n k : ℕ) → placeOf file state device ≡ refuse n k → numberOf (reasonOf n) ≡ n
 unfolding reasonOf
-place-listed file state device n k e = listed (32 ∷ 34 ∷ fileNumbers) (stepCount file) n k tt (refusal-numbers .place file state device n k e)
+place-listed file state device n k e = listed (32 ∷ 34 ∷ fileNumbers) (length file) n k tt (refusal-numbers .place file state device n k e)
 
 -- ---- lists
 
@@ -60,7 +60,7 @@ list-of [] (suc d) = omega arith
 list-of (l ∷ ls) zero = simp length-append (omega arith)
 list-of (l ∷ ls) (suc d) = simp length-append (omega (arith, list-of ls d))
 
--- the sharding announced after k steps
+-- the sharding announced after k plain steps run
 state-in-places : (file : List ℕ) (p : Plan) → judge file ≡ accept p → (k : ℕ) → InPlaces (length (p .sizes)) (announced p k)
 state-in-places file p e k =
     let a : AcceptedPlan p = accepted file p e in
@@ -85,6 +85,6 @@ place-in-places file k d a e =
     let s = bind-inv (stateOf file k) _ a e in
     let x = need-inv 0 (ltb d (devices (s .0 .mesh))) 32 _ a (s .2) in
     let j = bind-inv (judge file) _ (s .0) (s .1) in
-    let y = need-inv 0 (leb k (length (j .0 .steps))) 34 _ (s .0) (j .2) in
+    let y = need-inv 0 (leb k (length (j .0 .runs))) 34 _ (s .0) (j .2) in
     subst (λ (z : PlaceAnswer). InPlaces (z .rank) (z .sharding)) (accept-inj (x .1))
-    (subst (λ (z : StateAnswer). InPlaces (length (z .sizes)) (z .sharding)) (accept-inj (y .1)) (state-in-places file (j .0) (j .1) k))
+    (subst (λ (z : StateAnswer). InPlaces (length (z .sizes)) (z .sharding)) (accept-inj (y .1)) (state-in-places file (j .0) (j .1) (stepsRun (j .0) k)))

@@ -72,8 +72,8 @@ fresh-distinct before (b ∷ L) t =
       λ a i j. ⊎-elim (λ e. not-mem b before n (subst (λ z. In z before) e j)) (λ k. ih .1 a k (inr j)) i,
     )
 
--- 24: what is left, with the gathered lists put back behind it, is what was there
-same-eq : (L M : List ℕ) → T (same L M) → L ≡ M
+-- two lists that are the same
+pub same-eq : (L M : List ℕ) → T (same L M) → L ≡ M
 unfolding same
 same-eq [] [] t = refl
 same-eq [] (b ∷ M) t = absurd t
@@ -82,6 +82,7 @@ same-eq (a ∷ L) (b ∷ M) t =
     let r : T (eqb a b) × T (same L M) = T-and (eqb a b) (same L M) t in
     ap₂ (λ (c : ℕ) (l : List ℕ). c ∷ l) (eqb→eq a b (r .0)) (same-eq L M (r .1))
 
+-- 24: what is left, with the gathered lists put back behind it, is what was there
 pub tails-joined : (ds Gs : List (List ℕ)) → T (both isTail ds Gs) → each _++_ (each cutTail ds Gs) Gs ≡ ds
 tails-joined [] [] t = refl
 tails-joined [] (G ∷ Gs) t = absurd t

@@ -14,7 +14,11 @@ pub mod Spreads
 pub mod Judging
 pub mod Orders
 pub mod Steps
+pub mod Turns
+pub mod Repeats
+pub mod Bytes
 pub mod Accepted
+pub mod Earlier
 pub mod Readers
 pub mod Room
 pub mod Next

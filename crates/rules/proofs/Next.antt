@@ -14,7 +14,8 @@ use Rattle.rules.proofs.Shapes.{Cut}
 use Rattle.rules.proofs.Sizes.{cut-is}
 use Rattle.rules.proofs.Sources.{Ready}
 use Rattle.rules.proofs.Steps.{AcceptedStep, ToAll, shape-length, slice-sharding, gather-sharding, to-all-sharding, after-shape}
-use Rattle.rules.proofs.Accepted.{Fine, AcceptedPlan}
+use Rattle.rules.proofs.Turns.{Fine}
+use Rattle.rules.proofs.Accepted.{AcceptedPlan}
 use Rattle.rules.proofs.Room.{state}
 
 -- ---- one accepted step

@@ -14,6 +14,7 @@ use Rattle.rules.specs.WorkedRefusals as files
 use Rattle.rules.specs.WorkedLimits as sizes
 use Rattle.rules.specs.WorkedEditions as later
 use Rattle.rules.specs.WorkedOrders as cabled
+use Rattle.rules.specs.WorkedRepeats as nightly
 use Rattle.rules.specs.Promises.{RunPromise, RulesPromise}
 use Rattle.rules.specs.declared.Refusal.{Refusal}
 use Rattle.rules.specs.declared.RunOutcome.{RunOutcome}
@@ -21,6 +22,8 @@ use Rattle.rules.specs.declared.RunOutcome.the-variants as run
 use Rattle.rules.proofs.Judging.{never, accept-inj, bind-inv}
 use Rattle.rules.proofs.Whole as whole
 use Rattle.rules.proofs.Refusing as refusing
+use Rattle.rules.proofs.Repeats as repeats
+use Rattle.rules.proofs.Accepted as accepted
 use Rattle.rules.proofs.Readers as readers
 use Rattle.rules.proofs.Locality as local
 use Rattle.rules.proofs.Groups as group
@@ -61,7 +64,7 @@ judged-check file p e =
     let c : CheckAnswer = record {
       room = room p;
       devices = devices (p .mesh);
-      steps = length (p .steps);
+      steps = length (p .runs);
       rank = length (p .sizes);
       sharding = announced p (length (p .steps));
       shard = announcedShape p (length (p .steps));
@@ -119,10 +122,14 @@ rules-promise = record {
   startable = whole.startable;
   room-limit = whole.room-limit;
   replicated-stays = whole.replicated-stays;
+  steps-counted = accepted.steps-counted;
+  blocks-come-back = repeats.blocks-come-back;
+  room-in-one-pass = accepted.room-in-one-pass;
   refusal-numbers = refusing.refusal-numbers;
   readers-compared = readers.readers-compared;
   earlier-limits = readers.earlier-limits;
   earlier-editions = readers.earlier-editions;
+  earlier-steps = readers.earlier-steps;
   locality = local.locality;
   group-by-position = group.groups-by-position;
   sum-of-words = sums.addWords-total;
@@ -137,4 +144,6 @@ rules-promise = record {
   no-sharding = later.no-sharding;
   ordered = cabled.in-order;
   second-edition = cabled.second-edition;
+  repeated = nightly.repeated;
+  repeats-read = nightly.repeats-read;
 }

@@ -1,9 +1,10 @@
 -- Two readers of plan files, of which the one takes nothing that the other does not: what either answers on a file that the other accepts
--- (`readers-compared`). The judgements differ in four tests; what follows the sizes is the same for every reader (`afterSizes`, `afterFront`). Assumes nothing.
+-- (`readers-compared`). The judgements differ in four tests and in repeats; what follows the sizes up to the steps is the same for every reader
+-- (`afterSizes`). Assumes nothing.
 use Prim.Native.Nat.{ℕ, zero, suc, _+_, _*_, _<_, _≤_}
 use mathlib.Core.Path.{_≡_, refl, sym, ap, _∙_, subst}
 use mathlib.Core.Bool.{Bool, true, false, _&&_}
-use mathlib.Core.List.{List, [], _∷_}
+use mathlib.Core.List.{List, [], _∷_, _++_, map}
 use native.Mathlib.Nat.{mul-pos, mul-assoc, le-mul-of-pos-right}
 use native.Mathlib.Omega.{arith}
 use lib.ListN.{length}
@@ -11,6 +12,7 @@ use lib.Dec.{T, ltb, leb, eqb, ltb→lt, leb→le, le→leb, lit<, lit≤}
 use borrow.Author.Tests.{lt-leb, leb-false}
 use Rattle.rules.specs.Lists.{tab, product}
 use Rattle.rules.specs.Mesh.{devices}
+use Rattle.rules.specs.Collectives.{Step}
 use Rattle.rules.specs.Limits.{Reader, present, leastBytes, mostBytes, mostDevices, mostWords, latestEdition}
 use Rattle.rules.specs.Refusals.{Judged, accept, refuse, _>>=_, _>>_, need}
 use Rattle.rules.specs.PlanFile.{
@@ -36,16 +38,34 @@ use Rattle.rules.specs.PlanFile.{
   shardingAt,
   judgeStart,
   oneMeaning,
-  stepsAt,
+  Record,
+  plain,
+  repeat,
+  Outermost,
+  outermostAt,
   Front,
   judgeFrontBy,
   Plan,
   judgeBy,
 }
-use Rattle.rules.specs.Readers.{Narrower, takenBy, KeepsPlans, MeetsTests, ReadersCompared, original, EarlierLimits, upTo, EarlierEditions}
-use Rattle.rules.proofs.Judging.{accept-inj, need-inv, need-true, then-inv, bind-inv, then-assoc}
+use Rattle.rules.specs.Readers.{
+  Narrower,
+  repeatsKnown,
+  takenBy,
+  KeepsPlans,
+  MeetsTests,
+  ReadersCompared,
+  original,
+  EarlierLimits,
+  upTo,
+  EarlierEditions,
+  withoutRepeats,
+  EarlierSteps,
+}
+use Rattle.rules.proofs.Judging.{accept-inj, need-inv, then-inv, bind-inv, then-assoc}
 use Rattle.rules.proofs.Lists.{T-and}
 use Rattle.rules.proofs.Accepted.{SizesFacts, sizes-facts}
+use Rattle.rules.proofs.Earlier.{outermost-meets, outermost-keeps}
 
 -- ---- a judgement that is a test more than another
 
@@ -263,19 +283,45 @@ sizes-same file m f e =
     )
 
 -- what follows the front
-abbrev afterFront : List ℕ → Front → Judged Plan
-afterFront file f = do
-  ts ← stepsAt (f .mesh) (f .sizes) 1 (stepCount file) file (f .next) (f .start)
-  need (eqb (ts .next) (length file)) 9
-  accept (record { mesh = f .mesh; order = f .order; sizes = f .sizes; start = f .start; steps = ts .value })
+abbrev planOf : Front → Outermost → Plan
+planOf f ts = record {
+  mesh = f .mesh;
+  order = f .order;
+  sizes = f .sizes;
+  start = f .start;
+  records = ts .records;
+  steps = ts .steps;
+  runs = ts .runs;
+}
 
-front-same : (file : List ℕ) (f : Front) (p : Plan) → afterFront file f ≡ accept p → (f .mesh ≡ p .mesh) × (f .sizes ≡ p .sizes)
-front-same file f p e =
-    let ts = bind-inv (stepsAt (f .mesh) (f .sizes) 1 (stepCount file) file (f .next) (f .start)) _ p e in
+abbrev afterFront : Reader → List ℕ → Front → Judged Plan
+afterFront r file f = do
+  ts ← outermostAt (r .repeats) (f .mesh) (f .sizes) file 0 (stepCount file) 1 (f .next) (f .start)
+  need (eqb (ts .next) (length file)) 9
+  accept (planOf f ts)
+
+front-same : (r : Reader) (file : List ℕ) (f : Front) (p : Plan) → afterFront r file f ≡ accept p → (f .mesh ≡ p .mesh) × (f .sizes ≡ p .sizes)
+front-same r file f p e =
+    let ts = bind-inv (outermostAt (r .repeats) (f .mesh) (f .sizes) file 0 (stepCount file) 1 (f .next) (f .start)) _ p e in
     let z = need-inv 0 (eqb (ts .0 .next) (length file)) 9 _ p (ts .2) in (
       ap (λ (q : Plan). q .mesh) (accept-inj (z .1)),
       ap (λ (q : Plan). q .sizes) (accept-inj (z .1)),
     )
+
+module _ (r s : Reader) (n : Narrower r s) (file : List ℕ) (f : Front) (p : Plan) where
+  steps-meet : afterFront s file f ≡ accept p → Tests (afterFront r file f) (repeatsKnown (r .repeats) 1 (p .records)) p
+  steps-meet e =
+      let ts = bind-inv (outermostAt (s .repeats) (f .mesh) (f .sizes) file 0 (stepCount file) 1 (f .next) (f .start)) _ p e in
+      let z = need-inv 0 (eqb (ts .0 .next) (length file)) 9 _ p (ts .2) in
+      subst (λ (q : Plan). Tests (afterFront r file f) (repeatsKnown (r .repeats) 1 (q .records)) q) (accept-inj (z .1))
+      (tests-none (repeatsKnown (r .repeats) 1 (ts .0 .records)) (ts .0) _ (planOf f (ts .0)) _
+      (outermost-meets (f .mesh) (f .sizes) file (r .repeats) (s .repeats) (n .repeats-few) 0 (stepCount file) 1 (f .next) (f .start) (ts .0) (ts .1))
+      (passes (eqb (ts .0 .next) (length file)) 9 (accept (planOf f (ts .0))) (z .0)))
+
+  steps-keep : afterFront r file f ≡ accept p → afterFront s file f ≡ accept p
+  steps-keep e =
+      let ts = bind-inv (outermostAt (r .repeats) (f .mesh) (f .sizes) file 0 (stepCount file) 1 (f .next) (f .start)) _ p e in
+      rw (outermost-keeps (f .mesh) (f .sizes) file (r .repeats) (s .repeats) (n .repeats-few) 0 (stepCount file) 1 (f .next) (f .start) (ts .0) (ts .1)) (ts .2)
 
 module _ (r s : Reader) (n : Narrower r s) (file : List ℕ) where
   -- the tests that r makes and s does not, of a file with these sizes
@@ -307,20 +353,31 @@ module _ (r s : Reader) (n : Narrower r s) (file : List ℕ) where
       (header-keeps r s file (n .bytes-few) (n .editions-few) (h .0 .1))
       ∙ ap (λ (j : Judged (Read MeshAndTable)). _>>=_ j (afterSizes file)) (sections-keep r s n (carriesOrder (edition file)) (axisCount file) (rankCount file) file (m .0) (m .1)) ∙ m .2
 
+-- tests taken together otherwise
+then-four : {A : Type 0} (a b c d : Judged (Unit {0})) (m : Judged A) → _>>_ (_>>_ a (_>>_ b (_>>_ c d))) m ≡ _>>_ a (_>>_ b (_>>_ c (_>>_ d m)))
+then-four a b c d m =
+    then-assoc a (_>>_ b (_>>_ c d)) m
+    ∙ ap (_>>_ a) (then-assoc b (_>>_ c d) m ∙ ap (_>>_ b) (then-assoc c d m))
+
 meets-tests : (r s : Reader) → Narrower r s → MeetsTests r s
 unfolding judgeBy
 meets-tests r s n file p e =
-    let f = bind-inv (judgeFrontBy s file) (afterFront file) p e in
-    let q = front-same file (f .0) p (f .2) in
-    subst (λ (mesh : List ℕ). Tests (judgeBy r file) (limits r s n file mesh (p .sizes)) p) (q .0)
-    (subst (λ (sizes : List ℕ). Tests (judgeBy r file) (limits r s n file (f .0 .mesh) sizes) p) (q .1)
-    (tests-none (limits r s n file (f .0 .mesh) (f .0 .sizes)) (f .0) (afterFront file) p (judgeFrontBy r file) (front-meets r s n file (f .0) (f .1)) (f .2)))
+    let f = bind-inv (judgeFrontBy s file) (afterFront s file) p e in
+    let q = front-same s file (f .0) p (f .2) in
+    let known : Judged (Unit {0}) = repeatsKnown (r .repeats) 1 (p .records) in
+    subst (λ (mesh : List ℕ). Tests (judgeBy r file) (_>>_ (limits r s n file mesh (p .sizes)) known) p) (q .0)
+    (subst (λ (sizes : List ℕ). Tests (judgeBy r file) (_>>_ (limits r s n file (f .0 .mesh) sizes) known) p) (q .1)
+    (tests-bind (limits r s n file (f .0 .mesh) (f .0 .sizes)) known (f .0) (afterFront r file) p (judgeFrontBy r file) (front-meets r s n file (f .0) (f .1))
+    (steps-meet r s n file (f .0) p (f .2))))
+    ∙ ap (λ (t : Judged (Unit {0})). _>>_ t (accept p))
+    (then-four (need (leb (length file) (r .bytes)) 2) (need (editionKnown r (edition file)) 3) (need (leb (devices (p .mesh)) (r .devices)) 11)
+    (need (leb (product (p .sizes)) (r .words)) 13) known)
 
 keeps-plans : (r s : Reader) → Narrower r s → KeepsPlans r s
 unfolding judgeBy
 keeps-plans r s n file p e =
-    let f = bind-inv (judgeFrontBy r file) (afterFront file) p e in
-    ap (λ (j : Judged Front). _>>=_ j (afterFront file)) (front-keeps r s n file (f .0) (f .1)) ∙ f .2
+    let f = bind-inv (judgeFrontBy r file) (afterFront r file) p e in
+    ap (λ (j : Judged Front). _>>=_ j (afterFront s file)) (front-keeps r s n file (f .0) (f .1)) ∙ steps-keep r s n file (f .0) p (f .2)
 
 -- TWO READERS
 pub readers-compared : ReadersCompared
@@ -334,38 +391,84 @@ narrower = record {
   words-few = lit≤ tt;
   bytes-few = lit≤ tt;
   editions-few = lit≤ tt;
+  repeats-few = λ e. e;
 }
 
 pub earlier-limits : EarlierLimits
 earlier-limits = record { keeps = keeps-plans original present narrower; meets = meets-tests original present narrower }
 
--- readers of the editions up to one
-up-to : (latest : ℕ) → latest ≤ latestEdition → Narrower (upTo latest) present
-up-to latest l = record {
+-- ---- readers with the present limits
+
+-- of the editions up to one, with repeats or without
+abbrev reading : (latest : ℕ) → (repeats : Bool) → Reader
+reading latest repeats = record { devices = mostDevices; words = mostWords; bytes = mostBytes; editions = latest; repeats = repeats }
+
+reading-less : (latest : ℕ) (repeats : Bool) → latest ≤ latestEdition → Narrower (reading latest repeats) present
+reading-less latest repeats l = record {
   devices-some = lit≤ tt;
   words-some = lit≤ tt;
   devices-few = lit≤ tt;
   words-few = lit≤ tt;
   bytes-few = lit≤ tt;
   editions-few = l;
+  repeats-few = λ e. refl;
 }
 
--- where all other tests pass, the edition's is left
-edition-left : {A : Type 0} (bytes first known devices words : Bool) (m : Judged A) → T bytes → T first → T devices → T words
-    → _>>_ (_>>_ (need bytes 2) (_>>_ (need (first && known) 3) (_>>_ (need devices 11) (need words 13)))) m ≡ _>>_ (need known 3) m
-edition-left true true true true true m b f d w = refl
-edition-left true true false true true m b f d w = refl
+-- where the tests of bytes and sizes pass, those of the edition and of repeats are left
+tests-left : {A : Type 0} (bytes first known devices words : Bool) (repeats : Judged (Unit {0})) (m : Judged A) → T bytes → T first → T devices → T words
+    → _>>_ (_>>_ (need bytes 2) (_>>_ (need (first && known) 3) (_>>_ (need devices 11) (_>>_ (need words 13) repeats)))) m
+    ≡ _>>_ (_>>_ (need known 3) repeats) m
+tests-left true true true true true repeats m b f d w = refl
+tests-left true true false true true repeats m b f d w = refl
 
-editions-met : (latest : ℕ) → latest ≤ latestEdition → (file : List ℕ) (p : Plan) → judgeBy present file ≡ accept p
-    → judgeBy (upTo latest) file ≡ _>>_ (need (leb (edition file) latest) 3) (accept p)
-editions-met latest l file p e =
-    let own = then-inv (takenBy present file p) (accept p) p (sym (meets-tests present present (up-to latestEdition (omega arith)) file p e) ∙ e) in
+limits-met : (latest : ℕ) (repeats : Bool) → latest ≤ latestEdition → (file : List ℕ) (p : Plan) → judgeBy present file ≡ accept p
+    → T (leb (edition file) latestEdition)
+    × (judgeBy (reading latest repeats) file ≡ _>>_ (_>>_ (need (leb (edition file) latest) 3) (repeatsKnown repeats 1 (p .records))) (accept p))
+limits-met latest repeats l file p e =
+    let own = then-inv (takenBy present file p) (accept p) p (sym (meets-tests present present (reading-less latestEdition true (omega arith)) file p e) ∙ e) in
     let b = need-inv 0 (leb (length file) mostBytes) 2 _ tt (own .0 .1) in
     let k = need-inv 0 (editionKnown present (edition file)) 3 _ tt (b .1) in
     let d = need-inv 0 (leb (devices (p .mesh)) mostDevices) 11 _ tt (k .1) in
-    meets-tests (upTo latest) present (up-to latest l) file p e
-    ∙ edition-left (leb (length file) mostBytes) (leb 1 (edition file)) (leb (edition file) latest) (leb (devices (p .mesh)) mostDevices) (leb (product (p .sizes)) mostWords) (accept p)
-    (b .0) (T-and (leb 1 (edition file)) (leb (edition file) latestEdition) (k .0) .0) (d .0) (need-true 0 (leb (product (p .sizes)) mostWords) 13 (d .1))
+    let w = need-inv 0 (leb (product (p .sizes)) mostWords) 13 _ tt (d .1) in
+    let x : T (leb 1 (edition file)) × T (leb (edition file) latestEdition) = T-and (leb 1 (edition file)) (leb (edition file) latestEdition) (k .0) in (
+      x .1,
+      meets-tests (reading latest repeats) present (reading-less latest repeats l) file p e
+          ∙ tests-left (leb (length file) mostBytes) (leb 1 (edition file)) (leb (edition file) latest) (leb (devices (p .mesh)) mostDevices) (leb (product (p .sizes)) mostWords)
+          (repeatsKnown repeats 1 (p .records)) (accept p) (b .0) (x .0) (d .0) (w .0),
+    )
+
+editions-met : (latest : ℕ) → latest ≤ latestEdition → (file : List ℕ) (p : Plan) → judgeBy present file ≡ accept p
+    → judgeBy (upTo latest) file ≡ _>>_ (need (leb (edition file) latest) 3) (accept p)
+editions-met latest l file p e = limits-met latest true l file p e .1 ∙ then-assoc (need (leb (edition file) latest) 3) (accept tt) (accept p)
 
 pub earlier-editions : EarlierEditions
-earlier-editions = record { keeps = λ latest l. keeps-plans (upTo latest) present (up-to latest l); meets = editions-met }
+earlier-editions = record { keeps = λ latest l. keeps-plans (upTo latest) present (reading-less latest true l); meets = editions-met }
+
+-- ---- the reader that knows no repeats
+
+repeats-met : (file : List ℕ) (p : Plan) → judgeBy present file ≡ accept p → judgeBy withoutRepeats file ≡ _>>_ (repeatsKnown false 1 (p .records)) (accept p)
+repeats-met file p e =
+    let x = limits-met latestEdition false (omega arith) file p e in
+    x .1 ∙ ap (λ (j : Judged (Unit {0})). _>>_ j (accept p)) (passes (leb (edition file) latestEdition) 3 (repeatsKnown false 1 (p .records)) (x .0))
+
+at-the-first : (k : ℕ) (before : List Step) (count number : ℕ) (rest : List Record)
+    → repeatsKnown false k (map plain before ++ repeat count number ∷ rest) ≡ refuse 20 (length before + k)
+at-the-first k [] count number rest = let z : k ≡ 0 + k = omega arith in ap (refuse 20) z
+at-the-first k (t ∷ before) count number rest =
+    let z : length before + (k + 1) ≡ suc (length before) + k = omega arith in
+    at-the-first (k + 1) before count number rest ∙ ap (refuse 20) z
+
+none-met : (k : ℕ) (all : List Step) → repeatsKnown false k (map plain all) ≡ accept tt
+none-met k [] = refl
+none-met k (t ∷ all) = none-met (k + 1) all
+
+pub earlier-steps : EarlierSteps
+earlier-steps = record {
+  keeps = keeps-plans withoutRepeats present (reading-less latestEdition false (omega arith));
+  stops = λ file p e before count number rest r.
+      repeats-met file p e ∙ ap (λ (l : List Record). _>>_ (repeatsKnown false 1 l) (accept p)) r
+      ∙ ap (λ (j : Judged (Unit {0})). _>>_ j (accept p)) (at-the-first 1 before count number rest);
+  passes = λ file p e all r.
+      repeats-met file p e ∙ ap (λ (l : List Record). _>>_ (repeatsKnown false 1 l) (accept p)) r
+      ∙ ap (λ (j : Judged (Unit {0})). _>>_ j (accept p)) (none-met 1 all);
+}

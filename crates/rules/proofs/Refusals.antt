@@ -36,6 +36,10 @@ use Rattle.rules.specs.declared.Reason.the-variants.{
   NoSuchDevice,
   OutputTooShort,
   NoSuchState,
+  ShardingChanged,
+  TooDeep,
+  TooManyRun,
+  RepeatOfNothing,
 }
 use Rattle.rules.specs.declared.Refusal.{Refusal}
 
@@ -74,6 +78,10 @@ reason-number SpareTooShort = refl
 reason-number NoSuchDevice = refl
 reason-number OutputTooShort = refl
 reason-number NoSuchState = refl
+reason-number ShardingChanged = refl
+reason-number TooDeep = refl
+reason-number TooManyRun = refl
+reason-number RepeatOfNothing = refl
 
 pub refusal-told : (r : Refusal) → refusalOf (numberOf (r .reason)) (r .step) ≡ r
 refusal-told r = λ i. record { reason = reason-number (r .reason) i; step = r .step }

@@ -3,16 +3,16 @@
 use Prim.Native.Nat.{ℕ, zero, suc, _+_, _*_, _≤_}
 use mathlib.Core.Path.{_≡_, refl, sym, subst}
 use mathlib.Core.Logic.{inl, inr, ⊎-elim}
-use mathlib.Core.Bool.{Bool, true, false, not}
+use mathlib.Core.Bool.{Bool, true, false, not, _&&_}
 use mathlib.Core.List.{List, [], _∷_}
 use native.Mathlib.Omega.{arith}
 use lib.ListN.{length, getD}
-use lib.Dec.{T, ltb, leb, eqb, le→leb, lit≤}
+use lib.Dec.{T, ltb, leb, eqb, ltb→lt, le→leb, lit≤}
 use Rattle.rules.specs.Lists.{tab, both, flat, pick, mem, In}
 use Rattle.rules.specs.Mesh.{devices}
 use Rattle.rules.specs.Sharding.{Sharding, varying, named, divisible, shardSizes}
 use Rattle.rules.specs.Collectives.{Step, allSlice, allGather, allReduce, allToAll, stepAxes, only}
-use Rattle.rules.specs.Limits.{present, mostDevices, mostWords, mostSteps, leastBytes, mostBytes}
+use Rattle.rules.specs.Limits.{present, mostDevices, mostWords, mostSteps, mostRun, mostDepth, leastBytes, mostBytes}
 use Rattle.rules.specs.Refusals.{Judged, accept, refuse, _>>=_, _>>_, need, needAt}
 use Rattle.rules.specs.PlanFile.{
   u16At,
@@ -61,7 +61,18 @@ use Rattle.rules.specs.PlanFile.{
   judgeKind,
   judgeNamed,
   judgeStep,
+  JudgesStep,
+  JudgesSteps,
   stepsAt,
+  plainAt,
+  positiveAt,
+  sameSharding,
+  repeatAt,
+  isRepeat,
+  itemBy,
+  tooDeep,
+  itemAt,
+  outermostAt,
   judgeFront,
   judgeFrontBy,
   Plan,
@@ -76,6 +87,9 @@ use Rattle.rules.specs.declared.Kind.{Kind}
 use Rattle.rules.specs.declared.Kind.the-variants.{AllSlice, AllGather, AllReduce, AllToAll, Unknown}
 use Rattle.rules.proofs.Lists.{mem-in, in-mem}
 use Rattle.rules.proofs.Judging.{never}
+use Rattle.rules.proofs.Repeats.{positive-inv}
+use Rattle.rules.proofs.Bytes.{Takes, Taking, item-takes}
+use Rattle.rules.proofs.Accepted.{front-accepted}
 
 refusal-inj : {A : Type 0} {n k m j : ℕ} → _≡_ {A = Judged A} (refuse n k) (refuse m j) → (n ≡ m) × (k ≡ j)
 refusal-inj e = (cc, cc)
@@ -108,6 +122,15 @@ module _ (P : ℕ → ℕ → Type 0) where
   passes : (k : ℕ) (b : Bool) (n : ℕ) → T b → Refuses (needAt k b n)
   passes k true n t = accepts tt
   passes k false n t = absurd t
+
+  -- what follows knows what was accepted, and that a test was passed
+  bind-told : {A B : Type 0} (m : Judged A) (f : A → Judged B) → Refuses m → ((a : A) → m ≡ accept a → Refuses (f a)) → Refuses (_>>=_ m f)
+  bind-told (accept a) f h g = g a refl
+  bind-told (refuse n k) f h g = refuses n k (h n k refl)
+
+  tests-told : {A : Type 0} (k : ℕ) (b : Bool) (n : ℕ) (m : Judged A) → P n k → (T b → Refuses m) → Refuses (_>>_ (needAt k b n) m)
+  tests-told k true n m h g = g tt
+  tests-told k false n m h g = refuses n k h
 
   -- a test, and then the rest
   tests : {A : Type 0} (k : ℕ) (b : Bool) (n : ℕ) (m : Judged A) → P n k → Refuses m → Refuses (_>>_ (needAt k b n) m)
@@ -261,16 +284,75 @@ module _ (P : ℕ → ℕ → Type 0) where
           (tests k (some (stepAxes t)) 21 _ (inside 21 tt) (test k (allBelow (length mesh) (stepAxes t)) 22 (inside 22 tt)))
           (kind-judged mesh sizes t s)
 
-    module _ (steps : ℕ) (inside : (n k : ℕ) → T (mem n stepNumbers) → 1 ≤ k → k ≤ steps → P n k) where
-      steps-refuse : (mesh sizes : List ℕ) (k count : ℕ) (file : List ℕ) (at : ℕ) (s : Sharding) → 1 ≤ k → k + count ≤ steps + 1
-          → Refuses (stepsAt mesh sizes k count file at s)
+    -- a number inside the steps is one of a kind byte of the file
+    module _ (mesh sizes file : List ℕ) (inside : (n k : ℕ) → T (mem n stepNumbers) → 1 ≤ k → k ≤ length file → P n k) where
+      abbrev Numbers : JudgesStep → Type 0
+      Numbers one = (k at : ℕ) (s : Sharding) → 1 ≤ k → k ≤ at → Refuses (one k at s)
+
+      plain-refuses : Numbers (plainAt mesh sizes file)
+      unfolding plainAt stepAt mem
+      plain-refuses k at s l h = go (ltb at (length file)) refl
+        where
+          go : (b : Bool) → ltb at (length file) ≡ b → Refuses (plainAt mesh sizes file k at s)
+          go true q =
+              let here : (n : ℕ) → T (mem n stepNumbers) → P n k = λ n i. inside n k i l (omega (arith, ltb→lt at (length file) (subst T (sym q) tt))) in
+              bind _ _ (step-read k here (length mesh) (length sizes) file at)
+              (λ r. bind _ _ (step-judged k here mesh sizes (r .value) s) (λ after. accepts _))
+          go false q = rw q (refuses 7 0 (out 7 tt))
+
+      steps-refuse : (one : JudgesStep) → Taking mesh sizes file one → Numbers one → (count : ℕ) → Numbers (stepsAt one count)
       unfolding stepsAt
-      steps-refuse mesh sizes k zero file at s l h = accepts _
-      steps-refuse mesh sizes k (suc count) file at s l h =
-          let here : (n : ℕ) → T (mem n stepNumbers) → P n k = λ n t. inside n k t l (omega (arith, h)) in
-          bind _ _ (step-read k here (length mesh) (length sizes) file at)
-          (λ t. bind _ _ (step-judged k here mesh sizes (t .value) s)
-          (λ after. bind _ _ (steps-refuse mesh sizes (k + 1) count file (t .next) after (omega arith) (omega (arith, h))) (λ ts. accepts _)))
+      steps-refuse one b g zero k at s l h = accepts _
+      steps-refuse one b g (suc count) k at s l h =
+          bind-told _ _ (g k at s l h)
+          (λ t e. bind _ _ (steps-refuse one b g count (k + length (t .records)) (t .next) (t .sharding) (omega arith) (omega (arith, b k at s t e .bytes)))
+          (λ ts. accepts _))
+
+      positive-refuses : (k at : ℕ) → 1 ≤ k → k ≤ at → Refuses (positiveAt k file at)
+      unfolding positiveAt mem
+      positive-refuses k at l h =
+          tests-told 0 (ltb at (length file)) 7 _ (out 7 tt)
+          (λ t. tests k (ltb 0 (getD file at 0)) 44 _ (inside 44 k tt l (omega (arith, ltb→lt at (length file) t))) (accepts _))
+
+      -- what judges the inner steps of a repeat is asked only where its two bytes are there
+      repeat-refuses : (inner : JudgesSteps) (k at : ℕ) (s : Sharding) → 1 ≤ k → k ≤ at
+          → (k ≤ length file → (count : ℕ) → Refuses (inner count (k + 1) (at + 1 + 2) s)) → Refuses (repeatAt inner file k (at + 1) s)
+      unfolding repeatAt mem
+      repeat-refuses inner k at s l h g =
+          bind-told _ _ (positive-refuses k (at + 1) l (omega arith))
+          (λ count e.
+          let m : k ≤ length file = omega (arith, positive-inv mesh sizes file k (at + 1) count e .0) in
+          bind _ _ (positive-refuses k (at + 1 + 1) l (omega arith))
+          (λ number. bind _ _ (g m number)
+          (λ block. tests k (sameSharding (block .sharding) s) 41 _ (inside 41 k tt l m)
+          (tests k (leb (count * length (block .steps)) mostRun) 43 _ (inside 43 k tt l m) (accepts _)))))
+
+      by-refuses : (b : Bool) (inner : JudgesSteps) (k at : ℕ) (s : Sharding) → 1 ≤ k → k ≤ at
+          → (k ≤ length file → (count : ℕ) → Refuses (inner count (k + 1) (at + 1 + 2) s)) → Refuses (itemBy b inner mesh sizes file k at s)
+      unfolding itemBy
+      by-refuses false inner k at s l h g = plain-refuses k at s l h
+      by-refuses true inner k at s l h g = repeat-refuses inner k at s l h g
+
+      item-refuses : (known : Bool) (depth : ℕ) → Numbers (itemAt known mesh sizes file depth)
+      unfolding itemAt mem
+      item-refuses known zero k at s l h =
+          by-refuses (known && isRepeat file at) (tooDeep k) k at s l h (λ m count. refuses 42 k (inside 42 k tt l m))
+      item-refuses known (suc depth) k at s l h =
+          by-refuses (known && isRepeat file at) (stepsAt (itemAt known mesh sizes file depth)) k at s l h
+          (λ m count. steps-refuse (itemAt known mesh sizes file depth) (item-takes mesh sizes file known depth) (item-refuses known depth) count (k + 1) (at + 1 + 2) s
+          (omega arith) (omega arith))
+
+      outermost-refuses : (known : Bool) (ran count : ℕ) (k at : ℕ) (s : Sharding) → 1 ≤ k → k ≤ at → Refuses (outermostAt known mesh sizes file ran count k at s)
+      unfolding outermostAt mem
+      outermost-refuses known ran zero k at s l h = accepts _
+      outermost-refuses known ran (suc count) k at s l h =
+          bind-told _ _ (item-refuses known mostDepth k at s l h)
+          (λ t e.
+          let b : Takes mesh sizes file at t = item-takes mesh sizes file known mostDepth k at s t e in
+          tests k (leb (ran + length (t .steps)) mostRun) 43 _ (inside 43 k tt l (omega (arith, b .bytes, b .inside)))
+          (bind _ _
+          (outermost-refuses known (ran + length (t .steps)) count (k + length (t .records)) (t .next) (t .sharding) (omega arith) (omega (arith, b .bytes)))
+          (λ ts. accepts _)))
 
 -- ---- the calls
 
@@ -279,18 +361,19 @@ listed : (numbers : List ℕ) (steps n : ℕ) → T (mem n numbers) → Numbered
 listed numbers steps n t = inl (mem-in n numbers t, refl)
 
 -- the refusals of a file are numbered, among other numbers of a call too
-judge-refuses : (numbers : List ℕ) → ((n : ℕ) → In n fileNumbers → In n numbers) → (file : List ℕ) → Refuses (Numbered numbers (stepCount file)) (judge file)
+judge-refuses : (numbers : List ℕ) → ((n : ℕ) → In n fileNumbers → In n numbers) → (file : List ℕ) → Refuses (Numbered numbers (length file)) (judge file)
 unfolding judgeBy mem
 judge-refuses numbers all file =
-    let P : ℕ → ℕ → Type 0 = Numbered numbers (stepCount file) in
+    let P : ℕ → ℕ → Type 0 = Numbered numbers (length file) in
     let out : (n : ℕ) → T (mem n fileNumbers) → P n 0 = λ n t. inl (all n (mem-in n fileNumbers t), refl) in
-    let inside : (n k : ℕ) → T (mem n stepNumbers) → 1 ≤ k → k ≤ stepCount file → P n k = λ n k t l h. inr (mem-in n stepNumbers t, l, h) in
-    bind P _ _ (front-refuses P out file)
-    (λ f. bind P _ _
-    (steps-refuse P out (stepCount file) inside (f .mesh) (f .sizes) 1 (stepCount file) file (f .next) (f .start) (lit≤ tt) (omega arith))
+    let inside : (n k : ℕ) → T (mem n stepNumbers) → 1 ≤ k → k ≤ length file → P n k = λ n k t l h. inr (mem-in n stepNumbers t, l, h) in
+    bind-told P _ _ (front-refuses P out file)
+    (λ f e. bind P _ _
+    (outermost-refuses P out (f .mesh) (f .sizes) file inside true 0 (stepCount file) 1 (f .next) (f .start) (lit≤ tt)
+    (omega (arith, front-accepted file f e .begins)))
     (λ ts. tests P 0 (eqb (ts .next) (length file)) 9 _ (out 9 tt) (accepts P _)))
 
--- of a file with one step: 29 is no number, 7 is of no step, 24 is of that step alone
+-- of a file with one kind byte: 29 is no number, 7 is of no step, 24 is of that step alone
 unnumbered :
     (¬ Numbered fileNumbers 1 29 0) × (¬ Numbered fileNumbers 1 7 1) × (¬ Numbered fileNumbers 1 24 0) × (¬ Numbered fileNumbers 1 24 2)
 unfolding mem
@@ -320,14 +403,14 @@ groups-refuse P p5 p10 p11 p14 p15 p33 ordered mesh axes out o =
 pub refusal-numbers : RefusalNumbers
 unfolding checkOf stateOf placeOf groupsOf groupsOrderedOf runOf runnable mem
 refusal-numbers = record {
-  check = λ file. bind (Numbered fileNumbers (stepCount file)) _ _ (judge-refuses fileNumbers (λ n i. i) file) (λ p. accepts _ _);
+  check = λ file. bind (Numbered fileNumbers (length file)) _ _ (judge-refuses fileNumbers (λ n i. i) file) (λ p. accepts _ _);
   place = λ file state device.
       let numbers : List ℕ = 32 ∷ 34 ∷ fileNumbers in
-      let steps : ℕ = stepCount file in
+      let steps : ℕ = length file in
       let P : ℕ → ℕ → Type 0 = Numbered numbers steps in
       bind P (stateOf file state) _
       (bind P _ _ (judge-refuses numbers (λ n i. inr (inr i)) file)
-      (λ p. tests P 0 (leb state (length (p .steps))) 34 _ (listed numbers steps 34 tt) (accepts P _)))
+      (λ p. tests P 0 (leb state (length (p .runs))) 34 _ (listed numbers steps 34 tt) (accepts P _)))
       (λ s. tests P 0 (ltb device (devices (s .mesh))) 32 _ (listed numbers steps 32 tt) (accepts P _));
   groups = λ mesh axes out.
       let numbers : List ℕ = 5 ∷ 10 ∷ 11 ∷ 14 ∷ 15 ∷ 33 ∷ [] in
@@ -341,7 +424,7 @@ refusal-numbers = record {
       (test P 0 (orderAllowed (devices mesh) order) 19 (own 19 tt));
   run = λ file work spare.
       let numbers : List ℕ = 30 ∷ 31 ∷ fileNumbers in
-      let steps : ℕ = stepCount file in
+      let steps : ℕ = length file in
       let P : ℕ → ℕ → Type 0 = Numbered numbers steps in
       run-refuses P work spare (runnable file work spare) (bind P _ _ (judge-refuses numbers (λ n i. inr (inr i)) file)
       (λ p. tests P 0 (leb (room p) (length work)) 30 _ (listed numbers steps 30 tt)

@@ -18,7 +18,8 @@ use Rattle.rules.proofs.Lists.{few-distinct}
 use Rattle.rules.proofs.Groups.{groups-devices}
 use Rattle.rules.proofs.Sizes.{cut-product, span-pos}
 use Rattle.rules.proofs.Steps.{after-sharding, sharding-cut}
-use Rattle.rules.proofs.Accepted.{Fine, Within, AcceptedPlan}
+use Rattle.rules.proofs.Turns.{Fine}
+use Rattle.rules.proofs.Accepted.{Within, AcceptedPlan}
 
 -- ---- the largest of numbers
 

@@ -58,7 +58,8 @@ use Rattle.rules.proofs.Steps.{
   after-sharding,
   after-shape,
 }
-use Rattle.rules.proofs.Accepted.{Fine, AcceptedPlan, accepted}
+use Rattle.rules.proofs.Turns.{Fine}
+use Rattle.rules.proofs.Accepted.{AcceptedPlan, accepted}
 use Rattle.rules.proofs.Room.{fine-take, state, room-few}
 use Rattle.rules.proofs.Next.{step-ready, in-turn-next, next-divides}
 
@@ -312,7 +313,19 @@ room-limit file p e = room-few (accepted file p e)
 -- 1,024 devices with all 65,536 words each have that room
 room-reached : (p : Plan) × (judge (fileOf (1024 ∷ []) (256 ∷ 256 ∷ []) ([] ∷ [] ∷ [] ∷ []) []) ≡ accept p) × (room p ≡ 67_108_864)
 unfolding fileOf judgeBy room
-room-reached = (record { mesh = 1024 ∷ []; order = plainOrder 1024; sizes = 256 ∷ 256 ∷ []; start = record { dims = [] ∷ [] ∷ []; unreduced = []; replicated = [] }; steps = [] }, refl, refl)
+room-reached = (
+  record {
+    mesh = 1024 ∷ [];
+    order = plainOrder 1024;
+    sizes = 256 ∷ 256 ∷ [];
+    start = record { dims = [] ∷ [] ∷ []; unreduced = []; replicated = [] };
+    records = [];
+    steps = [];
+    runs = [];
+  },
+  refl,
+  refl,
+)
 
 -- ---- the replicated list
 

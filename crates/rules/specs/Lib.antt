@@ -16,6 +16,7 @@ pub mod WorkedRefusals
 pub mod WorkedEditions
 pub mod WorkedLimits
 pub mod WorkedOrders
+pub mod WorkedRepeats
 pub mod WorkedAnswers
 pub mod WorkedPlaces
 pub mod Promises

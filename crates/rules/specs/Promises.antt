@@ -31,6 +31,7 @@ use Rattle.rules.specs.WorkedRefusals.{refusals}
 use Rattle.rules.specs.WorkedLimits.{limits, Earlier}
 use Rattle.rules.specs.WorkedEditions.{editions, FirstEdition, Unequal, NoSharding}
 use Rattle.rules.specs.WorkedOrders.{orders, SecondEdition}
+use Rattle.rules.specs.WorkedRepeats.{repeats, RepeatsRead}
 use Rattle.rules.specs.declared.Refusal.{Refusal}
 use Rattle.rules.specs.declared.Checked.{Checked}
 use Rattle.rules.specs.declared.Placed.{Placed}
@@ -119,3 +120,5 @@ pub record RulesPromise : Type 1 where
   pub no-sharding : NoSharding
   pub ordered : All Holds orders
   pub second-edition : SecondEdition
+  pub repeated : All Holds repeats
+  pub repeats-read : RepeatsRead

@@ -143,7 +143,7 @@ abbrev pub FirstEdition : Type 0
 FirstEdition =
     (judgeBy (upTo 1) there ≡ refuse 3 0)
     × (judgeBy (upTo 1) (fileOf (2 ∷ []) (4 ∷ []) ([] ∷ [] ∷ []) [])
-    ≡ accept (record { mesh = 2 ∷ []; order = 0 ∷ 1 ∷ []; sizes = 4 ∷ []; start = shardingOf [] [] []; steps = [] }))
+    ≡ accept (record { mesh = 2 ∷ []; order = 0 ∷ 1 ∷ []; sizes = 4 ∷ []; start = shardingOf [] [] []; records = []; steps = []; runs = [] }))
 
 pub first-edition : FirstEdition
 unfolding fileIn fileOf judgeBy

@@ -77,7 +77,15 @@ limited =
 abbrev pub Earlier : Type 0
 Earlier =
     (judgeBy original (plain (256 ∷ []) (4096 ∷ []))
-    ≡ accept (record { mesh = 256 ∷ []; order = tab 256 (λ d. d); sizes = 4096 ∷ []; start = record { dims = [] ∷ []; unreduced = []; replicated = [] }; steps = [] }))
+    ≡ accept (record {
+      mesh = 256 ∷ [];
+      order = tab 256 (λ d. d);
+      sizes = 4096 ∷ [];
+      start = record { dims = [] ∷ []; unreduced = []; replicated = [] };
+      records = [];
+      steps = [];
+      runs = [];
+    }))
     × (judgeBy original (plain (257 ∷ []) (4096 ∷ [])) ≡ refuse 11 0)
     × (judgeBy original (plain (256 ∷ []) (4097 ∷ [])) ≡ refuse 13 0)
     × (judgeBy original (filledTo 4096) ≡ refuse 9 0)

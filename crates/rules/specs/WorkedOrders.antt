@@ -7,7 +7,7 @@ use lib.ListN.{length, set, take}
 use Rattle.rules.specs.Lists.{tab, flat, All, done, _&_}
 use Rattle.rules.specs.Collectives.{allSlice, allGather, allReduce}
 use Rattle.rules.specs.Refusals.{accept, refuse}
-use Rattle.rules.specs.PlanFile.{judgeBy}
+use Rattle.rules.specs.PlanFile.{plain, judgeBy}
 use Rattle.rules.specs.Calls.{checkOf, placeOf, groupsOrderedOf, groupsOrderedLeave, runOf}
 use Rattle.rules.specs.Readers.{upTo}
 use Rattle.rules.specs.Ledger.{Case, checked, placed, ordered, Holds, fileIn, passed, found, nines, leaves}
@@ -131,7 +131,9 @@ SecondEdition =
       order = 0 ∷ 1 ∷ 2 ∷ 3 ∷ [];
       sizes = 4 ∷ [];
       start = record { dims = [] ∷ []; unreduced = 0 ∷ []; replicated = 1 ∷ [] };
+      records = plain (allReduce (0 ∷ [])) ∷ plain (allSlice ((0 ∷ []) ∷ [])) ∷ plain (allGather ((0 ∷ []) ∷ [])) ∷ [];
       steps = allReduce (0 ∷ []) ∷ allSlice ((0 ∷ []) ∷ []) ∷ allGather ((0 ∷ []) ∷ []) ∷ [];
+      runs = 1 ∷ 1 ∷ 1 ∷ [];
     }))
 
 pub second-edition : SecondEdition

@@ -103,6 +103,18 @@ enum-told-32 c = search needs
 enum-told-33 : tie.Need-enum-told-33
 enum-told-33 c = search needs
 
+enum-told-34 : tie.Need-enum-told-34
+enum-told-34 c = search needs
+
+enum-told-35 : tie.Need-enum-told-35
+enum-told-35 c = search needs
+
+enum-told-36 : tie.Need-enum-told-36
+enum-told-36 c = search needs
+
+enum-told-37 : tie.Need-enum-told-37
+enum-told-37 c = search needs
+
 returns : tie.Need-returns
 returns c = simp (c .enum-told .given .1)
 
@@ -202,6 +214,18 @@ returns-32 c = simp (c .enum-told32 .given .1)
 returns-33 : tie.Need-returns-33
 returns-33 c = simp (c .enum-told33 .given .1)
 
+returns-34 : tie.Need-returns-34
+returns-34 c = simp (c .enum-told34 .given .1)
+
+returns-35 : tie.Need-returns-35
+returns-35 c = simp (c .enum-told35 .given .1)
+
+returns-36 : tie.Need-returns-36
+returns-36 c = simp (c .enum-told36 .given .1)
+
+returns-37 : tie.Need-returns-37
+returns-37 c = simp (c .enum-told37 .given .1)
+
 pub number-of-spec : {M : Type 1} → statement M
 number-of-spec =
     tie.close
@@ -239,6 +263,10 @@ number-of-spec =
     enum-told-31
     enum-told-32
     enum-told-33
+    enum-told-34
+    enum-told-35
+    enum-told-36
+    enum-told-37
     returns
     returns-2
     returns-3
@@ -271,4 +299,8 @@ number-of-spec =
     returns-30
     returns-31
     returns-32
-    returns-33)
+    returns-33
+    returns-34
+    returns-35
+    returns-36
+    returns-37)

@@ -1,0 +1,2 @@
+-- What the judgement of repeats asks and answers.
+pub mod Blocks

@@ -1,0 +1,6 @@
+-- Laws of steps on two buffers, from below.
+pub mod Turns
+pub mod Steps
+pub mod Plain
+pub mod Rows
+pub mod Rounds

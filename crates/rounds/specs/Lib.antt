@@ -1,0 +1,2 @@
+-- What the parts of the run ask for and leave.
+pub mod Rounds

@@ -1,0 +1,104 @@
+-- What the parts (src/lib.rt) ask for and leave, of no plan: one step by itself; and whatever was accepted from a sharding on, a plain step, a repeat,
+-- or so many steps in turn. Assumes nothing.
+use Prim.Native.Nat.{ℕ, _+_, _*_, _≤_, _<_}
+use mathlib.Core.Path.{_≡_}
+use mathlib.Core.Bool.{Bool, true, not}
+use mathlib.Core.List.{List}
+use lib.ListN.{length, take}
+use Rattle.rules.specs.Lists.{pick, inTurn, product}
+use Rattle.rules.specs.Mesh.{devices, OnMesh}
+use Rattle.rules.specs.Sharding.{Sharding, shardSizes}
+use Rattle.rules.specs.Spread.{addWords}
+use Rattle.rules.specs.Collectives.{Step, Shards, stepped, Stands, withShards}
+use Rattle.rules.specs.Limits.{mostDims, mostWords, mostBytes}
+use Rattle.rules.specs.Refusals.{Judged, accept}
+use Rattle.rules.specs.PlanFile.{Read, StepsRead, JudgesStep, stepsAt, repeatAt, itemAt}
+use Rattle.rules.specs.Demands.{largestOn}
+use Rattle.rules.specs.Types.{dimsOf, shardingOf, stepOf, meshOf, sizesOf}
+use Rattle.rules.specs.declared.Kind.{Kind}
+use Rattle.rules.specs.declared.Sharding as code
+use Rattle.rules.specs.declared.Table.{Table}
+use Rattle.rules.specs.declared.Mesh.{Mesh}
+use Rattle.judge.specs.Step.{Sharded}
+use Rattle.taking.specs.Taking.{StepTaken, takeStep, takenRead}
+use Rattle.taking.specs.declared.Taken.{Taken}
+use Rattle.step.specs.Stepping.{Stepping, inPlace}
+use Rattle.rounds.specs.declared.Progress.{Progress}
+
+-- ---- one step
+
+-- the shard sizes of a sharding
+abbrev pub shapeOf : Mesh → Table → code.Sharding → List ℕ
+shapeOf mesh table s = shardSizes (meshOf mesh) (sizesOf table) (take (table .rank) (dimsOf (s .dims)))
+
+-- step k, which is read at `at` and accepted of the sharding s, and what it asks of a buffer of `old` words with the state before it and of another one
+-- of `new` words
+pub record Turning (file : List ℕ) (at k : ℕ) (mesh : Mesh) (table : Table) (s : code.Sharding) (old new : ℕ) : Type 0 where
+  pub ready : Sharded mesh table s
+  pub move : Read StepTaken
+  pub taken : takeStep (meshOf mesh) (sizesOf table) k file at (shardingOf (table .rank) s) ≡ accept move
+  pub stepping : Stepping (meshOf mesh) (shapeOf mesh table s) (move .value .step)
+      (product (shardSizes (meshOf mesh) (sizesOf table) (move .value .sharding .dims))) old new
+
+-- what the step leaves, from the state in here: of any shards of that sharding's shape that stood there, those after the step, in here where it is done
+-- in place, else in there, with the words behind them as they were; and the other buffer as it was
+pub record Turned (file : List ℕ) (at k : ℕ) (mesh : Mesh) (table : Table) (s : code.Sharding) (here there here′ there′ : List ℕ) (r : Taken) : Type 0 where
+  pub taken : takenRead (table .rank) r ≡ takeStep (meshOf mesh) (sizesOf table) k file at (shardingOf (table .rank) s)
+  pub leaves : (v : Shards ℕ) → v .shape ≡ shapeOf mesh table s → Stands (meshOf mesh) v here
+      → pick (inPlace (r .step .kind)) here′ there′
+      ≡ withShards (meshOf mesh) (stepped addWords (meshOf mesh) (stepOf (table .rank) (r .step)) v) (pick (inPlace (r .step .kind)) here there)
+  pub keeps : pick (inPlace (r .step .kind)) there′ here′ ≡ pick (inPlace (r .step .kind)) there here
+
+-- whether the state stands in work after a step: one that is not done in place leaves it in the other buffer
+abbrev pub standsAfter : Kind → Bool → Bool
+standsAfter kind in-work = pick (inPlace kind) in-work (not in-work)
+
+-- ---- whatever was accepted
+
+-- a repeat at its kind byte, its inner steps nested at most so deep
+abbrev pub blockAt : (mesh sizes : List ℕ) → List ℕ → (depth : ℕ) → JudgesStep
+blockAt mesh sizes file depth k at s = repeatAt (stepsAt (itemAt true mesh sizes file depth)) file k (at + 1) s
+
+-- a mesh and a table within the limits
+pub record WithinLimits (mesh sizes : List ℕ) : Type 0 where
+  pub on : OnMesh mesh
+  pub rank-some : 1 ≤ length sizes
+  pub rank-few : length sizes ≤ mostDims
+  pub words-pos : 0 < product sizes
+  pub words-few : product sizes ≤ mostWords
+
+-- the sharding where a run is, and what is judged from there on
+abbrev pub shardingAt : Table → Progress → Sharding
+shardingAt table p = shardingOf (table .rank) (p .sharding)
+
+abbrev pub judgedFrom : JudgesStep → Table → Progress → Judged StepsRead
+judgedFrom judges table p = judges (p .number) (p .at) (shardingAt table p)
+
+-- the words that steps need, from a sharding on: D times the largest m on their way
+abbrev pub roomFor : (mesh sizes : List ℕ) → Sharding → List Step → ℕ
+roomFor mesh sizes s ts = devices mesh * largestOn (λ r. product (shardSizes mesh sizes (r .dims))) s ts
+
+-- what is judged from there on was accepted, and both buffers have room for every state on its way. A step number is no larger than the place of its
+-- kind byte, since each kind byte before it is a byte.
+pub record CanRun (judges : JudgesStep) (file : List ℕ) (mesh : Mesh) (table : Table) (from : Progress) (work spare : ℕ) : Type 0 where
+  pub ready : Sharded mesh table (from .sharding)
+  pub limits : WithinLimits (meshOf mesh) (sizesOf table)
+  pub number-few : from .number ≤ from .at
+  pub short : length file ≤ mostBytes
+  pub read : StepsRead
+  pub accepted : judgedFrom judges table from ≡ accept read
+  pub work-room : roomFor (meshOf mesh) (sizesOf table) (shardingAt table from) (read .steps) ≤ work
+  pub spare-room : roomFor (meshOf mesh) (sizesOf table) (shardingAt table from) (read .steps) ≤ spare
+
+-- where the run is after the steps w, and that of any shards of the sharding's shape that stood in the one buffer, those after all these steps in
+-- running order stand in the other, or the same, one
+pub record Ran (w : StepsRead) (mesh : Mesh) (table : Table) (from : Progress) (work spare work′ spare′ : List ℕ) (end : Progress) : Type 0 where
+  pub at-is : end .at ≡ w .next
+  pub number-is : end .number ≡ from .number + length (w .records)
+  pub sharding-is : shardingAt table end ≡ w .sharding
+  pub stands : (v : Shards ℕ) → v .shape ≡ shapeOf mesh table (from .sharding) → Stands (meshOf mesh) v (pick (from .«in_work») work spare)
+      → Stands (meshOf mesh) (inTurn (stepped addWords (meshOf mesh)) (w .steps) v) (pick (end .«in_work») work′ spare′)
+
+abbrev pub HasRun : JudgesStep → Mesh → Table → (from : Progress) → (work spare work′ spare′ : List ℕ) → (end : Progress) → Type 0
+HasRun judges mesh table from work spare work′ spare′ end =
+    (w : StepsRead) → judgedFrom judges table from ≡ accept w → Ran w mesh table from work spare work′ spare′ end
