@@ -9,6 +9,8 @@ import sys
 import tempfile
 import unittest
 
+from ishkrela import AllGather, AllSlice, Repeat, Sharding, plan_file
+
 ROOT = os.path.join(os.path.dirname(os.path.abspath(__file__)), "..")
 KEPT = ("tools", "python/ishkrela.py", "tests/plans.txt")
 
@@ -126,6 +128,18 @@ class Plancheck(unittest.TestCase):
         self.assertEqual(self.printed(input=bytes(8192)), ("no 3 0\n", ""))
         self.assertEqual(self.printed(input=bytes(8193)), ("no 2 0\n", ""))
         self.assertEqual(self.printed(input=bytes(100000)), ("no 2 0\n", ""))
+
+    def test_states_are_those_after_outermost_steps(self):
+        pair, blocks = [AllSlice([[0], []]), AllGather([[0], []])], 15
+        inner = [Repeat(2, (68 if block < 10 else 67) * pair) for block in range(blocks)]
+        longest = plan_file([2], [2, 1], Sharding([[], []]), inner)
+        self.assertEqual(len(longest), 8192)
+        states = [f"{state} 2 1\n" for state in range(blocks + 1)]
+        self.assertEqual(self.printed(input=longest), (f"ok {blocks}\n" + "".join(states), ""))
+        between = plan_file([2], [2, 1], Sharding([[], []]), [Repeat(3, pair), pair[0], Repeat(2, pair[::-1])])
+        self.assertEqual(self.printed(input=between), ("ok 3\n0 2 1\n1 2 1\n2 1 1\n3 1 1\n", ""))
+        elsewhere = plan_file([2], [2, 1], Sharding([[], []]), [*pair, Repeat(3, pair[:1])])
+        self.assertEqual(self.printed(input=elsewhere), ("no 41 3\n", ""))
 
     def test_a_failed_read_is_the_end(self):
         folder = os.open(ROOT, os.O_RDONLY)

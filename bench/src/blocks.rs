@@ -225,9 +225,7 @@ pub fn running(random: &mut Random, draft: &Draft, total: usize) -> Option<Draft
             true => long_repeat(random, &state, left),
             false => state.random_step(random),
         };
-        let Some(step) = step.or_else(|| state.random_step(random)) else {
-            return None;
-        };
+        let step = step.or_else(|| state.random_step(random))?;
         state.advance(&step);
         left -= step.runs();
         steps.push(step);
