@@ -1,41 +1,61 @@
--- What the parts of the check (src/lib.rt) answer, in the rules' own judgements: so many steps in turn, the whole file, a state. A mesh is told by its n sizes, a table by the sizes up to its rank, a sharding by the lists up to the rank,
--- a list by the axes up to its count; the places past these are free, and nothing reads them. Assumes nothing.
+-- What the parts of the check (src/lib.rt) ask for and answer, in the rules' own judgements: so many outermost steps in turn, the whole file, a state. A
+-- mesh is told by its n sizes, a table by the sizes up to its rank, a sharding by the lists up to the rank, a list by the axes up to its count; the
+-- places past these are free, and nothing reads them. Assumes nothing.
 use Prim.Native.Nat.{ℕ, _*_, _≤_}
 use mathlib.Core.Path.{_≡_}
+use mathlib.Core.Bool.{true}
 use mathlib.Core.List.{List, []}
 use lib.ListN.{length, take}
 use Rattle.rules.specs.Mesh.{devices as devicesOf, plainOrder}
 use Rattle.rules.specs.Sharding.{Sharding, shardSizes}
-use Rattle.rules.specs.Limits.{mostAxes, mostDevices, mostWords, mostDims, mostSteps}
+use Rattle.rules.specs.Limits.{mostAxes, mostDevices, mostWords, mostDims, mostSteps, leastBytes, mostBytes}
 use Rattle.rules.specs.Refusals.{Judged, accept, _>>=_}
-use Rattle.rules.specs.PlanFile.{Read, stepsAt, judgeFront, Plan, judge, announced, largestShard, room, StateAnswer, stateOf}
+use Rattle.rules.specs.PlanFile.{Read, outermostAt, judgeFront, Plan, judge, announced, largestShard, room, StateAnswer, stepsRun, stateOf}
 use Rattle.rules.specs.Types.{dimsOf, shardingOf, meshOf, sizesOf, WithinPlaces}
 use Rattle.rules.specs.Calls.{CheckAnswer}
+use Rattle.rules.specs.declared.Mesh.{Mesh}
 use Rattle.rules.specs.declared.Sharding as code
+use Rattle.rules.specs.declared.Table.{Table}
 use Rattle.reader.specs.Reading.{reading, Tells, orderIn, noLists, Counted}
 use Rattle.judge.specs.Step.{Sharded}
 use Rattle.plan.specs.declared.Walk.{Walk}
 use Rattle.plan.specs.declared.Whole.{Whole}
 use Rattle.plan.specs.declared.State.{State}
 
--- ---- steps in turn
+-- ---- outermost steps in turn
 
--- the sharding after the steps, the one after those up to a state, and the most words that a shard has on the way, start included: the same in any
--- order of the devices, here the plain one
+-- what is asked before so many of them, which begin at a position with a sharding: they stand behind the header, and in a file within its limit
+pub record Begins (file : List ℕ) (at count : ℕ) (mesh : Mesh) (table : Table) (s : code.Sharding) : Type 0 where
+  pub ready : Sharded mesh table s
+  pub few : count ≤ mostSteps
+  pub behind : leastBytes ≤ at
+  pub inside : at ≤ length file
+  pub short : length file ≤ mostBytes
+
+-- the sharding after the steps, the one after those up to a state, and the most words that a shard has on the way, start included and inside blocks:
+-- the same in any order of the devices, here the plain one
 pub record Walked : Type 0 where
   pub sharding : Sharding
   pub kept : Sharding
   pub most : ℕ
 
 abbrev pub walkedOf : Plan → ℕ → Walked
-walkedOf p state = record { sharding = announced p (length (p .steps)); kept = announced p state; most = largestShard p }
+walkedOf p state = record { sharding = announced p (length (p .steps)); kept = announced p (stepsRun p state); most = largestShard p }
 
 unfoldable pub walkAt : (mesh sizes : List ℕ) → (state count : ℕ) → List ℕ → ℕ → Sharding → Judged (Read Walked)
-unfolding stepsAt
+unfolding outermostAt
 walkAt mesh sizes state count file at s = do
-  ts ← stepsAt mesh sizes 1 count file at s
+  ts ← outermostAt true mesh sizes file 0 count 1 at s
   accept (record {
-    value = walkedOf (record { mesh = mesh; order = plainOrder (devicesOf mesh); sizes = sizes; start = s; steps = ts .value }) state;
+    value = walkedOf (record {
+      mesh = mesh;
+      order = plainOrder (devicesOf mesh);
+      sizes = sizes;
+      start = s;
+      records = ts .records;
+      steps = ts .steps;
+      runs = ts .runs;
+    }) state;
     next = ts .next;
   })
 
@@ -62,7 +82,7 @@ planAnswer p = record {
   mesh = p .mesh;
   sizes = p .sizes;
   start = p .start;
-  steps = length (p .steps);
+  steps = length (p .runs);
   most = largestShard p;
   last = announced p (length (p .steps));
 }
@@ -76,7 +96,7 @@ wholeOf file = do
 
 -- beside a refusal: no axes, no dimensions, no steps
 abbrev pub noPlan : Plan
-noPlan = record { mesh = []; order = plainOrder 1; sizes = []; start = noLists 0; steps = [] }
+noPlan = record { mesh = []; order = plainOrder 1; sizes = []; start = noLists 0; records = []; steps = []; runs = [] }
 
 abbrev pub wholeAnswer : Whole → WholeAnswer
 wholeAnswer w = record {
@@ -92,9 +112,9 @@ pub record WholeTells (j : Judged (Read WholeAnswer)) (w : Whole) : Type 0 where
   pub tells : Tells (planAnswer noPlan) j (w .next) (wholeAnswer w)
   pub counted : Counted (w .devices) (w .mesh) (w .table)
 
--- the sharding that the plan announces after so many steps
+-- the sharding that the plan announces after so many outermost steps
 abbrev pub Keeps : List ℕ → ℕ → ℕ → code.Sharding → Type 0
-Keeps file state rank kept = (p : Plan) → judge file ≡ accept p → announced p state ≡ shardingOf rank kept
+Keeps file state rank kept = (p : Plan) → judge file ≡ accept p → announced p (stepsRun p state) ≡ shardingOf rank kept
 
 -- w holds the plan p, whose steps begin at `at`: what the code asks of it
 pub record HoldsPlan (file : List ℕ) (at : ℕ) (w : Whole) (p : Plan) : Type 0 where
@@ -103,13 +123,17 @@ pub record HoldsPlan (file : List ℕ) (at : ℕ) (w : Whole) (p : Plan) : Type 
   pub sizes-are : p .sizes ≡ sizesOf (w .table)
   pub rank-is : length (p .sizes) ≡ w .table .rank
   pub start-is : p .start ≡ shardingOf (w .table .rank) (w .start)
-  pub steps-are : length (p .steps) ≡ w .steps
+  pub steps-are : length (p .runs) ≡ w .steps
   pub devices-are : devicesOf (p .mesh) ≡ w .devices
   pub room-is : room p ≡ w .devices * w .most
   pub last-is : announced p (length (p .steps)) ≡ shardingOf (w .table .rank) (w .last)
   pub opens : judgeFront file ≡ accept (record { mesh = p .mesh; order = p .order; sizes = p .sizes; start = p .start; next = at })
   pub ready : Sharded (w .mesh) (w .table) (w .start)
-  pub begins : stepsAt (p .mesh) (p .sizes) 1 (w .steps) file at (p .start) ≡ accept (record { value = p .steps; next = length file })
+  pub begins : outermostAt true (p .mesh) (p .sizes) file 0 (w .steps) 1 at (p .start)
+      ≡ accept (record { records = p .records; steps = p .steps; runs = p .runs; next = length file })
+  pub behind : leastBytes ≤ at
+  pub inside : at ≤ length file
+  pub short : length file ≤ mostBytes
 
 -- what the check answers of it, where its numbers are within their limits
 abbrev pub answerOf : Whole → CheckAnswer

@@ -1,16 +1,15 @@
-// The check of a plan file: its steps in turn after what stands before them, and the answer.
+// The check of a plan file: its outermost steps in turn after what stands before them, and the answer.
 // Order and numbers are those of rules/specs/PlanFile.antt; specs/Parts.antt says what the parts answer.
 ghost use mathlib.Core.Path.{_≡_};
 ghost use mathlib.Core.List.{List};
 ghost use Prim.Native.Nat.{ℕ, _≤_, _<_};
-ghost use Rattle.rules.specs.Limits.{mostSteps};
 ghost use Rattle.rules.specs.Refusals.{accept, refusedAs};
 ghost use Rattle.rules.specs.Types.{shardingOf, meshOf, sizesOf};
 ghost use Rattle.rules.specs.Calls.{checkedOf};
 ghost use Rattle.rules.specs.Promises.{CheckPromise};
-ghost use Rattle.judge.specs.Step.{Sharded};
-ghost use Rattle.plan.specs.Parts.{walkAt, walkRead};
+ghost use Rattle.plan.specs.Parts.{Begins, walkAt, walkRead};
 ghost use Rattle.plan.specs.Parts.{wholeOf, WholeTells, Keeps, Bounded, answerOf, stateAt, StateTells, Shaped};
+use blocks::judge_item;
 use dims::lists_within;
 use dims::no_lists;
 use dims::shard_of;
@@ -30,11 +29,9 @@ use rules::Sharding;
 use rules::Step;
 use rules::Table;
 use rules::Totals;
-use taking::larger;
 use taking::shard_words;
-use taking::take_step;
 
-// The sharding after some steps, the one that was kept on the way, the most words that a shard had, and where the next byte is.
+// The sharding after some outermost steps, the one that was kept on the way, the most words that a shard had, and where the next byte is.
 struct Walk {
     next: Next,
     most: usize,
@@ -62,7 +59,7 @@ fn kept_until(state: usize, k: usize, earlier: Sharding, later: Sharding) -> Sha
     if k < state { later } else { earlier }
 }
 
-// So many steps in turn, from the start; the sharding after a state's steps is kept, or the last one where there are fewer.
+// So many outermost steps in turn, from the start; the sharding after a state's steps is kept, or the last one where there are fewer.
 fn walk_steps(
     file: &[u8],
     at: usize,
@@ -72,31 +69,41 @@ fn walk_steps(
     table: Table,
     start: Sharding,
 ) -> Walk
-    requires { ⌜ Sharded mesh table start × (count ≤ mostSteps) ⌝ }
+    requires { ⌜ Begins (now file) at count mesh table start ⌝ }
     ensures { λ r. ⌜ walkRead (table .rank) r ≡ walkAt (meshOf mesh) (sizesOf table) state count (now (file .entry)) at (shardingOf (table .rank) start) ⌝ }
 {
-    let mut sharding = start;
-    let mut kept = start;
     let total = words(table);
+    let depth = Step::MOST_DEPTH;
+    let mut after = start;
+    let mut kept = start;
     let mut most = shard_words(total, mesh, table, start);
     let mut place = at;
+    let mut number: u16 = 1;
+    let mut ran: usize = 0;
     let mut k: usize = 0;
     while k < count {
-        let taken = take_step(file, place, (k + 1) as u16, mesh, table, sharding);
-        let next = taken.next;
+        let item = judge_item(file, place, number, depth, mesh, table, total, most, after);
+        let next = item.next;
         let Next::At(end) = next else {
             return Walk::refused(next.refusal(), start);
         };
-        sharding = taken.sharding;
-        kept = kept_until(state, k, kept, sharding);
-        most = larger(most, shard_words(total, mesh, table, sharding));
+        ran = ran + item.runs;
+        if Step::MOST_RUN < ran {
+            let reason = Reason::TooManyRun;
+            let step = number;
+            return Walk::refused(Refusal { reason, step }, start);
+        }
         place = end;
+        number = item.number;
+        most = item.largest;
+        after = item.sharding;
+        kept = kept_until(state, k, kept, after);
         k += 1;
     }
     Walk {
         next: Next::At(place),
         most,
-        sharding,
+        sharding: after,
         kept,
     }
 }
@@ -270,7 +277,7 @@ impl State {
     }
 }
 
-// What the plan announces after so many steps; 34 where it has fewer.
+// What the plan announces after so many outermost steps; 34 where it has fewer.
 pub fn state_after(file: &[u8], state: usize) -> State
     ensures { λ r. ⌜ StateTells (now (file .entry)) (stateAt (now (file .entry)) state) r × Shaped r ⌝ }
 {
