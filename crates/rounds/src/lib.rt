@@ -6,8 +6,9 @@ ghost use mathlib.Core.Bool.{true};
 ghost use lib.ListN.{length};
 ghost use Rattle.rules.specs.Lists.{pick};
 ghost use Rattle.rules.specs.Types.{meshOf, sizesOf};
-ghost use Rattle.rules.specs.PlanFile.{stepsAt, plainAt, isRepeat, itemAt};
+ghost use Rattle.rules.specs.PlanFile.{stepsAt, plainAt, itemAt};
 ghost use Rattle.rounds.specs.Rounds.{Turning, Turned, standsAfter, blockAt, CanRun, HasRun};
+use blocks::is_repeat;
 use dims::shard_of;
 use dims::words;
 use reader::Next;
@@ -126,16 +127,6 @@ fn run_plain(
         in_work,
         sharding,
     }
-}
-
-// Whether a repeat stands at this byte.
-fn is_repeat(file: &[u8], at: usize) -> bool
-    ensures { λ r. ⌜ r ≡ isRepeat (now (file .entry)) at ⌝ }
-{
-    if file.len() <= at {
-        return false;
-    }
-    file[at] == 9
 }
 
 // A repeat, its inner steps nested at most so deep: rounds of them, each from the sharding that the repeat was given, which is the one after each round

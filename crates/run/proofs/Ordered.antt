@@ -6,7 +6,7 @@ use mathlib.Core.Path.{_≡_, refl, sym, ap, _∙_, subst}
 use mathlib.Core.Bool.{Bool, true, false, not}
 use mathlib.Core.List.{List, _++_}
 use native.Mathlib.Omega.{arith}
-use lib.ListN.{length, take, drop}
+use lib.ListN.{length, take}
 use lib.Seq.{take-length, take-at}
 use Rattle.rules.specs.Lists.{tab, pick, inTurn, product}
 use Rattle.rules.specs.Mesh.{devices, plainOrder, Rearrangement}
@@ -16,19 +16,19 @@ use Rattle.rules.specs.Collectives.{Step, Shards, stepped, Stands}
 use Rattle.rules.specs.Refusals.{accept}
 use Rattle.rules.specs.PlanFile.{u16At, edition, carriesOrder, Plan, judge, announced, announcedShape, room}
 use Rattle.rules.specs.Calls.{shardsAfter, lastState}
-use Rattle.rules.specs.Types.{shardingOf, meshOf, sizesOf}
 use Rattle.rules.specs.declared.Sharding as code
 use Rattle.rules.proofs.Buffers.{length-tabulate}
 use Rattle.rules.proofs.Judging.{accept-inj}
-use Rattle.rules.proofs.Accepted.{AcceptedPlan, accepted}
+use Rattle.rules.proofs.Accepted.{accepted}
 use Rattle.rules.proofs.Room.{state}
 use Rattle.rules.proofs.Whole.{plan-shapes}
-use Rattle.reader.specs.Reading.{orderOf, orderIn}
+use Rattle.reader.specs.Reading.{orderOf}
 use Rattle.order.specs.Order.{byPlace, placesOf, ShardsFit}
 use Rattle.order.proofs.Shards.{order-fits, inverse-fits, placed-stands, numbered, plain-stands, plain-tabulate}
 use Rattle.plan.specs.Parts.{HoldsPlan}
 use Rattle.plan.specs.declared.Whole.{Whole}
-use Rattle.run.specs.Turns.{shapeOf, Runs, RunsOrdered, StartStands, StepsTaken, LastNumbered, BeginsWithLast}
+use Rattle.rounds.specs.Rounds.{shapeOf}
+use Rattle.run.specs.Runs.{Runs, RunsOrdered, StartStands, StepsTaken, LastNumbered, BeginsWithLast}
 
 -- buffers of the same lengths, and the two for each other
 pub as-long : {file : List ℕ} {at : ℕ} {w : Whole} {works spares work spare : ℕ} → Runs file at w works spares → work ≡ works → spare ≡ spares → Runs file at w work spare

@@ -1,2 +1,2 @@
 -- What the run's parts ask for and leave.
-pub mod Turns
+pub mod Runs

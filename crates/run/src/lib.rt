@@ -1,5 +1,5 @@
 // The run of a plan: its judgement, the tests of the two buffers, the steps in turn, and zeros behind the last state.
-// What it answers and leaves is defined in rules/specs/Calls.antt (runOf); rules/specs/Promises.antt has its promise, specs/Turns.antt what the parts
+// What it answers and leaves is defined in rules/specs/Calls.antt (runOf); rules/specs/Promises.antt has its promise, specs/Runs.antt what the parts
 // ask for and leave.
 ghost use mathlib.Core.Path.{_≡_};
 ghost use Prim.Native.Nat.{_*_, _≤_};
@@ -11,7 +11,8 @@ ghost use Rattle.rules.specs.Types.{WithinPlaces};
 ghost use Rattle.rules.specs.Promises.{RunPromise};
 ghost use Rattle.plan.specs.Parts.{Bounded, answerOf};
 ghost use Rattle.order.specs.Order.{byPlace, ShardsFit};
-ghost use Rattle.run.specs.Turns.{shapeOf, Turning, Turned, standsAfter, Runs, RunsOrdered, StepsTaken, BeginsWithLast};
+ghost use Rattle.rounds.specs.Rounds.{shapeOf};
+ghost use Rattle.run.specs.Runs.{Runs, RunsOrdered, StepsTaken, BeginsWithLast};
 use dims::shard_of;
 use dims::words;
 use order::invert;
@@ -21,19 +22,15 @@ use plan::judge_file;
 use reader::Next;
 use reader::carries_order;
 use reader::read_order;
+use rounds::Progress;
+use rounds::run_row;
 use rules::Device;
-use rules::Kind;
-use rules::Mesh;
 use rules::PlanFile;
 use rules::Reason;
 use rules::Refusal;
 use rules::RunOutcome;
 use rules::Sharding;
-use rules::Table;
-use step::in_place;
-use step::step_from;
-use taking::Taken;
-use taking::take_step;
+use rules::Step;
 
 // Zeros.
 fn clear(words: &mut [u32])
@@ -61,66 +58,8 @@ fn take_home(work: &mut [u32], spare: &mut [u32])
     }
 }
 
-// Step k, read again and done: from the state in here, the next one at the front of here where the step is done in place, else at that of there. The
-// other words of that buffer stay, and so does the other buffer.
-fn do_step(
-    file: &[u8],
-    at: usize,
-    k: u16,
-    mesh: Mesh,
-    table: Table,
-    sharding: Sharding,
-    here: &mut [u32],
-    there: &mut [u32],
-) -> Taken
-    requires { ⌜ Turning (now file) at k mesh table sharding (length (now here)) (length (now there)) ⌝ }
-    ensures { λ r. ⌜ Turned (now (file .entry)) at k mesh table sharding (now (here .entry)) (now (there .entry)) (now (here .exit)) (now (there .exit)) r ⌝ }
-{
-    let taken = take_step(file, at, k, mesh, table, sharding);
-    let before = shard_of(table, sharding.dims, mesh);
-    let after = taken.sharding;
-    let size = words(shard_of(table, after.dims, mesh));
-    let n = mesh.n;
-    let axes = mesh.sizes;
-    let rank = before.rank;
-    let shape = before.sizes;
-    step_from(here, there, &axes[..n], &shape[..rank], taken.step, size);
-    taken
-}
-
-// Whether the state stands in work after a step: one that moves words leaves it in the other buffer.
-fn stands_after(kind: Kind, in_work: bool) -> bool
-    ensures { λ r. ⌜ r ≡ standsAfter kind in_work ⌝ }
-{
-    if in_place(kind) { in_work } else { !in_work }
-}
-
-// Step k between the two buffers: from the one in which the state stands.
-fn do_turn(
-    file: &[u8],
-    at: usize,
-    k: u16,
-    mesh: Mesh,
-    table: Table,
-    sharding: Sharding,
-    in_work: bool,
-    work: &mut [u32],
-    spare: &mut [u32],
-) -> Taken
-    requires { ⌜ Turning (now file) at k mesh table sharding (length (pick in_work (now work) (now spare))) (length (pick in_work (now spare) (now work))) ⌝ }
-    ensures { λ r. ⌜ Turned (now (file .entry)) at k mesh table sharding
-        (pick in_work (now (work .entry)) (now (spare .entry))) (pick in_work (now (spare .entry)) (now (work .entry)))
-        (pick in_work (now (work .exit)) (now (spare .exit))) (pick in_work (now (spare .exit)) (now (work .exit))) r ⌝ }
-{
-    if in_work {
-        do_step(file, at, k, mesh, table, sharding, work, spare)
-    } else {
-        do_step(file, at, k, mesh, table, sharding, spare, work)
-    }
-}
-
-// The steps in turn, from the state by place in work, its home, or in spare. Answers whether the last state stands at the front of work; else it stands at that of
-// spare.
+// The steps in turn, from the state by place in work, its home, or in spare. Answers whether the last state stands at the front of work; else it stands
+// at that of spare.
 fn run_steps(
     file: &[u8],
     at: usize,
@@ -132,36 +71,24 @@ fn run_steps(
     requires { ⌜ Runs (now file) at whole (length (now work)) (length (now spare)) ⌝ }
     ensures { λ r. ⌜ StepsTaken (now (file .entry)) (pick home (now (work .entry)) (now (spare .entry))) (pick r (now (work .exit)) (now (spare .exit))) ⌝ }
 {
-    let steps = whole.steps;
-    let mut sharding = whole.start;
-    let mut place = at;
-    let mut in_work = home;
-    let mut k: usize = 0;
-    while k < steps {
-        let number = (k + 1) as u16;
-        let taken = do_turn(
-            file,
-            place,
-            number,
-            whole.mesh,
-            whole.table,
-            sharding,
-            in_work,
-            work,
-            spare,
-        );
-        let next = taken.next;
-        let Next::At(end) = next else {
-            return in_work;
-        };
-        let step = taken.step;
-        let kind = step.kind;
-        sharding = taken.sharding;
-        place = end;
-        in_work = stands_after(kind, in_work);
-        k += 1;
-    }
-    in_work
+    let sharding = whole.start;
+    let first = Progress {
+        at,
+        number: 1,
+        in_work: home,
+        sharding,
+    };
+    let end = run_row(
+        file,
+        whole.mesh,
+        whole.table,
+        whole.steps,
+        Step::MOST_DEPTH,
+        first,
+        work,
+        spare,
+    );
+    end.in_work
 }
 
 // The words of one shard of a sharding.

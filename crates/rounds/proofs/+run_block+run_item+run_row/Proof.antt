@@ -16,7 +16,7 @@ use Rattle.rounds.proofs.+run_block+run_item+run_row.Lts-run_item as ru
 use Rattle.rounds.proofs.run_row.Reads as run-row
 use Rattle.rounds.proofs.run_row.Kinds as run-row-kinds
 use Rattle.rounds.proofs.+run_block+run_item+run_row.Lts-run_row as run-row-lts
-use Rattle.rounds.proofs.is_repeat.Reads as is-repeat-reads
+use Rattle.blocks.proofs.is_repeat.Reads as is-repeat-reads
 use Rattle.rounds.proofs.run_plain.Reads as run-plain-reads
 use Rattle.rounds.proofs.+run_block+run_item+run_row.{statement}
 use Rattle.rounds.proofs.+run_block+run_item+run_row.Tie.{close}

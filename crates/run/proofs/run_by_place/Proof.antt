@@ -9,7 +9,7 @@ use Rattle.rules.specs.Mesh.{Rearrangement}
 use Rattle.rules.specs.PlanFile.{u16At}
 use Rattle.order.specs.Order.{placesOf, ShardsFit}
 use Rattle.plan.proofs.Wholes.{bounded}
-use Rattle.run.specs.Turns.{RunsOrdered}
+use Rattle.run.specs.Runs.{RunsOrdered}
 use Rattle.run.proofs.Ordered.{as-long, swapped, orderRead, rearranged, start-fits, last-fits, start-stands, last-numbered, begins-ordered}
 use Rattle.run.proofs.run_by_place.Statement.{statement}
 use Rattle.run.proofs.run_by_place.Tie as tie

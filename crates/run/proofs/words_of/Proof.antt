@@ -1,6 +1,5 @@
 use borrow.Author.Needs.{needs}
 use mathlib.Core.Path.{ap, _∙_}
-use mathlib.Core.List.{List}
 use Rattle.rules.specs.Lists.{product}
 use Rattle.run.proofs.words_of.Statement.{statement}
 use Rattle.run.proofs.words_of.Tie as tie
