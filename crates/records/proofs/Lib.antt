@@ -1,0 +1,5 @@
+-- Laws of records and their files, from below.
+pub mod Places
+pub mod Moved
+pub mod Lists
+pub mod Given

@@ -1,0 +1,3 @@
+-- Document 02, Ask 2: plans given as records, and their files.
+pub mod Records
+pub mod Writing
