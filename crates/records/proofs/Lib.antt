@@ -3,3 +3,4 @@ pub mod Places
 pub mod Moved
 pub mod Lists
 pub mod Given
+pub mod Written
