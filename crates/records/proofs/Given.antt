@@ -67,7 +67,7 @@ kind-first (allGather Gs) = (_, refl, omega arith)
 kind-first (allReduce L) = (_, refl, omega arith)
 kind-first (allToAll source target L) = (_, refl, omega arith)
 
-known-append : (l m : List Record) → map known (l ++ m) ≡ map known l ++ map known m
+pub known-append : (l m : List Record) → map known (l ++ m) ≡ map known l ++ map known m
 known-append [] m = refl
 known-append (a ∷ l) m = ap (λ (z : List Given). known a ∷ z) (known-append l m)
 

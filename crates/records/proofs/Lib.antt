@@ -4,3 +4,4 @@ pub mod Moved
 pub mod Lists
 pub mod Given
 pub mod Written
+pub mod Spelled
