@@ -310,7 +310,7 @@ module _ (mesh sizes file : List ℕ) where
       by-closes (repeats && isRepeat file at) (stepsAt (itemAt repeats mesh sizes file depth))
       (steps-close (itemAt repeats mesh sizes file depth) (item-closes repeats depth)) k at s w e
 
-  outermost-counted : (repeats : Bool) (ran count k at : ℕ) (s : Sharding) (o : Outermost) → outermostAt repeats mesh sizes file ran count k at s ≡ accept o
+  pub outermost-counted : (repeats : Bool) (ran count k at : ℕ) (s : Sharding) (o : Outermost) → outermostAt repeats mesh sizes file ran count k at s ≡ accept o
       → (rest : List Given) → outermost (map known (o .records) ++ rest) ≡ count + outermost rest
   unfolding outermostAt
   outermost-counted repeats ran zero k at s o e rest =

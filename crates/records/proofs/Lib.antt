@@ -5,3 +5,4 @@ pub mod Lists
 pub mod Given
 pub mod Written
 pub mod Spelled
+pub mod Again
