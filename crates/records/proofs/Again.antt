@@ -3,7 +3,7 @@ use Prim.Native.Nat.{ℕ, zero, suc, _+_, _*_, _/_, _≤_, _<_}
 use mathlib.Core.Path.{_≡_, refl, sym, ap, _∙_, subst}
 use mathlib.Core.Logic.{⊎-elim}
 use mathlib.Core.Bool.{Bool, true, false, not, _&&_}
-use mathlib.Core.List.{List, [], _∷_, _++_, map, append-nil}
+use mathlib.Core.List.{List, [], _∷_, _++_, map, append-assoc, append-nil}
 use native.Mathlib.Omega.{arith}
 use lib.ListN.{length, getD, drop, length-append, List·getD-eq-default}
 use lib.Seq.{drop-length}
@@ -290,3 +290,104 @@ module _ (file : List ℕ) (bytes : Bytes file) where
       } in
       subst FrontSpelled (accept-inj (z .1))
       (subst (λ (x : Read MeshAndTable). FrontSpelled (record { mesh = x .value .mesh; order = x .value .order; sizes = x .value .sizes; start = s .0 .value; next = s .0 .next })) both whole)
+
+  -- ---- the whole file
+
+  abbrev planOf : Front → Outermost → Plan
+  planOf f o = record {
+    mesh = f .mesh;
+    order = f .order;
+    sizes = f .sizes;
+    start = f .start;
+    records = o .records;
+    steps = o .steps;
+    runs = o .runs;
+  }
+
+  again : (f : Front) (o : Outermost) → FrontSpelled f → Spells file (f .next) (o .next) (stepsBytes (map known (o .records)))
+      → stepCount file ≡ outermost (map known (o .records)) → o .next ≡ length file → fileOf (recordsOf (planOf f o)) ≡ file
+  unfolding fileOf header fileLength stepsStart
+  again f o a b count end =
+      let r : Records = recordsOf (planOf f o) in
+      let M : List ℕ = u16sBytes (r .mesh) in
+      let O : List ℕ = u16sBytes (r .order) in
+      let S : List ℕ = u16sBytes (r .sizes) in
+      let H : List ℕ = shardingBytes (editionOf r) (r .start) in
+      let B : List ℕ = stepsBytes (r .steps) in
+      let front : Spells file leastBytes (f .next) (M ++ (O ++ (S ++ H))) =
+      subst (λ (k : ℕ). Spells file leastBytes (f .next) (M ++ (O ++ (S ++ shardingBytes k (r .start))))) (sym (a .edition-is)) (a .spells) in
+      let lengths : length (M ++ (O ++ (S ++ H))) ≡ 2 * length (r .mesh) + (2 * length (r .order) + (2 * length (r .sizes) + length H)) =
+      simp (length-append, length-u16s) refl in
+      let steps-at : stepsStart r ≡ f .next = omega (arith, front .ends, lengths) in
+      let total-is : fileLength r ≡ length file = omega (arith, steps-at, b .ends, end) in
+      let head : tab 9 (λ i. u16At file (0 + 2 * i)) ≡ header r =
+      rw (
+        sym (a .edition-is),
+        a .axes-are,
+        a .rank-is,
+        count,
+        a .mesh-at,
+        a .tensor-at,
+        a .sharding-at,
+        a .steps-at ∙ sym steps-at,
+        a .total-is ∙ sym total-is,
+      ) in
+      let h : Spells file 0 leastBytes (u16sBytes (header r)) = subst (λ (l : List ℕ). Spells file 0 leastBytes (u16sBytes l)) head (numbers-spell file bytes 0 9 (a .long)) in
+      let w : Spells file 0 (o .next) (u16sBytes (header r) ++ ((M ++ (O ++ (S ++ H))) ++ B)) =
+      join file 0 leastBytes (o .next) (u16sBytes (header r)) ((M ++ (O ++ (S ++ H))) ++ B) h (join file leastBytes (f .next) (o .next) (M ++ (O ++ (S ++ H))) B front b) in
+      let none : drop (o .next) file ≡ [] = ap (λ (k : ℕ). drop k file) end ∙ drop-length file in
+      let grouped : (M ++ (O ++ (S ++ H))) ++ B ≡ M ++ (O ++ (S ++ (H ++ B))) = four-joined M O S H B in
+      ap (λ (l : List ℕ). u16sBytes (header r) ++ l) (sym grouped) ∙ sym (append-nil _)
+      ∙ ap (λ (l : List ℕ). (u16sBytes (header r) ++ ((M ++ (O ++ (S ++ H))) ++ B)) ++ l) (sym none) ∙ sym (w .is)
+    where
+      four-joined : (m o s h b : List ℕ) → (m ++ (o ++ (s ++ h))) ++ b ≡ m ++ (o ++ (s ++ (h ++ b)))
+      four-joined m o s h b =
+          append-assoc m (o ++ (s ++ h)) b
+          ∙ ap (λ (l : List ℕ). m ++ l) (append-assoc o (s ++ h) b ∙ ap (λ (l : List ℕ). o ++ l) (append-assoc s h b))
+
+  -- the parts of an accepted file
+  parts : (p : Plan) → judge file ≡ accept p
+      → (f : Front) × (o : Outermost) × FrontSpelled f × (fileOf (recordsOf (planOf f o)) ≡ file) × (planOf f o ≡ p)
+  unfolding judgeBy
+  parts p e =
+      let f = bind-inv (judgeFront file) _ p e in
+      let ts = bind-inv (outermostAt true (f .0 .mesh) (f .0 .sizes) file 0 (stepCount file) 1 (f .0 .next) (f .0 .start)) _ p (f .2) in
+      let o : Outermost = ts .0 in
+      let z = need-inv 0 (eqb (o .next) (length file)) 9 _ p (ts .2) in
+      let a : FrontSpelled (f .0) = front-spelled (f .0) (f .1) in
+      let one = itemAt true (f .0 .mesh) (f .0 .sizes) file mostDepth in
+      let b : Spells file (f .0 .next) (o .next) (stepsBytes (map known (o .records))) =
+      steps-spell (f .0 .mesh) (f .0 .sizes) file one (item-spells (f .0 .mesh) (f .0 .sizes) file true mostDepth) (stepCount file) 1 (f .0 .next) (f .0 .start)
+      (readBy (f .0 .mesh) (f .0 .sizes) file (f .0 .start) o) (a .spells .inside)
+      (outermost-steps (f .0 .mesh) (f .0 .sizes) file true 0 (stepCount file) 1 (f .0 .next) (f .0 .start) o (ts .1)) in
+      let count : outermost (map known (o .records) ++ []) ≡ stepCount file + outermost [] =
+      outermost-counted (f .0 .mesh) (f .0 .sizes) file true 0 (stepCount file) 1 (f .0 .next) (f .0 .start) o (ts .1) [] in
+      let none : outermost [] ≡ 0 = unfold outermostFrom in refl in
+      let counted : stepCount file ≡ outermost (map known (o .records)) =
+      (let x : stepCount file ≡ outermost (map known (o .records) ++ []) = omega (arith, count, none) in
+      x ∙ ap outermost (append-nil (map known (o .records)))) in
+      (f .0, o, a, again (f .0) o a b counted (eqb→eq (o .next) (length file) (z .0)), accept-inj (z .1))
+
+  -- THE FILE OF AN ACCEPTED FILE'S RECORDS IS THAT FILE
+  pub written-again : (p : Plan) → judge file ≡ accept p → fileOf (recordsOf p) ≡ file
+  written-again p e = let x = parts p e in subst (λ (q : Plan). fileOf (recordsOf q) ≡ file) (x .4) (x .3)
+
+  -- and the writer takes them
+  pub again-fits : (p : Plan) → judge file ≡ accept p → Fits (recordsOf p)
+  again-fits p e =
+      let x = parts p e in
+      let f : FrontSpelled (x .0) = x .2 in
+      let q : Plan = planOf (x .0) (x .1) in
+      let a : AcceptedPlan q = accepted file q (e ∙ ap accept (sym (x .4))) in
+      subst (λ (y : Plan). Fits (recordsOf y)) (x .4) (record {
+        short = subst (λ z. z ≤ mostBytes) (sym (ap length (x .3)) ∙ length-file (recordsOf q)) (f .short);
+        mesh-shorts = f .mesh-shorts;
+        order-shorts = f .order-shorts;
+        order-all = f .order-all;
+        sizes-shorts = f .sizes-shorts;
+        dims-ranked = sym (rank-is (q .mesh) (q .sizes) (a .within .sizes-pos) (q .start) (a .start-is));
+        steps-ranked = pass-ranked (q .mesh) (q .sizes) (a .within .sizes-pos) (q .start) (q .records) (a .start-is) (a .pass-fine);
+      })
+
+  pub taken-again : (p : Plan) → judge file ≡ accept p → judgeRecords (recordsOf p) ≡ accept p
+  taken-again p e = sym (file-judged (recordsOf p) (again-fits p e)) ∙ ap judge (written-again p e) ∙ e
