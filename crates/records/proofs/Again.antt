@@ -85,11 +85,12 @@ use Rattle.records.specs.Records.{
   header,
   fileOf,
 }
-use Rattle.records.specs.Writing.{judgeRecords}
-use Rattle.records.proofs.Lists.{RankedStep}
-use Rattle.records.proofs.Given.{AllRanked, outermost-counted}
-use Rattle.records.proofs.Written.{Shorts, length-u16s, Fits, length-file, file-judged}
-use Rattle.records.proofs.Spelled.{Bytes, Spells, join, nothing, numbers-spell, sharding-spells, steps-spell, item-spells}
+use Rattle.records.specs.Writing.{judgeRecords, writeOf}
+use Rattle.records.specs.RoundTrip.{Shorts, Bytes, RankedStep, AllRanked, Fits, WrittenAgain, OneFile}
+use Rattle.records.proofs.Lists.{is-le}
+use Rattle.records.proofs.Given.{outermost-counted}
+use Rattle.records.proofs.Written.{length-u16s, length-file, file-judged}
+use Rattle.records.proofs.Spelled.{Spells, join, nothing, numbers-spell, sharding-spells, steps-spell, item-spells}
 
 -- ---- the order as a record gives it
 
@@ -369,8 +370,8 @@ module _ (file : List ℕ) (bytes : Bytes file) where
       (f .0, o, a, again (f .0) o a b counted (eqb→eq (o .next) (length file) (z .0)), accept-inj (z .1))
 
   -- THE FILE OF AN ACCEPTED FILE'S RECORDS IS THAT FILE
-  pub written-again : (p : Plan) → judge file ≡ accept p → fileOf (recordsOf p) ≡ file
-  written-again p e = let x = parts p e in subst (λ (q : Plan). fileOf (recordsOf q) ≡ file) (x .4) (x .3)
+  spelled-again : (p : Plan) → judge file ≡ accept p → fileOf (recordsOf p) ≡ file
+  spelled-again p e = let x = parts p e in subst (λ (q : Plan). fileOf (recordsOf q) ≡ file) (x .4) (x .3)
 
   -- and the writer takes them
   pub again-fits : (p : Plan) → judge file ≡ accept p → Fits (recordsOf p)
@@ -381,13 +382,33 @@ module _ (file : List ℕ) (bytes : Bytes file) where
       let a : AcceptedPlan q = accepted file q (e ∙ ap accept (sym (x .4))) in
       subst (λ (y : Plan). Fits (recordsOf y)) (x .4) (record {
         short = subst (λ z. z ≤ mostBytes) (sym (ap length (x .3)) ∙ length-file (recordsOf q)) (f .short);
-        mesh-shorts = f .mesh-shorts;
-        order-shorts = f .order-shorts;
         order-all = f .order-all;
-        sizes-shorts = f .sizes-shorts;
-        dims-ranked = sym (rank-is (q .mesh) (q .sizes) (a .within .sizes-pos) (q .start) (a .start-is));
-        steps-ranked = pass-ranked (q .mesh) (q .sizes) (a .within .sizes-pos) (q .start) (q .records) (a .start-is) (a .pass-fine);
+        proper = record {
+          mesh-shorts = f .mesh-shorts;
+          order-shorts = f .order-shorts;
+          sizes-shorts = f .sizes-shorts;
+          dims-ranked = sym (rank-is (q .mesh) (q .sizes) (a .within .sizes-pos) (q .start) (a .start-is));
+          steps-ranked = pass-ranked (q .mesh) (q .sizes) (a .within .sizes-pos) (q .start) (q .records) (a .start-is) (a .pass-fine);
+        };
       })
 
   pub taken-again : (p : Plan) → judge file ≡ accept p → judgeRecords (recordsOf p) ≡ accept p
-  taken-again p e = sym (file-judged (recordsOf p) (again-fits p e)) ∙ ap judge (written-again p e) ∙ e
+  taken-again p e = sym (file-judged (recordsOf p) (again-fits p e)) ∙ ap judge (spelled-again p e) ∙ e
+
+pub written-again : WrittenAgain
+unfolding writeOf
+written-again file bytes p e =
+    let w : fileOf (recordsOf p) ≡ file = spelled-again file bytes p e in
+    let l : fileLength (recordsOf p) ≡ length file = sym (length-file (recordsOf p)) ∙ ap length w in
+    (
+      w,
+      λ out h. rw (
+        taken-again file bytes p e,
+        is-le (fileLength (recordsOf p)) mostBytes (again-fits file bytes p e .short),
+        is-le (fileLength (recordsOf p)) (length out) (omega (arith, l)),
+        l,
+      ) refl,
+    )
+
+pub one-file : OneFile
+one-file file other bytes more p e f = sym (written-again file bytes p e .0) ∙ written-again other more p f .0

@@ -40,18 +40,9 @@ use Rattle.rules.proofs.Judging.{never, accept-inj, need-inv, then-inv, bind-in
 use Rattle.rules.proofs.Repeats.{IsRepeat, repeat-inv, positive-inv, readBy, outermost-steps}
 use Rattle.records.specs.Records.{Given, known, unknown, closed, leftAfter, outermostFrom, outermost, stepBytes, givenBytes, stepsBytes}
 use Rattle.records.specs.Writing.{judgeCounts}
+use Rattle.records.specs.RoundTrip.{AllRanked}
 use Rattle.records.proofs.Places.{From, from-length, from-next, from-byte, from-second, from-rest, from-lt, from-at}
-use Rattle.records.proofs.Lists.{read, is-lt, RankedStep, stepLists, step-from}
-
--- each step has a list for each dimension
-abbrev pub Ranked : ℕ → Given → Type 0
-Ranked rank (known (plain t)) = RankedStep rank t
-Ranked rank (known (repeat count number)) = Unit {0}
-Ranked rank unknown = Unit {0}
-
-abbrev pub AllRanked : ℕ → List Given → Type 0
-AllRanked rank [] = Unit {0}
-AllRanked rank (g ∷ gs) = Ranked rank g × AllRanked rank gs
+use Rattle.records.proofs.Lists.{read, stepLists, step-from}
 
 -- the first byte of a plain step is the kind of one
 kindByte : Step → ℕ

@@ -14,6 +14,7 @@ use Rattle.rules.proofs.Lists.{T→true}
 use Rattle.rules.proofs.Judging.{then-assoc}
 use Rattle.records.specs.Records.{listBytes, listsBytes, stepBytes}
 use Rattle.records.specs.Writing.{judgeCounts}
+use Rattle.records.specs.RoundTrip.{RankedStep}
 use Rattle.records.proofs.Places.{From, from-next, from-take, from-byte, from-rest, from-second, from-lt}
 
 -- what was read, and where the next byte is
@@ -75,13 +76,6 @@ module _ (n : ℕ) (file : List ℕ) where
         length-append (listBytes l) (listsBytes ls),
         add-assoc,
       )
-
--- a step has a list for each dimension
-abbrev pub RankedStep : ℕ → Step → Type 0
-RankedStep rank (allSlice Ss) = length Ss ≡ rank
-RankedStep rank (allGather Gs) = length Gs ≡ rank
-RankedStep rank (allReduce L) = Unit {0}
-RankedStep rank (allToAll source target L) = Unit {0}
 
 -- the lists of a step, in file order
 abbrev pub stepLists : Step → List (List ℕ)

@@ -60,11 +60,7 @@ use Rattle.records.specs.Records.{
   givenBytes,
   stepsBytes,
 }
-use Rattle.records.proofs.Given.{known-append}
-
--- every entry of a file is a byte
-abbrev pub Bytes : List ℕ → Type 0
-Bytes file = (j : ℕ) → getD file j 0 < 256
+use Rattle.records.specs.RoundTrip.{Bytes}
 
 -- the bytes stand in the file from `at` up to `next`
 pub record Spells (file : List ℕ) (at next : ℕ) (bytes : List ℕ) : Type 0 where

@@ -75,15 +75,13 @@ use Rattle.records.specs.Records.{
   fileOf,
 }
 use Rattle.records.specs.Writing.{judgeCounts, judgeSharding, judgeOrder, orderOf, judgeOpening, judgeRecords}
+use Rattle.records.specs.RoundTrip.{Shorts, Fits}
 use Rattle.records.proofs.Places.{From, from-all, from-length, from-next, from-u16}
 use Rattle.records.proofs.Lists.{read, is-le, is-eq, then-bind, then-then, bind-then, list-from, lists-from}
 use Rattle.records.proofs.Moved.{judgedBy, bind-by, bind-same, outermostFurther, outermost-moved}
-use Rattle.records.proofs.Given.{AllRanked, all-given}
+use Rattle.records.proofs.Given.{all-given}
 
 -- ---- numbers of 16 bits
-
-abbrev pub Shorts : List ℕ → Type 0
-Shorts ks = (i : ℕ) → getD ks i 0 < 65536
 
 pub length-u16s : (ks : List ℕ) → length (u16sBytes ks) ≡ 2 * length ks
 unfolding u16sBytes
@@ -197,17 +195,6 @@ in-one : {A : Type 0} (a b c d e f g h i : Judged (Unit {0})) (m : Judged A)
     → _>>_ (_>>_ a (_>>_ b c)) (_>>_ d (_>>_ e (_>>_ f (_>>_ g (_>>_ h (_>>_ i m))))))
     ≡ _>>_ (_>>_ a (_>>_ b (_>>_ c (_>>_ d (_>>_ e (_>>_ f (_>>_ g (_>>_ h i)))))))) m
 in-one a b c d e f g h i m = simp then-then
-
--- The records can stand in a file: within the limit of bytes, 16-bit numbers, an order for every device, a list for each dimension. (An axis, a count, a
--- source or a target past 255 would be no byte, but every such one is refused first.)
-pub record Fits (r : Records) : Type 0 where
-  pub short : fileLength r ≤ mostBytes
-  pub mesh-shorts : Shorts (r .mesh)
-  pub order-shorts : Shorts (r .order)
-  pub order-all : T (some (r .order)) → length (r .order) ≡ devices (r .mesh)
-  pub sizes-shorts : Shorts (r .sizes)
-  pub dims-ranked : length (r .start .dims) ≡ length (r .sizes)
-  pub steps-ranked : AllRanked (length (r .sizes)) (r .steps)
 
 pub length-file : (r : Records) → length (fileOf r) ≡ fileLength r
 unfolding fileOf fileLength stepsStart header
@@ -369,7 +356,7 @@ module _ (r : Records) (fits : Fits r) where
       ≡ _>>_ (judgeCounts (length (r .mesh)) (r .start .dims)) (_>>_ (judgeCounts (length (r .mesh)) (r .start .unreduced ∷ r .start .replicated ∷ []))
       (accept (read (r .start) (shardingStart r + length (shardingBytes (editionOf r) (r .start))))))
   sharding-ranked =
-      ap (λ (k : ℕ). shardingAt (carriesReplicated (editionOf r)) (length (r .mesh)) k (shardingStart r) file (shardingStart r)) (sym (fits .dims-ranked))
+      ap (λ (k : ℕ). shardingAt (carriesReplicated (editionOf r)) (length (r .mesh)) k (shardingStart r) file (shardingStart r)) (sym (fits .proper .dims-ranked))
       ∙ sharding-from file (length (r .mesh)) (editionOf r) (shardingStart r) (r .start) (stepsBytes (r .steps)) (first-edition (r .order) (r .start .replicated)) at-sharding
 
   front-from : judgeFront file ≡ _>>_ (judgeOpening r) (accept front)
@@ -384,13 +371,13 @@ module _ (r : Records) (fits : Fits r) where
         is-tensor-at,
         is-sharding-at,
         is-steps-at,
-        sizes-from file mostDevices 10 11 18 (r .mesh) tail₂ (fits .mesh-shorts) at-mesh,
+        sizes-from file mostDevices 10 11 18 (r .mesh) tail₂ (fits .proper .mesh-shorts) at-mesh,
         then-bind,
         next-order,
-        order-from file (devices (r .mesh)) orderStart (r .order) tail₃ (some (r .start .replicated)) (fits .order-shorts) (fits .order-all) at-order,
+        order-from file (devices (r .mesh)) orderStart (r .order) tail₃ (some (r .start .replicated)) (fits .proper .order-shorts) (fits .order-all) at-order,
         then-bind,
         next-tensor,
-        sizes-from file mostWords 12 13 (tensorStart r) (r .sizes) tail₄ (fits .sizes-shorts) at-tensor,
+        sizes-from file mostWords 12 13 (tensorStart r) (r .sizes) tail₄ (fits .proper .sizes-shorts) at-tensor,
         then-bind,
         next-sharding,
         bind-then,
@@ -438,6 +425,6 @@ module _ (r : Records) (fits : Fits r) where
       ends (refuse n k) e = refl
       ends (accept o) e =
           let all : o .next ≡ length (stepsBytes (r .steps)) =
-          all-given (r .mesh) (r .sizes) (stepsBytes (r .steps)) true 0 1 0 (r .start) (r .steps) o (fits .steps-ranked) (from-all (stepsBytes (r .steps))) e .1 in
+          all-given (r .mesh) (r .sizes) (stepsBytes (r .steps)) true 0 1 0 (r .start) (r .steps) o (fits .proper .steps-ranked) (from-all (stepsBytes (r .steps))) e .1 in
           let last : stepsStart r + o .next ≡ length file = ap (λ (k : ℕ). stepsStart r + k) all ∙ from-length (stepsStart r) file (stepsBytes (r .steps)) at-steps in
           rw (is-eq (stepsStart r + o .next) (length file) last) refl

@@ -1,3 +1,4 @@
 -- Document 02, Ask 2: plans given as records, and their files.
 pub mod Records
 pub mod Writing
+pub mod RoundTrip
