@@ -94,7 +94,7 @@ use Rattle.records.proofs.Spelled.{Spells, join, nothing, numbers-spell
 
 -- ---- the order as a record gives it
 
-abbrev orderGiven : (devices : ℕ) → List ℕ → List ℕ
+abbrev pub orderGiven : (devices : ℕ) → List ℕ → List ℕ
 orderGiven n order = pick (same order (plainOrder n)) [] order
 
 same-refl : (l : List ℕ) → same l l ≡ true
@@ -102,11 +102,11 @@ unfolding same
 same-refl [] = refl
 same-refl (a ∷ l) = rw (T→true (eqb a a) (eqb-refl a), same-refl l) refl
 
-plain-given : (n : ℕ) → orderGiven n (plainOrder n) ≡ []
+pub plain-given : (n : ℕ) → orderGiven n (plainOrder n) ≡ []
 plain-given n = ap (λ (b : Bool). pick b [] (plainOrder n)) (same-refl (plainOrder n))
 
 -- an order that is allowed is given, of as many numbers as there are devices
-allowed-given : (n : ℕ) (order : List ℕ) → T (orderAllowed n order) → (orderGiven n order ≡ order) × (length order ≡ n) × (some order ≡ true)
+pub allowed-given : (n : ℕ) (order : List ℕ) → T (orderAllowed n order) → (orderGiven n order ≡ order) × (length order ≡ n) × (some order ≡ true)
 unfolding orderAllowed rearranges
 allowed-given n order t =
     let p : T (rearranges n order) × T (not (same order (plainOrder n))) = T-and (rearranges n order) (not (same order (plainOrder n))) t in

@@ -6,3 +6,5 @@ pub mod Given
 pub mod Written
 pub mod Spelled
 pub mod Again
+pub mod Readback
+pub mod Promises
