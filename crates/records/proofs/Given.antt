@@ -45,13 +45,13 @@ use Rattle.records.proofs.Places.{From, from-length, from-next, from-by
 use Rattle.records.proofs.Lists.{read, stepLists, step-from}
 
 -- the first byte of a plain step is the kind of one
-kindByte : Step → ℕ
+pub kindByte : Step → ℕ
 kindByte (allSlice Ss) = 1
 kindByte (allGather Gs) = 2
 kindByte (allReduce L) = 3
 kindByte (allToAll source target L) = 4
 
-kind-first : (t : Step) → (rest : List ℕ) × (stepBytes t ≡ kindByte t ∷ rest) × (kindByte t < 9)
+pub kind-first : (t : Step) → (rest : List ℕ) × (stepBytes t ≡ kindByte t ∷ rest) × (kindByte t < 9)
 unfolding stepBytes kindByte
 kind-first (allSlice Ss) = (_, refl, omega arith)
 kind-first (allGather Gs) = (_, refl, omega arith)

@@ -7,4 +7,6 @@ pub mod Written
 pub mod Spelled
 pub mod Again
 pub mod Readback
+pub mod Cutting
+pub mod Planned
 pub mod Promises

@@ -2,3 +2,4 @@
 pub mod Records
 pub mod Writing
 pub mod RoundTrip
+pub mod Planning
