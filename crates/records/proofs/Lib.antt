@@ -9,4 +9,5 @@ pub mod Again
 pub mod Readback
 pub mod Cutting
 pub mod Planned
+pub mod Arrives
 pub mod Promises

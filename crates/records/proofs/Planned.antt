@@ -136,7 +136,7 @@ module _ (mesh sizes file : List ℕ) where
 -- ---- how many bytes
 
 -- lists that pass 8 are short
-counts-few : (n : ℕ) (ls : List (List ℕ)) → n ≤ mostAxes → judgeCounts n ls ≡ accept tt → length (listsBytes ls) ≤ 7 * length ls
+pub counts-few : (n : ℕ) (ls : List (List ℕ)) → n ≤ mostAxes → judgeCounts n ls ≡ accept tt → length (listsBytes ls) ≤ 7 * length ls
 unfolding judgeCounts listsBytes
 counts-few n [] h e = omega arith
 counts-few n (l ∷ ls) h e =

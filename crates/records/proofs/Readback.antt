@@ -20,7 +20,7 @@ use Rattle.records.proofs.Written.{length-file, file-judged}
 use Rattle.records.proofs.Again.{plain-given, allowed-given}
 
 -- an order that passes 19 is of every device, and is given again
-order-passed : (n : ℕ) (order : List ℕ) → judgeOrder n order ≡ accept tt
+pub order-passed : (n : ℕ) (order : List ℕ) → judgeOrder n order ≡ accept tt
     → (T (some order) → length order ≡ n) × (pick (same (orderOf n order) (plainOrder n)) [] (orderOf n order) ≡ order)
 unfolding judgeOrder
 order-passed n [] e = ((λ t. absurd t), plain-given n)

@@ -1,18 +1,23 @@
 -- Document 02, Ask 10: the plan from one sharding to another, as the records that the writer takes. Assumes nothing.
-use Prim.Native.Nat.{ℕ, suc}
+use Prim.Native.Nat.{ℕ, suc, _≤_}
+use mathlib.Core.Path.{_≡_}
 use mathlib.Core.Bool.{_&&_}
 use mathlib.Core.List.{List, [], _∷_, map}
 use lib.ListN.{length, drop}
 use lib.Dec.{eqb}
 use Rattle.rules.specs.Lists.{pick, each, without}
 use Rattle.rules.specs.Mesh.{devices}
-use Rattle.rules.specs.Sharding.{Sharding}
+use Rattle.rules.specs.Sharding.{Sharding, shardSizes}
+use Rattle.rules.specs.Spread.{Faithful, addWords, heldBy}
 use Rattle.rules.specs.Collectives.{Step, allSlice, allGather, allReduce, stepAxes}
 use Rattle.rules.specs.Limits.{mostDevices, mostWords}
 use Rattle.rules.specs.Refusals.{Judged, accept, _>>=_, _>>_, need}
-use Rattle.rules.specs.PlanFile.{axesAllowed, rankAllowed, judgeSizes, same, some, allIn, plain}
-use Rattle.records.specs.Records.{known, Records}
-use Rattle.records.specs.Writing.{judgeSharding, judgeOrder}
+use Rattle.rules.specs.PlanFile.{axesAllowed, rankAllowed, judgeSizes, same, some, allIn, plain, Plan, judge, announced}
+use Rattle.rules.specs.Calls.{runOf}
+use Rattle.rules.specs.Demands.{Words, Fits as RoomIn}
+use Rattle.records.specs.Records.{known, Records, fileOf}
+use Rattle.records.specs.Writing.{judgeSharding, judgeOrder, orderOf, judgeRecords}
+use Rattle.records.specs.RoundTrip.{Shorts}
 
 -- how many axes two lists have in common from their beginning on
 abbrev pub common : List ℕ → List ℕ → ℕ
@@ -66,3 +71,24 @@ planOf mesh order sizes start goal = do
   judgeSharding mesh sizes goal
   reachable start goal
   accept (record { mesh = mesh; order = order; sizes = sizes; start = start; steps = map known (map plain (planSteps start goal)) })
+
+-- ---- what the planner promises of itself
+
+-- Of the records that it makes. "Prove that the check accepts every such plan and that it ends at the goal sharding. Run to the end, it turns a faithful
+-- spread of a table under the start into one of that table under the goal.": of any two buffers with the room that the check names, the words of the table
+-- before the run under the start, and after it under the goal, each as the plan's devices are numbered.
+pub record Reaches (mesh order sizes : List ℕ) (start goal : Sharding) (r : Records) (p : Plan) : Type 0 where
+  pub few : length (p .steps) ≤ 3
+  pub as-given : (p .mesh ≡ mesh) × (p .order ≡ orderOf (devices mesh) order) × (p .sizes ≡ sizes) × (p .start ≡ start)
+  pub taken : judgeRecords r ≡ accept p
+  pub accepted : judge (fileOf r) ≡ accept p
+  pub ends : announced p (length (p .steps)) ≡ goal
+  pub arrives : (table : List ℕ → ℕ) (work spare : List ℕ) → Words work → RoomIn p work spare
+      → Faithful addWords mesh start (shardSizes mesh sizes (start .dims)) table (heldBy 0 (p .order) mesh (shardSizes mesh sizes (start .dims)) work)
+      → Faithful addWords mesh goal (shardSizes mesh sizes (goal .dims)) table
+      (heldBy 0 (p .order) mesh (shardSizes mesh sizes (goal .dims)) (runOf (fileOf r) work spare .work))
+
+abbrev pub PlannerPromise : Type 0
+PlannerPromise =
+    (mesh order sizes : List ℕ) → Shorts mesh → Shorts order → Shorts sizes → (start goal : Sharding) (r : Records) → planOf mesh order sizes start goal ≡ accept r
+    → (p : Plan) × Reaches mesh order sizes start goal r p
