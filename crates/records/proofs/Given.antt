@@ -6,7 +6,6 @@ use mathlib.Core.List.{List, [], _∷_, _++_, map, append-assoc, append-nil}
 use native.Mathlib.Omega.{arith}
 use lib.ListN.{length, getD, length-append}
 use lib.Dec.{T, ltb, leb, eqb, lt→ltb, ltb→lt, eqb→eq}
-use Rattle.rules.specs.Lists.{pick}
 use Rattle.rules.specs.Sharding.{Sharding}
 use Rattle.rules.specs.Collectives.{Step, allSlice, allGather, allReduce, allToAll}
 use Rattle.rules.specs.Limits.{mostRun, mostDepth}
@@ -38,7 +37,7 @@ use Rattle.rules.specs.declared.Kind.the-variants.{Unknown}
 use Rattle.rules.proofs.Lists.{T-and, T→true}
 use Rattle.rules.proofs.Judging.{never, accept-inj, need-inv, then-inv, bind-inv}
 use Rattle.rules.proofs.Repeats.{IsRepeat, repeat-inv, positive-inv, readBy, outermost-steps}
-use Rattle.records.specs.Records.{Given, known, unknown, closed, leftAfter, outermostFrom, outermost, stepBytes, givenBytes, stepsBytes}
+use Rattle.records.specs.Records.{Given, known, unknown, outermostFrom, outermost, stepBytes, givenBytes, stepsBytes}
 use Rattle.records.specs.Writing.{judgeCounts}
 use Rattle.records.specs.RoundTrip.{AllRanked}
 use Rattle.records.proofs.Places.{From, from-length, from-next, from-byte, from-second, from-rest, from-lt, from-at}
@@ -198,95 +197,67 @@ module _ (mesh sizes file : List ℕ) where
 
 -- ---- outermost records
 
--- one that stands in no block counts
-abbrev counts : (left : List ℕ) → ℕ
-counts [] = 1
-counts (n ∷ left) = 0
-
-first-counts : (left : List ℕ) (g : Given) (gs : List Given) → outermostFrom left (g ∷ gs) ≡ counts left + outermostFrom (leftAfter g left) gs
-unfolding outermostFrom
-first-counts [] g gs = omega arith
-first-counts (n ∷ left) g gs = omega arith
-
 none-left : (gs : List Given) → outermost gs ≡ 0 → gs ≡ []
 unfolding outermostFrom
 none-left [] e = refl
 none-left (g ∷ gs) e = absurd (omega arith)
 
 module _ (mesh sizes file : List ℕ) where
-  -- the records of a step leave the blocks around it one step nearer to their end
+  -- the records of a step are one of those that are still to come
   abbrev Closes : List Record → Type 0
-  Closes records = (left : List ℕ) (rest : List Given) → outermostFrom left (map known records ++ rest) ≡ counts left + outermostFrom (closed left) rest
+  Closes records =
+      (rest : List Given) → (outermost (map known records ++ rest) ≡ suc (outermost rest))
+      × ((n : ℕ) → outermostFrom (suc n) (map known records ++ rest) ≡ outermostFrom n rest)
 
   abbrev Closing : JudgesStep → Type 0
   Closing one = (k at : ℕ) (s : Sharding) (w : StepsRead) → one k at s ≡ accept w → Closes (w .records)
 
-  -- so many of them close a block that has so many left
   abbrev ClosesAll : ℕ → List Record → Type 0
-  ClosesAll count records =
-      (left : List ℕ) (rest : List Given) → 0 < count → outermostFrom (count ∷ left) (map known records ++ rest) ≡ outermostFrom (closed left) rest
+  ClosesAll count records = (n : ℕ) (rest : List Given) → outermostFrom (count + n) (map known records ++ rest) ≡ outermostFrom n rest
 
   abbrev ClosingAll : JudgesSteps → Type 0
   ClosingAll steps = (count k at : ℕ) (s : Sharding) (w : StepsRead) → steps count k at s ≡ accept w → ClosesAll count (w .records)
 
   plain-closes : Closing (plainAt mesh sizes file)
-  unfolding plainAt
+  unfolding plainAt outermostFrom
   plain-closes k at s w e =
       let p = bind-inv (stepAt (length mesh) (length sizes) k file at) _ w e in
       let q = bind-inv (judgeStep mesh sizes k (p .0 .value) s) _ w (p .2) in
-      subst (λ (z : StepsRead). Closes (z .records)) (accept-inj (q .2)) (λ left rest. first-counts left (known (plain (p .0 .value))) rest)
+      subst (λ (z : StepsRead). Closes (z .records)) (accept-inj (q .2))
+      (λ rest. (refl, λ n. (let z : 0 + n ≡ n = omega arith in ap (λ (m : ℕ). outermostFrom m rest) z)))
 
-  both-parts : (left : List ℕ) (l m : List Record) (rest : List Given)
-      → outermostFrom left (map known (l ++ m) ++ rest) ≡ outermostFrom left (map known l ++ (map known m ++ rest))
-  both-parts left l m rest =
-      ap (λ (x : List Given). outermostFrom left (x ++ rest)) (known-append l m)
-      ∙ ap (outermostFrom left) (append-assoc (map known l) (map known m) rest)
-
-  -- a step, and then others
-  first-closes : (one : JudgesStep) → Closing one → (count k at : ℕ) (s : Sharding) (w : StepsRead) → stepsAt one (suc count) k at s ≡ accept w
-      → (left : List ℕ) (rest : List Given)
-      → (t u : StepsRead) × (stepsAt one count (k + length (t .records)) (t .next) (t .sharding) ≡ accept u)
-      × (outermostFrom left (map known (w .records) ++ rest) ≡ counts left + outermostFrom (closed left) (map known (u .records) ++ rest))
-  unfolding stepsAt
-  first-closes one h count k at s w e left rest =
-      let t = bind-inv (one k at s) _ w e in
-      let u = bind-inv (stepsAt one count (k + length (t .0 .records)) (t .0 .next) (t .0 .sharding)) _ w (t .2) in
-      (
-        t .0,
-        u .0,
-        u .1,
-        ap (λ (z : StepsRead). outermostFrom left (map known (z .records) ++ rest)) (sym (accept-inj (u .2)))
-        ∙ both-parts left (t .0 .records) (u .0 .records) rest ∙ h k at s (t .0) (t .1) left (map known (u .0 .records) ++ rest),
-      )
+  both-parts : (n : ℕ) (l m : List Record) (rest : List Given)
+      → outermostFrom n (map known (l ++ m) ++ rest) ≡ outermostFrom n (map known l ++ (map known m ++ rest))
+  both-parts n l m rest =
+      ap (λ (x : List Given). outermostFrom n (x ++ rest)) (known-append l m)
+      ∙ ap (outermostFrom n) (append-assoc (map known l) (map known m) rest)
 
   steps-close : (one : JudgesStep) → Closing one → ClosingAll (stepsAt one)
-  steps-close one h zero k at s w e left rest pos = absurd (omega arith)
-  steps-close one h (suc zero) k at s w e left rest pos =
-      let f = first-closes one h 0 k at s w e (1 ∷ left) rest in
-      let u : StepsRead = f .1 in
-      let c : outermostFrom (closed (1 ∷ left)) (map known (u .records) ++ rest) ≡ outermostFrom (closed left) (map known (u .records) ++ rest) = unfold closed in refl in
-      let d : u .records ≡ [] = unfold stepsAt in ap (λ (z : StepsRead). z .records) (sym (accept-inj (f .2))) in
-      f .3 ∙ (let z : 0 + outermostFrom (closed (1 ∷ left)) (map known (u .records) ++ rest) ≡ outermostFrom (closed left) (map known (u .records) ++ rest) = omega (arith, c) in z)
-      ∙ ap (λ (l : List Record). outermostFrom (closed left) (map known l ++ rest)) d
-  steps-close one h (suc (suc count)) k at s w e left rest pos =
-      let f = first-closes one h (suc count) k at s w e (suc (suc count) ∷ left) rest in
-      let t : StepsRead = f .0 in
-      let u : StepsRead = f .1 in
-      let c : outermostFrom (closed (suc (suc count) ∷ left)) (map known (u .records) ++ rest) ≡ outermostFrom (suc count ∷ left) (map known (u .records) ++ rest) = unfold closed in refl in
-      f .3 ∙ (let z : 0 + outermostFrom (closed (suc (suc count) ∷ left)) (map known (u .records) ++ rest) ≡ outermostFrom (suc count ∷ left) (map known (u .records) ++ rest) = omega (arith, c) in z)
-      ∙ steps-close one h (suc count) (k + length (t .records)) (t .next) (t .sharding) u (f .2) left rest (omega arith)
-
-  opened : (count number : ℕ) (left : List ℕ) → 0 < number → leftAfter (known (repeat count number)) left ≡ number ∷ left
-  opened count zero left h = absurd (omega arith)
-  opened count (suc n) left h = refl
+  unfolding stepsAt
+  steps-close one h zero k at s w e n rest =
+      let z : 0 + n ≡ n = omega arith in
+      ap (λ (x : StepsRead). outermostFrom (0 + n) (map known (x .records) ++ rest)) (sym (accept-inj e)) ∙ ap (λ (m : ℕ). outermostFrom m rest) z
+  steps-close one h (suc count) k at s w e n rest =
+      let t = bind-inv (one k at s) _ w e in
+      let u = bind-inv (stepsAt one count (k + length (t .0 .records)) (t .0 .next) (t .0 .sharding)) _ w (t .2) in
+      let z : suc count + n ≡ suc (count + n) = omega arith in
+      ap (λ (x : StepsRead). outermostFrom (suc count + n) (map known (x .records) ++ rest)) (sym (accept-inj (u .2)))
+      ∙ both-parts (suc count + n) (t .0 .records) (u .0 .records) rest
+      ∙ ap (λ (m : ℕ). outermostFrom m (map known (t .0 .records) ++ (map known (u .0 .records) ++ rest))) z
+      ∙ h k at s (t .0) (t .1) (map known (u .0 .records) ++ rest) .1 (count + n)
+      ∙ steps-close one h count (k + length (t .0 .records)) (t .0 .next) (t .0 .sharding) (u .0) (u .1) n rest
 
   repeat-closes : (inner : JudgesSteps) → ClosingAll inner → Closing (repeatAt inner file)
+  unfolding outermostFrom
   repeat-closes inner h k at s w e =
       let i : IsRepeat mesh sizes file inner k at s w = repeat-inv mesh sizes file inner k at s w e in
-      subst (λ (z : StepsRead). Closes (z .records)) (i .whole) (λ left rest.
-      first-counts left (known (repeat (i .count) (i .number))) (map known (i .block .records) ++ rest)
-      ∙ ap (λ (l : List ℕ). counts left + outermostFrom l (map known (i .block .records) ++ rest)) (opened (i .count) (i .number) left (i .number-pos))
-      ∙ ap (λ (n : ℕ). counts left + n) (h (i .number) (k + 1) (at + 2) s (i .block) (i .block-is) left rest (i .number-pos)))
+      let all : ClosesAll (i .number) (i .block .records) = h (i .number) (k + 1) (at + 2) s (i .block) (i .block-is) in
+      subst (λ (z : StepsRead). Closes (z .records)) (i .whole) (λ rest.
+      (
+        (let z : i .number ≡ i .number + 0 = omega arith in
+        ap suc (ap (λ (m : ℕ). outermostFrom m (map known (i .block .records) ++ rest)) z ∙ all 0 rest)),
+        λ n. all n rest,
+      ))
 
   by-closes : (b : Bool) (inner : JudgesSteps) → ClosingAll inner → Closing (itemBy b inner mesh sizes file)
   unfolding itemBy
@@ -311,13 +282,12 @@ module _ (mesh sizes file : List ℕ) where
       let t = bind-inv (itemAt repeats mesh sizes file mostDepth k at s) _ o e in
       let x = need-inv k (leb (ran + length (t .0 .steps)) mostRun) 43 _ o (t .2) in
       let u = bind-inv (outermostAt repeats mesh sizes file (ran + length (t .0 .steps)) count (k + length (t .0 .records)) (t .0 .next) (t .0 .sharding)) _ o (x .1) in
-      let a : outermost (map known (t .0 .records) ++ (map known (u .0 .records) ++ rest)) ≡ 1 + outermostFrom (closed []) (map known (u .0 .records) ++ rest) =
-      item-closes repeats mostDepth k at s (t .0) (t .1) [] (map known (u .0 .records) ++ rest) in
+      let a : outermost (map known (t .0 .records) ++ (map known (u .0 .records) ++ rest)) ≡ suc (outermost (map known (u .0 .records) ++ rest)) =
+      item-closes repeats mostDepth k at s (t .0) (t .1) (map known (u .0 .records) ++ rest) .0 in
       let b : outermost (map known (u .0 .records) ++ rest) ≡ count + outermost rest =
       outermost-counted repeats (ran + length (t .0 .steps)) count (k + length (t .0 .records)) (t .0 .next) (t .0 .sharding) (u .0) (u .1) rest in
-      let c : outermostFrom (closed []) (map known (u .0 .records) ++ rest) ≡ outermost (map known (u .0 .records) ++ rest) = unfold closed in refl in
       ap (λ (z : Outermost). outermost (map known (z .records) ++ rest)) (sym (accept-inj (u .2)))
-      ∙ both-parts [] (t .0 .records) (u .0 .records) rest ∙ omega (arith, a, b, c)
+      ∙ both-parts 0 (t .0 .records) (u .0 .records) rest ∙ omega (arith, a, b)
 
   -- ALL RECORDS ARE READ
   pub all-given : (repeats : Bool) (ran k at : ℕ) (s : Sharding) (gs : List Given) (o : Outermost) → AllRanked (length sizes) gs → From at file (stepsBytes gs)

@@ -55,7 +55,7 @@ use Rattle.records.specs.Records.{
   unknown,
   outermost,
   outermostFrom,
-  leftAfter,
+  innerOf,
   u16Bytes,
   u16sBytes,
   listBytes,
@@ -210,11 +210,11 @@ given-some (known (plain (allToAll source target L))) = omega arith
 given-some (known (repeat count number)) = omega arith
 given-some unknown = omega arith
 
-outermost-few : (left : List ℕ) (gs : List Given) → outermostFrom left gs ≤ length (stepsBytes gs)
+outermost-few : (still : ℕ) (gs : List Given) → outermostFrom still gs ≤ length (stepsBytes gs)
 unfolding outermostFrom stepsBytes
-outermost-few left [] = omega arith
-outermost-few [] (g ∷ gs) = omega (arith, outermost-few (leftAfter g []) gs, length-append (givenBytes g) (stepsBytes gs), given-some g)
-outermost-few (n ∷ left) (g ∷ gs) = omega (arith, outermost-few (leftAfter g (n ∷ left)) gs, length-append (givenBytes g) (stepsBytes gs))
+outermost-few n [] = omega arith
+outermost-few zero (g ∷ gs) = omega (arith, outermost-few (innerOf g) gs, length-append (givenBytes g) (stepsBytes gs), given-some g)
+outermost-few (suc n) (g ∷ gs) = omega (arith, outermost-few (innerOf g + n) gs, length-append (givenBytes g) (stepsBytes gs))
 
 module _ (r : Records) (fits : Fits r) where
   abbrev file : List ℕ
@@ -237,7 +237,7 @@ module _ (r : Records) (fits : Fits r) where
   header-shorts zero = omega (arith, edition-few (r .order) (r .start .replicated))
   header-shorts (suc zero) = omega (arith, fits .short)
   header-shorts (suc (suc zero)) = omega (arith, fits .short)
-  header-shorts (suc (suc (suc zero))) = omega (arith, fits .short, outermost-few [] (r .steps))
+  header-shorts (suc (suc (suc zero))) = omega (arith, fits .short, outermost-few 0 (r .steps))
   header-shorts (suc (suc (suc (suc zero)))) = lit< tt
   header-shorts (suc (suc (suc (suc (suc zero))))) = omega (arith, fits .short)
   header-shorts (suc (suc (suc (suc (suc (suc zero)))))) = omega (arith, fits .short)

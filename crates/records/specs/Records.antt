@@ -35,29 +35,20 @@ recordsOf p = record {
 
 -- ---- outermost steps
 
--- The numbers of steps that are still to come in the blocks that are open, the innermost first: after one step more, a block with none left is closed,
--- which is one step more of the block around it.
-unfoldable pub closed : List ℕ → List ℕ
-closed [] = []
-closed (zero ∷ left) = closed left
-closed (suc zero ∷ left) = closed left
-closed (suc (suc n) ∷ left) = suc n ∷ left
+-- how many steps a record says to stand right inside it
+abbrev pub innerOf : Given → ℕ
+innerOf (known (plain t)) = 0
+innerOf (known (repeat count number)) = number
+innerOf unknown = 0
 
-abbrev pub leftAfter : Given → List ℕ → List ℕ
-leftAfter (known (plain t)) left = closed left
-leftAfter (known (repeat count zero)) left = closed left
-leftAfter (known (repeat count (suc n))) left = suc n ∷ left
-leftAfter unknown left = closed left
-
--- the records that stand in no block; one that the records end in is there too
-unfoldable pub outermostFrom : (left : List ℕ) → List Given → ℕ
-unfolding closed
-outermostFrom left [] = 0
-outermostFrom [] (g ∷ gs) = suc (outermostFrom (leftAfter g []) gs)
-outermostFrom (n ∷ left) (g ∷ gs) = outermostFrom (leftAfter g (n ∷ left)) gs
+-- The records that stand in no block, where so many are still to come of the blocks that are open; a block that the records end in is one of them.
+unfoldable pub outermostFrom : (still : ℕ) → List Given → ℕ
+outermostFrom n [] = 0
+outermostFrom zero (g ∷ gs) = suc (outermostFrom (innerOf g) gs)
+outermostFrom (suc n) (g ∷ gs) = outermostFrom (innerOf g + n) gs
 
 abbrev pub outermost : List Given → ℕ
-outermost gs = outermostFrom [] gs
+outermost gs = outermostFrom 0 gs
 
 -- ---- the bytes
 
