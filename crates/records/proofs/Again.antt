@@ -399,8 +399,7 @@ pub written-again : WrittenAgain
 unfolding writeOf
 written-again file bytes p e =
     let w : fileOf (recordsOf p) ≡ file = spelled-again file bytes p e in
-    let l : fileLength (recordsOf p) ≡ length file = sym (length-file (recordsOf p)) ∙ ap length w in
-    (
+    let l : fileLength (recordsOf p) ≡ length file = sym (length-file (recordsOf p)) ∙ ap length w in (
       w,
       λ out h. rw (
         taken-again file bytes p e,

@@ -100,8 +100,7 @@ module _ (mesh order sizes : List ℕ) (start goal : Sharding) where
       let w = then-inv (reachable start goal) _ r (g .1) in
       let u = need-true 0 (allIn (goal .unreduced) (start .unreduced) && same (start .replicated) (goal .replicated)) 40 (w .0 .1) in
       let v : T (allIn (goal .unreduced) (start .unreduced)) × T (same (start .replicated) (goal .replicated)) =
-      T-and (allIn (goal .unreduced) (start .unreduced)) (same (start .replicated) (goal .replicated)) u in
-      (
+      T-and (allIn (goal .unreduced) (start .unreduced)) (same (start .replicated) (goal .replicated)) u in (
         record {
           axes = a .0;
           rank = b .0;
@@ -186,8 +185,7 @@ planner-promise mesh order sizes m o t start goal r e =
     let j = judged mesh order sizes start goal r e in
     let f : Fits (made mesh order sizes start goal) = fits mesh order sizes start goal (j .0) m o t in
     let p : Plan = plan mesh order sizes start goal in
-    let a : judge (fileOf (made mesh order sizes start goal)) ≡ accept p = file-judged (made mesh order sizes start goal) f ∙ taken mesh order sizes start goal (j .0) in
-    (
+    let a : judge (fileOf (made mesh order sizes start goal)) ≡ accept p = file-judged (made mesh order sizes start goal) f ∙ taken mesh order sizes start goal (j .0) in (
       p,
       subst (λ (x : Records). Reaches mesh order sizes start goal x p) (j .1) (record {
         few = plan-few start goal;

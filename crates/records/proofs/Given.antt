@@ -252,10 +252,9 @@ module _ (mesh sizes file : List ℕ) where
   repeat-closes inner h k at s w e =
       let i : IsRepeat mesh sizes file inner k at s w = repeat-inv mesh sizes file inner k at s w e in
       let all : ClosesAll (i .number) (i .block .records) = h (i .number) (k + 1) (at + 2) s (i .block) (i .block-is) in
-      subst (λ (z : StepsRead). Closes (z .records)) (i .whole) (λ rest.
-      (
+      subst (λ (z : StepsRead). Closes (z .records)) (i .whole) (λ rest. (
         (let z : i .number ≡ i .number + 0 = omega arith in
-        ap suc (ap (λ (m : ℕ). outermostFrom m (map known (i .block .records) ++ rest)) z ∙ all 0 rest)),
+            ap suc (ap (λ (m : ℕ). outermostFrom m (map known (i .block .records) ++ rest)) z ∙ all 0 rest)),
         λ n. all n rest,
       ))
 
@@ -300,8 +299,7 @@ module _ (mesh sizes file : List ℕ) where
       let c : outermost (map known (o .records) ++ g .rest) ≡ outermost gs + outermost (g .rest) = outermost-counted repeats ran (outermost gs) k at s o e (g .rest) in
       let d : outermost gs ≡ outermost (map known (o .records) ++ g .rest) = ap outermost (g .all) in
       let none : g .rest ≡ [] = none-left (g .rest) (omega (arith, c, d)) in
-      let last : From (o .next) file [] = subst (λ (l : List Given). From (o .next) file (stepsBytes l)) none (g .from) in
-      (
+      let last : From (o .next) file [] = subst (λ (l : List Given). From (o .next) file (stepsBytes l)) none (g .from) in (
         g .all ∙ ap (λ (l : List Given). map known (o .records) ++ l) none ∙ append-nil (map known (o .records)),
         (let z : o .next + 0 ≡ length file = from-length (o .next) file [] last in omega (arith, z)),
       )

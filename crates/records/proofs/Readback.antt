@@ -46,11 +46,10 @@ module _ (r : Records) (proper : Proper r) where
       let ts = bind-inv (outermostAt true (r .mesh) (r .sizes) (stepsBytes (r .steps)) 0 (outermost (r .steps)) 1 0 (r .start)) _ p (w .1) in
       let o = order-passed (devices (r .mesh)) (r .order) (opening-passed (w .0 .1)) in
       let g : r .steps ≡ map known (ts .0 .records) =
-      all-given (r .mesh) (r .sizes) (stepsBytes (r .steps)) true 0 1 0 (r .start) (r .steps) (ts .0) (proper .steps-ranked) (from-all (stepsBytes (r .steps))) (ts .1) .0 in
-      (
+      all-given (r .mesh) (r .sizes) (stepsBytes (r .steps)) true 0 1 0 (r .start) (r .steps) (ts .0) (proper .steps-ranked) (from-all (stepsBytes (r .steps))) (ts .1) .0 in (
         o .0,
         ap recordsOf (sym (accept-inj (ts .2)))
-        ∙ (λ i. record { mesh = r .mesh; order = o .1 i; sizes = r .sizes; start = r .start; steps = sym g i }),
+            ∙ (λ i. record { mesh = r .mesh; order = o .1 i; sizes = r .sizes; start = r .start; steps = sym g i }),
       )
 
 -- WHAT IS WRITTEN READS BACK AS THE SAME RECORDS

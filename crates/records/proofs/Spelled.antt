@@ -134,10 +134,9 @@ module _ (file : List ℕ) where
       let a : Spells file at (ds .0 .next) (listsBytes (ds .0 .value)) = lists-spell n rank at (ds .0) h (ds .1) .0 in
       let b : Spells file (ds .0 .next) (u .0 .next) (listBytes (u .0 .value)) = list-spells n (ds .0 .next) (u .0) (u .1) in
       let c = replicated-spells e n (u .0 .next) (v .0) (b .inside) (v .1) in
-      subst (λ (z : Read Sharding). Spells file at (z .next) (shardingBytes e (z .value)) × (offset ≡ at) × (leb 2 e ≡ false → z .value .replicated ≡ [])) (accept-inj (v .2))
-      (
+      subst (λ (z : Read Sharding). Spells file at (z .next) (shardingBytes e (z .value)) × (offset ≡ at) × (leb 2 e ≡ false → z .value .replicated ≡ [])) (accept-inj (v .2)) (
         join at (ds .0 .next) (v .0 .next) (listsBytes (ds .0 .value)) (listBytes (u .0 .value) ++ replicatedBytes e (v .0 .value)) a
-        (join (ds .0 .next) (u .0 .next) (v .0 .next) (listBytes (u .0 .value)) (replicatedBytes e (v .0 .value)) b (c .0)),
+            (join (ds .0 .next) (u .0 .next) (v .0 .next) (listBytes (u .0 .value)) (replicatedBytes e (v .0 .value)) b (c .0)),
         eqb→eq offset at (o .0),
         c .1,
       )

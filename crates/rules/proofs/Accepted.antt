@@ -304,8 +304,7 @@ accepted-counted file p e =
     let z = need-inv 0 (eqb (ts .0 .next) (length file)) 9 _ p (ts .2) in
     let g : ToldOutermost (f .0 .mesh) (f .0 .sizes) file 0 (stepCount file) (f .0 .start) (ts .0) =
     outermost-tells (f .0 .mesh) (f .0 .sizes) file true 0 (stepCount file) 1 (f .0 .next) (f .0 .start) (ts .0) (lit≤ tt) (ts .1) in
-    subst (λ (q : Plan). AcceptedPlan q × (length (q .runs) ≡ stepCount file)) (accept-inj (z .1))
-    (
+    subst (λ (q : Plan). AcceptedPlan q × (length (q .runs) ≡ stepCount file)) (accept-inj (z .1)) (
       record {
         within = a .within;
         ordered = a .ordered;

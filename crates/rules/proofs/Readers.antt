@@ -430,12 +430,11 @@ limits-met latest repeats l file p e =
     let k = need-inv 0 (editionKnown present (edition file)) 3 _ tt (b .1) in
     let d = need-inv 0 (leb (devices (p .mesh)) mostDevices) 11 _ tt (k .1) in
     let w = need-inv 0 (leb (product (p .sizes)) mostWords) 13 _ tt (d .1) in
-    let x : T (leb 1 (edition file)) × T (leb (edition file) latestEdition) = T-and (leb 1 (edition file)) (leb (edition file) latestEdition) (k .0) in
-    (
+    let x : T (leb 1 (edition file)) × T (leb (edition file) latestEdition) = T-and (leb 1 (edition file)) (leb (edition file) latestEdition) (k .0) in (
       x .1,
       meets-tests (reading latest repeats) present (reading-less latest repeats l) file p e
-      ∙ tests-left (leb (length file) mostBytes) (leb 1 (edition file)) (leb (edition file) latest) (leb (devices (p .mesh)) mostDevices) (leb (product (p .sizes)) mostWords)
-      (repeatsKnown repeats 1 (p .records)) (accept p) (b .0) (x .0) (d .0) (w .0),
+          ∙ tests-left (leb (length file) mostBytes) (leb 1 (edition file)) (leb (edition file) latest) (leb (devices (p .mesh)) mostDevices) (leb (product (p .sizes)) mostWords)
+          (repeatsKnown repeats 1 (p .records)) (accept p) (b .0) (x .0) (d .0) (w .0),
     )
 
 editions-met : (latest : ℕ) → latest ≤ latestEdition → (file : List ℕ) (p : Plan) → judgeBy present file ≡ accept p
