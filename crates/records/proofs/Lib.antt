@@ -1,0 +1,13 @@
+-- Laws of records and their files, from below.
+pub mod Places
+pub mod Moved
+pub mod Lists
+pub mod Given
+pub mod Written
+pub mod Spelled
+pub mod Again
+pub mod Readback
+pub mod Cutting
+pub mod Planned
+pub mod Arrives
+pub mod Promises

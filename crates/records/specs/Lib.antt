@@ -1,0 +1,5 @@
+-- Document 02, Ask 2: plans given as records, and their files.
+pub mod Records
+pub mod Writing
+pub mod RoundTrip
+pub mod Planning
