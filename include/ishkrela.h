@@ -141,8 +141,8 @@
  * is 0, so it may be null. The calls keep no state of their own: threads may call at once where none
  * lends memory for writing that another uses.
  *
- * A call takes less than 24 KiB of stack: on the cases of tests/ at most 22,952 bytes for a run, 6,976
- * for a placement, 5,136 for a check, 1,360 for a group listing by an order and 288 for one without
+ * A call takes less than 24 KiB of stack: on the cases of tests/ at most 23,464 bytes for a run, 9,248
+ * for a placement, 7,408 for a check, 1,360 for a group listing by an order and 288 for one without
  * (tests/stack.c, which tools/try_c runs).
  */
 #ifndef ISHKRELA_H
