@@ -14,7 +14,7 @@ use Rattle.rules.specs.WorkedRefusals as files
 use Rattle.rules.specs.WorkedLimits as sizes
 use Rattle.rules.specs.WorkedEditions as later
 use Rattle.rules.specs.WorkedOrders as cabled
-use Rattle.rules.specs.WorkedRepeats as nightly
+use Rattle.rules.specs.WorkedRepeats as repeated
 use Rattle.rules.specs.Promises.{RunPromise, RulesPromise}
 use Rattle.rules.specs.declared.Refusal.{Refusal}
 use Rattle.rules.specs.declared.RunOutcome.{RunOutcome}
@@ -144,6 +144,6 @@ rules-promise = record {
   no-sharding = later.no-sharding;
   ordered = cabled.in-order;
   second-edition = cabled.second-edition;
-  repeated = nightly.repeated;
-  repeats-read = nightly.repeats-read;
+  repeated = repeated.repeated;
+  repeats-read = repeated.repeats-read;
 }

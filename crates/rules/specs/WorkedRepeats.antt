@@ -76,8 +76,8 @@ nested zero steps = steps
 nested (suc n) steps = times 1 (nested n steps) ∷ []
 
 -- a plain step, a repeat with a repeat inside, a plain step
-abbrev pub nightly : List ℕ
-nightly = whole (slice ∷ times 2 (gather ∷ times 3 (swings 1) ∷ slice ∷ []) ∷ gather ∷ [])
+abbrev pub mixed : List ℕ
+mixed = whole (slice ∷ times 2 (gather ∷ times 3 (swings 1) ∷ slice ∷ []) ∷ gather ∷ [])
 
 -- repeats of 4,096 plain steps in all, of 4,080, and of 16
 abbrev pub full : List ℕ
@@ -94,7 +94,7 @@ repeats =
     -- "a count byte (the block is run that many times), a byte with the number of inner steps, then those steps"; the check's count is that of
     -- outermost steps, and "0 to 64 steps" is a limit of theirs
     checked (whole (times 2 (swings 1) ∷ [])) (passed 4 2 1 ([] ∷ []) [] (2 ∷ []))
-    ∷ checked nightly (passed 4 2 3 ([] ∷ []) [] (2 ∷ []))
+    ∷ checked mixed (passed 4 2 3 ([] ∷ []) [] (2 ∷ []))
     ∷ checked (whole (times 1 (swings 40) ∷ slice ∷ [])) (passed 4 2 2 ((0 ∷ []) ∷ []) [] (1 ∷ []))
     -- "which may be repeats themselves down to depth 4 (an outermost one is 1)": also one after another
     ∷ checked (whole (nested 4 (swings 1))) (passed 4 2 1 ([] ∷ []) [] (2 ∷ []))
@@ -167,10 +167,10 @@ repeats =
     ∷ placed (whole (times 2 (swings 1) ∷ slice ∷ [])) 1 1 (found ([] ∷ []) [] (2 ∷ []) (0 ∷ []))
     ∷ placed (whole (times 2 (swings 1) ∷ slice ∷ [])) 2 1 (found ((0 ∷ []) ∷ []) [] (1 ∷ []) (1 ∷ []))
     ∷ placed (whole (times 2 (swings 1) ∷ slice ∷ [])) 3 1 (refuse 34 0)
-    ∷ placed nightly 1 1 (found ((0 ∷ []) ∷ []) [] (1 ∷ []) (1 ∷ []))
-    ∷ placed nightly 2 1 (found ((0 ∷ []) ∷ []) [] (1 ∷ []) (1 ∷ []))
-    ∷ placed nightly 3 1 (found ([] ∷ []) [] (2 ∷ []) (0 ∷ []))
-    ∷ placed nightly 4 1 (refuse 34 0)
+    ∷ placed mixed 1 1 (found ((0 ∷ []) ∷ []) [] (1 ∷ []) (1 ∷ []))
+    ∷ placed mixed 2 1 (found ((0 ∷ []) ∷ []) [] (1 ∷ []) (1 ∷ []))
+    ∷ placed mixed 3 1 (found ([] ∷ []) [] (2 ∷ []) (0 ∷ []))
+    ∷ placed mixed 4 1 (refuse 34 0)
     ∷ placed (whole (times 1 (slice ∷ []) ∷ [])) 9 9 (refuse 41 1)
     ∷ checked (set (whole (times 2 (swings 1) ∷ slice ∷ [])) 6 1) (refuse 9 0)
     ∷ checked (set (whole (times 2 (swings 1) ∷ slice ∷ [])) 6 4) (refuse 7 0)
@@ -194,7 +194,7 @@ repeats =
     ∷ leaves (square (times 2 (sliceColumns ∷ gatherColumns ∷ times 3 (sliceRows ∷ gatherRows ∷ []) ∷ []) ∷ [])) 8 (tab 8 (λ k. k + 1))
     (1 ∷ 6 ∷ 3 ∷ 8 ∷ 1 ∷ 6 ∷ 3 ∷ 8 ∷ [])
     ∷ leaves (square (sliceRows ∷ times 3 (toColumns ∷ toRows ∷ []) ∷ toColumns ∷ [])) 8 (tab 8 (λ k. k + 1)) (1 ∷ 7 ∷ 2 ∷ 8 ∷ [])
-    ∷ leaves nightly 4 (1 ∷ 2 ∷ 3 ∷ 4 ∷ []) (1 ∷ 4 ∷ 1 ∷ 4 ∷ [])
+    ∷ leaves mixed 4 (1 ∷ 2 ∷ 3 ∷ 4 ∷ []) (1 ∷ 4 ∷ 1 ∷ 4 ∷ [])
     ∷ leaves (fileOf (2 ∷ 2 ∷ []) (2 ∷ []) ([] ∷ (0 ∷ []) ∷ []) (times 3 ((1 ∷ 1 ∷ 1 ∷ []) ∷ (2 ∷ 1 ∷ 1 ∷ []) ∷ []) ∷ reduce ∷ [])) 8
     (tab 8 (λ k. k + 1)) (6 ∷ 12 ∷ 6 ∷ 12 ∷ 6 ∷ 12 ∷ 6 ∷ 12 ∷ [])
     -- in files of editions 2 and 3: no step changes the replicated list, so a block comes back under one; 23 of its axis and 41 of the unreduced list
@@ -234,7 +234,7 @@ runsOf file = _>>=_ (judge file) (λ p. accept (p .runs))
 
 pub record RepeatsRead : Type 0 where
   -- a record for each kind byte, in file order; the plain steps in running order; how many of them each outermost step runs
-  pub nightly-read : judge nightly ≡ accept (record {
+  pub mixed-read : judge mixed ≡ accept (record {
     mesh = 2 ∷ [];
     order = 0 ∷ 1 ∷ [];
     sizes = 2 ∷ [];
@@ -258,7 +258,7 @@ pub record RepeatsRead : Type 0 where
   pub of-replicated : sameSharding (shardingOf [] [] (0 ∷ [])) (shardingOf [] [] []) ≡ false
   pub of-none : sameSharding (shardingOf (0 ∷ []) (1 ∷ []) (2 ∷ [])) (shardingOf (0 ∷ []) (1 ∷ []) (2 ∷ [])) ≡ true
   -- "On an accepted file with a repeat, the reader just before this answers 20 at the first one."
-  pub before : judgeBy withoutRepeats nightly ≡ refuse 20 2
+  pub before : judgeBy withoutRepeats mixed ≡ refuse 20 2
   pub without : judgeBy withoutRepeats (whole (slice ∷ [])) ≡ accept (record {
     mesh = 2 ∷ [];
     order = 0 ∷ 1 ∷ [];
@@ -272,7 +272,7 @@ pub record RepeatsRead : Type 0 where
 pub repeats-read : RepeatsRead
 unfolding fileOf judgeBy sameSharding
 repeats-read = record {
-  nightly-read = refl;
+  mixed-read = refl;
   alone = refl;
   so-far = refl;
   plain-ones = refl;
