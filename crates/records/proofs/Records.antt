@@ -132,8 +132,7 @@ module _ (mesh sizes : List ℕ) (gs : List Given) (i : ℕ) where
       let g : From (at + 1) bytes (count ∷ number ∷ stepsBytes rest) = from-rest at bytes 9 (count ∷ number ∷ stepsBytes rest) f in
       let h : From (at + 1 + 1) bytes (number ∷ stepsBytes rest) = from-rest (at + 1) bytes count (number ∷ stepsBytes rest) g in
       let b : getD bytes at 0 ≡ 9 = from-byte at bytes 9 (count ∷ number ∷ stepsBytes rest) f in
-      let n : offset gs (i + 1) ≡ at + 3 = next-record gs i (known (repeat count number)) rest e in
-      (
+      let n : offset gs (i + 1) ≡ at + 3 = next-record gs i (known (repeat count number)) rest e in (
         ap (λ (j : ℕ). eqb j 9) b,
         (let z : at + 1 + 2 ≡ offset gs (i + 1) = omega (arith, n) in z),
         (λ k. rw (is-lt (at + 1) (length bytes) (from-lt (at + 1) bytes count (number ∷ stepsBytes rest) g), from-byte (at + 1) bytes count (number ∷ stepsBytes rest) g) refl),
