@@ -3,6 +3,7 @@ pub mod Places
 pub mod Moved
 pub mod Lists
 pub mod Given
+pub mod Records
 pub mod Written
 pub mod Spelled
 pub mod Again

@@ -12,7 +12,7 @@ use Rattle.rules.specs.Refusals.{Judged, accept, _>>=_, _>>_}
 use Rattle.rules.specs.PlanFile.{axesAllowed, rankAllowed, judgeSizes, orderAllowed, same, some, Outermost, outermostAt, Plan, judge}
 use Rattle.rules.proofs.Judging.{accept-inj, need-inv, need-true, then-inv, bind-inv}
 use Rattle.records.specs.Records.{Given, known, Records, recordsOf, outermost, stepsBytes, fileLength, fileOf}
-use Rattle.records.specs.Writing.{judgeOrder, orderOf, judgeOpening, judgeRecords, writeOf}
+use Rattle.records.specs.Writing.{judgeOrder, orderOf, judgeOpening, mostRecords, judgeRecords, writeOf}
 use Rattle.records.specs.RoundTrip.{Proper, Fits, ReadsBack}
 use Rattle.records.proofs.Places.{from-all}
 use Rattle.records.proofs.Given.{all-given}
@@ -43,7 +43,8 @@ module _ (r : Records) (proper : Proper r) where
   unfolding judgeRecords
   records-same p e =
       let w = then-inv (judgeOpening r) _ p e in
-      let ts = bind-inv (outermostAt true (r .mesh) (r .sizes) (stepsBytes (r .steps)) 0 (outermost (r .steps)) 1 0 (r .start)) _ p (w .1) in
+      let n = need-inv 0 (leb (length (r .steps)) mostRecords) 2 _ p (w .1) in
+      let ts = bind-inv (outermostAt true (r .mesh) (r .sizes) (stepsBytes (r .steps)) 0 (outermost (r .steps)) 1 0 (r .start)) _ p (n .1) in
       let o = order-passed (devices (r .mesh)) (r .order) (opening-passed (w .0 .1)) in
       let g : r .steps ≡ map known (ts .0 .records) =
       all-given (r .mesh) (r .sizes) (stepsBytes (r .steps)) true 0 1 0 (r .start) (r .steps) (ts .0) (proper .steps-ranked) (from-all (stepsBytes (r .steps))) (ts .1) .0 in (

@@ -74,7 +74,7 @@ use Rattle.records.specs.Records.{
   header,
   fileOf,
 }
-use Rattle.records.specs.Writing.{judgeCounts, judgeSharding, judgeOrder, orderOf, judgeOpening, judgeRecords}
+use Rattle.records.specs.Writing.{judgeCounts, judgeSharding, judgeOrder, orderOf, judgeOpening, mostRecords, judgeRecords}
 use Rattle.records.specs.RoundTrip.{Shorts, Fits}
 use Rattle.records.proofs.Places.{From, from-all, from-length, from-next, from-u16}
 use Rattle.records.proofs.Lists.{read, is-le, is-eq, then-bind, then-then, bind-then, list-from, lists-from}
@@ -209,6 +209,11 @@ given-some (known (plain (allReduce L))) = omega arith
 given-some (known (plain (allToAll source target L))) = omega arith
 given-some (known (repeat count number)) = omega arith
 given-some unknown = omega arith
+
+steps-some : (gs : List Given) → length gs ≤ length (stepsBytes gs)
+unfolding stepsBytes
+steps-some [] = omega arith
+steps-some (g ∷ gs) = omega (arith, steps-some gs, length-append (givenBytes g) (stepsBytes gs), given-some g)
 
 outermost-few : (still : ℕ) (gs : List Given) → outermostFrom still gs ≤ length (stepsBytes gs)
 unfolding outermostFrom stepsBytes
@@ -406,8 +411,11 @@ module _ (r : Records) (fits : Fits r) where
       ap (λ (k : ℕ). outermostAt true (r .mesh) (r .sizes) file 0 (outermost (r .steps)) 1 k (r .start)) z
       ∙ outermost-moved (stepsStart r) file steps at-steps (r .mesh) (r .sizes) true 0 (outermost (r .steps)) 1 0 (r .start)) in
       rw (front-from, then-bind, is-count, read-there, bind-by)
-      (ap (_>>_ (judgeOpening r)) (ends (outermostAt true (r .mesh) (r .sizes) steps 0 (outermost (r .steps)) 1 0 (r .start)) refl))
+      (ap (_>>_ (judgeOpening r)) (rw numbered (ends (outermostAt true (r .mesh) (r .sizes) steps 0 (outermost (r .steps)) 1 0 (r .start)) refl)))
     where
+      numbered : leb (length (r .steps)) mostRecords ≡ true
+      numbered = is-le (length (r .steps)) mostRecords (unfold fileLength in omega (arith, fits .short, steps-some (r .steps)))
+
       planOf : Outermost → Plan
       planOf o = record {
         mesh = r .mesh;

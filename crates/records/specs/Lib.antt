@@ -1,5 +1,6 @@
 -- Document 02, Ask 2: plans given as records, and their files.
 pub mod Records
 pub mod Writing
+pub mod Forms
 pub mod RoundTrip
 pub mod Planning
