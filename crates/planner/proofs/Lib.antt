@@ -1,0 +1,3 @@
+-- Laws of the planner.
+pub mod Tails
+pub mod Three
