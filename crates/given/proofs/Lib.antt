@@ -1,0 +1,4 @@
+-- Laws of the judgement of arguments, from below.
+pub mod Sizes
+pub mod Counts
+pub mod Outside

@@ -1,0 +1,25 @@
+-- What the parts of the judgement of arguments (src/lib.rt) ask for and answer. The judgement itself is that of records/specs/Writing.antt, of what the
+-- arguments stand for in records/specs/Forms.antt. Assumes nothing.
+use Prim.Native.Nat.{ℕ}
+use mathlib.Core.Path.{_≡_}
+use lib.ListN.{length}
+use lib.Dec.{leb}
+use Rattle.rules.specs.Limits.{mostSteps}
+use Rattle.rules.specs.Refusals.{Judged, _>>_, need}
+use Rattle.rules.specs.PlanFile.{axesAllowed, rankAllowed}
+use Rattle.rules.specs.Types.{meshOf, sizesOf, WithinPlaces}
+use Rattle.rules.specs.declared.Mesh.{Mesh}
+use Rattle.rules.specs.declared.Table.{Table}
+
+-- 5: "n, rank or step count outside its limits"
+abbrev pub judgeLimits : (n rank steps : ℕ) → Judged (Unit {0})
+judgeLimits n rank steps = do
+  need (axesAllowed n) 5
+  need (rankAllowed rank) 5
+  need (leb steps mostSteps) 5
+
+-- a mesh and a table within their places, with as many sizes as they say
+pub record Shaped (mesh : Mesh) (table : Table) : Type 0 where
+  pub fits : WithinPlaces mesh table
+  pub n-is : length (meshOf mesh) ≡ mesh .n
+  pub rank-is : length (sizesOf table) ≡ table .rank
