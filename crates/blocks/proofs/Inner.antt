@@ -14,11 +14,11 @@ use Rattle.rules.specs.Refusals.{Judged, accept, refuse, _>>=_}
 use Rattle.rules.specs.PlanFile.{Read, StepsRead, JudgesSteps, stepsAt, itemAt}
 use Rattle.rules.specs.Demands.{onePass, largestOn}
 use Rattle.rules.proofs.Lists.{in-turn-append}
-use Rattle.rules.proofs.Turns.{largest-append}
+use Rattle.rules.proofs.Turns.{steps-sharding, last-largest, largest-append}
 use Rattle.rules.proofs.Repeats.{pass-append, Told, item-tells}
 use Rattle.rules.proofs.Bytes.{Takes, TakesAll, item-takes}
 use Rattle.blocks.specs.Blocks.{Summary, shardWords, summarized}
-use Rattle.blocks.proofs.Plain.{last-largest, fine-sound, summary-inv}
+use Rattle.blocks.proofs.Plain.{summary-inv}
 
 -- ---- steps one after the other
 
@@ -158,7 +158,7 @@ module _ (mesh sizes file : List ℕ) (depth : ℕ) where
             here = sym s-is;
             largest-is = omega (arith, all, g .largest-is);
             counted = omega arith;
-            sound = subst (IsSharding mesh sizes) (u .ends ∙ s-is) (fine-sound mesh sizes pos s (w .steps) (g .sound) (u .fine));
+            sound = subst (IsSharding mesh sizes) (u .ends ∙ s-is) (steps-sharding mesh sizes pos s (w .steps) (g .sound) (u .fine));
             ends = ap (λ (l : List Step). inTurn after l s₀) pass ∙ in-turn-append after (onePass (d .records)) (onePass (w .records)) s₀
                 ∙ ap (inTurn after (onePass (w .records))) from ∙ u .pass-ends;
             takes = record {

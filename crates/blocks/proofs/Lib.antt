@@ -4,3 +4,4 @@ pub mod Same
 pub mod Plain
 pub mod Inner
 pub mod Items
+pub mod Next

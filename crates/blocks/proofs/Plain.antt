@@ -1,34 +1,17 @@
 -- A plain step, and what a summary of steps tells. Assumes nothing.
-use Prim.Native.Nat.{ℕ, _+_, _≤_, _<_, max}
+use Prim.Native.Nat.{ℕ, _+_, _≤_, max}
 use mathlib.Core.Path.{_≡_, refl, sym, ap, ap₂, _∙_, fun-ext}
 use mathlib.Core.List.{List, [], _∷_}
 use native.Mathlib.Omega.{arith}
-use lib.ListN.{length, getD}
-use Rattle.rules.specs.Lists.{inTurn}
-use Rattle.rules.specs.Sharding.{Sharding, IsSharding}
+use lib.ListN.{length}
+use Rattle.rules.specs.Sharding.{Sharding}
 use Rattle.rules.specs.Collectives.{Step, after}
 use Rattle.rules.specs.Refusals.{Judged, accept, refuse, _>>=_}
 use Rattle.rules.specs.PlanFile.{Read, stepAt, judgeStep, plain, StepsRead, plainAt}
-use Rattle.rules.specs.Demands.{largestOn}
 use Rattle.rules.proofs.Judging.{never, accept-inj, bind-assoc}
-use Rattle.rules.proofs.Steps.{after-sharding}
-use Rattle.rules.proofs.Turns.{Fine}
 use Rattle.taking.specs.Taking.{StepTaken, takeStep}
 use Rattle.taking.proofs.Takes.{is-after}
 use Rattle.blocks.specs.Blocks.{Summary, shardWords, summaryOf, summarized}
-
--- ---- steps in turn
-
--- the last state is one on the way
-pub last-largest : (f : Sharding → ℕ) (s : Sharding) (l : List Step) → f (inTurn after l s) ≤ largestOn f s l
-last-largest f s [] = omega arith
-last-largest f s (t ∷ l) = omega (arith, last-largest f (after t s) l)
-
--- steps that are accepted in turn lead to a sharding
-pub fine-sound : (mesh sizes : List ℕ) → ((a : ℕ) → 0 < getD mesh a 1) → (s : Sharding) (l : List Step) → IsSharding mesh sizes s → Fine mesh sizes s l
-    → IsSharding mesh sizes (inTurn after l s)
-fine-sound mesh sizes pos s [] h f = h
-fine-sound mesh sizes pos s (t ∷ l) h f = fine-sound mesh sizes pos (after t s) l (after-sharding mesh sizes pos t s h (f .0)) (f .1)
 
 -- ---- a summary
 

@@ -266,7 +266,11 @@ blocks-come-back known mesh sizes file depth k at s w e =
     let steps : flat (replicate (h .count) (b .steps)) ≡ w .steps = ap (λ (z : StepsRead). z .steps) (h .whole) in
     record {
       count = h .count;
-      block = b .steps;
+      number = h .number;
+      block = b;
+      count-is = positive-inv mesh sizes file k at (h .count) (h .count-is) .2;
+      number-is = positive-inv mesh sizes file k (at + 1) (h .number) (h .number-is) .2;
+      block-is = h .block-is;
       rounds = sym steps;
       back = ap (λ (z : StepsRead). z .sharding) (sym (h .whole)) ∙ h .back;
       visits = λ i j m n.

@@ -17,8 +17,8 @@ use Rattle.rules.specs.PlanFile.{Plan, announced, announcedShape, room}
 use Rattle.rules.proofs.Lists.{few-distinct}
 use Rattle.rules.proofs.Groups.{groups-devices}
 use Rattle.rules.proofs.Sizes.{cut-product, span-pos}
-use Rattle.rules.proofs.Steps.{after-sharding, sharding-cut}
-use Rattle.rules.proofs.Turns.{Fine}
+use Rattle.rules.proofs.Steps.{sharding-cut}
+use Rattle.rules.proofs.Turns.{Fine, steps-sharding}
 use Rattle.rules.proofs.Accepted.{Within, AcceptedPlan}
 
 -- ---- the largest of numbers
@@ -64,14 +64,9 @@ shard-words mesh sizes w s h =
     pos-left (suc m) g h = omega arith
 
 module _ {p : Plan} (a : AcceptedPlan p) where
-  steps-sharding : (s : Sharding) (ts : List Step) → IsSharding (p .mesh) (p .sizes) s → Fine (p .mesh) (p .sizes) s ts
-      → IsSharding (p .mesh) (p .sizes) (inTurn after ts s)
-  steps-sharding s [] h f = h
-  steps-sharding s (t ∷ ts) h f = steps-sharding (after t s) ts (after-sharding (p .mesh) (p .sizes) (a .within .sizes-pos) t s h (f .0)) (f .1)
-
   state-sharding : (k : ℕ) → IsSharding (p .mesh) (p .sizes) (announced p k)
   unfolding announced
-  state-sharding k = steps-sharding (p .start) (take k (p .steps)) (a .start-is) (fine-take (p .mesh) (p .sizes) k (p .start) (p .steps) (a .fine))
+  state-sharding k = steps-sharding (p .mesh) (p .sizes) (a .within .sizes-pos) (p .start) (take k (p .steps)) (a .start-is) (fine-take (p .mesh) (p .sizes) k (p .start) (p .steps) (a .fine))
 
   -- every state fits the room
   state-fits : (k : ℕ) → k ≤ length (p .steps) → devices (p .mesh) * product (announcedShape p k) ≤ room p

@@ -4,11 +4,11 @@ use mathlib.Core.Path.{_≡_, refl, sym, ap, _∙_, subst}
 use mathlib.Core.List.{List, [], _∷_, _++_, append-nil}
 use native.Mathlib.Omega.{arith}
 use native.Mathlib.Numerals.{add-one}
-use lib.ListN.{length, take, replicate, length-append}
+use lib.ListN.{length, getD, take, replicate, length-append}
 use Rattle.rules.specs.Lists.{tab, inTurn, flat, largest}
-use Rattle.rules.specs.Sharding.{Sharding}
-use Rattle.rules.specs.Collectives.{Step, after}
-use Rattle.rules.proofs.Steps.{AcceptedStep}
+use Rattle.rules.specs.Sharding.{Sharding, shardSizes, IsSharding}
+use Rattle.rules.specs.Collectives.{Step, after, shapeAfter, Shards, stepped}
+use Rattle.rules.proofs.Steps.{AcceptedStep, after-sharding, after-shape}
 use Rattle.rules.specs.Demands.{largestOn}
 use Rattle.rules.proofs.Lists.{in-turn-append}
 
@@ -61,11 +61,29 @@ module _ (mesh sizes : List ℕ) where
   fine-times (suc n) l s e f =
       fine-append l (flat (replicate n l)) s f (subst (λ (z : Sharding). Fine mesh sizes z (flat (replicate n l))) (sym e) (fine-times n l s e f))
 
+-- steps that are accepted in turn lead to a sharding, and shards have its shape after them, whatever the words
+module _ (mesh sizes : List ℕ) (pos : (a : ℕ) → 0 < getD mesh a 1) where
+  pub steps-sharding : (s : Sharding) (ts : List Step) → IsSharding mesh sizes s → Fine mesh sizes s ts → IsSharding mesh sizes (inTurn after ts s)
+  steps-sharding s [] h f = h
+  steps-sharding s (t ∷ ts) h f = steps-sharding (after t s) ts (after-sharding mesh sizes pos t s h (f .0)) (f .1)
+
+  pub steps-shape : {W : Type 0} (addAll : List W → W) (ts : List Step) (s : Sharding) (v : Shards W) → IsSharding mesh sizes s → Fine mesh sizes s ts
+      → v .shape ≡ shardSizes mesh sizes (s .dims) → inTurn (stepped addAll mesh) ts v .shape ≡ shardSizes mesh sizes (inTurn after ts s .dims)
+  unfolding stepped
+  steps-shape addAll [] s v h f e = e
+  steps-shape addAll (t ∷ ts) s v h f e =
+      steps-shape addAll ts (after t s) _ (after-sharding mesh sizes pos t s h (f .0)) (f .1)
+      (ap (shapeAfter mesh t) e ∙ after-shape mesh sizes pos t s h (f .0))
+
 -- the largest of a number of the states on the way, the first included
 module _ (f : Sharding → ℕ) where
   pub first-largest : (s : Sharding) (l : List Step) → f s ≤ largestOn f s l
   first-largest s [] = omega arith
   first-largest s (t ∷ l) = omega arith
+
+  pub last-largest : (s : Sharding) (l : List Step) → f (inTurn after l s) ≤ largestOn f s l
+  last-largest s [] = omega arith
+  last-largest s (t ∷ l) = omega (arith, last-largest (after t s) l)
 
   pub largest-append : (l m : List Step) (s : Sharding) → largestOn f s (l ++ m) ≡ max (largestOn f s l) (largestOn f (inTurn after l s) m)
   largest-append [] m s = omega (arith, first-largest s m)

@@ -58,7 +58,7 @@ use Rattle.rules.proofs.Steps.{
   after-sharding,
   after-shape,
 }
-use Rattle.rules.proofs.Turns.{Fine}
+use Rattle.rules.proofs.Turns.{Fine, steps-shape}
 use Rattle.rules.proofs.Accepted.{AcceptedPlan, accepted}
 use Rattle.rules.proofs.Room.{fine-take, state, room-few}
 use Rattle.rules.proofs.Next.{step-ready, in-turn-next, next-divides}
@@ -93,15 +93,6 @@ module _ (mesh sizes : List ℕ) (pos : (a : ℕ) → zero < getD mesh a 1) wher
       (step-ready mesh sizes pos (allToAll source target L) s h f) off (varies mesh sizes s h .once) (varies mesh sizes s h .of-mesh) F
 
   -- ---- steps in turn
-
-  -- the shards have the announced shape after every step, whatever the words
-  steps-shape : {W : Type 0} (addAll : List W → W) (ts : List Step) (s : Sharding) (v : Shards W) → IsSharding mesh sizes s → Fine mesh sizes s ts
-      → v .shape ≡ shapeOf s → inTurn (stepped addAll mesh) ts v .shape ≡ shapeOf (inTurn after ts s)
-  unfolding stepped
-  steps-shape addAll [] s v h f e = e
-  steps-shape addAll (t ∷ ts) s v h f e =
-      steps-shape addAll ts (after t s) _ (after-sharding mesh sizes pos t s h (f .0)) (f .1)
-      (ap (shapeAfter mesh t) e ∙ after-shape mesh sizes pos t s h (f .0))
 
   -- a faithful spread of words stays one
   steps-spread : (ts : List Step) (s : Sharding) (table : List ℕ → ℕ) (v : Shards ℕ) → IsSharding mesh sizes s → Fine mesh sizes s ts

@@ -19,6 +19,7 @@ use Rattle.rules.specs.PlanFile.{
   plain,
   repeat,
   StepsRead,
+  JudgesSteps,
   stepsAt,
   repeatAt,
   itemAt,
@@ -123,18 +124,23 @@ StepsCounted = (file : List ℕ) (p : Plan) → judge file ≡ accept p → Step
 -- "a count byte (the block is run that many times)", "The sharding after the block must equal the one before it": an accepted repeat runs its block so
 -- many times, and leaves the sharding as it was. After j steps of any round the sharding is that after j steps of the first, so that every round visits
 -- the same states, and a step that was accepted in the first is in all.
-pub record ComesBack (s : Sharding) (w : StepsRead) : Type 0 where
+pub record ComesBack (inner : JudgesSteps) (file : List ℕ) (k at : ℕ) (s : Sharding) (w : StepsRead) : Type 0 where
   pub count : ℕ
-  pub block : List Step
-  pub rounds : w .steps ≡ flat (replicate count block)
+  pub number : ℕ
+  pub block : StepsRead
+  -- the two bytes, and the block's steps as they are judged once
+  pub count-is : getD file at 0 ≡ count
+  pub number-is : getD file (at + 1) 0 ≡ number
+  pub block-is : inner number (k + 1) (at + 2) s ≡ accept block
+  pub rounds : w .steps ≡ flat (replicate count (block .steps))
   pub back : w .sharding ≡ s
-  pub visits : (i j : ℕ) → i < count → j ≤ length block
-      → inTurn after (take (i * length block + j) (w .steps)) s ≡ inTurn after (take j block) s
+  pub visits : (i j : ℕ) → i < count → j ≤ length (block .steps)
+      → inTurn after (take (i * length (block .steps) + j) (w .steps)) s ≡ inTurn after (take j (block .steps)) s
 
 abbrev pub BlocksComeBack : Type 0
 BlocksComeBack =
     (known : Bool) (mesh sizes file : List ℕ) (depth k at : ℕ) (s : Sharding) (w : StepsRead)
-    → repeatAt (stepsAt (itemAt known mesh sizes file depth)) file k at s ≡ accept w → ComesBack s w
+    → repeatAt (stepsAt (itemAt known mesh sizes file depth)) file k at s ≡ accept w → ComesBack (stepsAt (itemAt known mesh sizes file depth)) file k at s w
 
 -- the plain steps in file order, each once; the largest of a number of the shardings on a list's way, the first included
 abbrev pub onePass : List Record → List Step

@@ -7,10 +7,12 @@ use mathlib.Core.List.{List, [], _∷_, _++_}
 use lib.ListN.{length, set, replicate}
 use Rattle.rules.specs.Lists.{tab, flat, All, done, _&_}
 use Rattle.rules.specs.Collectives.{Step, allSlice, allGather}
-use Rattle.rules.specs.Refusals.{Judged, accept, refuse, _>>=_}
+use Rattle.rules.specs.Refusals.{Judged, accept, refuse, _>>=_, reasonOf}
 use Rattle.rules.specs.PlanFile.{plain, repeat, sameSharding, judge, judgeBy}
-use Rattle.rules.specs.Calls.{checkOf, placeOf, runOf}
-use Rattle.rules.specs.Readers.{withoutRepeats}
+use Rattle.rules.specs.Calls.{checkOf, checkedOf, placeOf, runOf}
+use Rattle.rules.specs.Readers.{withoutRepeats, original}
+use Rattle.rules.specs.declared.Reason.the-variants.{ShardingChanged, TooDeep, TooManyRun, RepeatOfNothing}
+use Rattle.rules.specs.declared.CheckOutcome.the-variants as check
 use Rattle.rules.specs.Ledger.{Case, checked, placed, Holds, fileIn, fileOf, on2x2, passed, found, leaves}
 use Rattle.rules.specs.WorkedRefusals.{refusedRun}
 use Rattle.rules.specs.WorkedEditions.{second, shardingOf, passed as passed2x2}
@@ -206,6 +208,8 @@ repeats =
     ∷ leaves (third [] [] (times 2 (slice ∷ (1 ∷ 1 ∷ 1 ∷ []) ∷ (2 ∷ 2 ∷ 0 ∷ 1 ∷ []) ∷ []) ∷ [])) 16 (tab 16 (λ k. k + 1)) (
     9 ∷ 2 ∷ 15 ∷ 8 ∷ 9 ∷ 2 ∷ 15 ∷ 8 ∷ 9 ∷ 2 ∷ 15 ∷ 8 ∷ 9 ∷ 2 ∷ 15 ∷ 8 ∷ []
     )
+    -- a byte's most inner steps
+    ∷ checked (square (times 1 (flat (replicate 85 (sliceRows ∷ toColumns ∷ gatherColumns ∷ []))) ∷ [])) (passed 8 2 1 ([] ∷ [] ∷ []) [] (2 ∷ 2 ∷ []))
     ∷ []
 
 pub repeated : All Holds repeats
@@ -217,7 +221,7 @@ repeated =
     & refl & refl & refl & refl & refl & refl & refl & refl & refl & refl & refl & refl
     & refl & refl & refl & refl & refl & refl & refl & refl & refl & refl & refl & refl
     & refl & refl & refl & refl & refl & refl & refl & refl & refl & refl & refl & refl
-    & refl & refl & refl & refl & refl & refl & refl & refl & refl & refl & refl & refl & done
+    & refl & refl & refl & refl & refl & refl & refl & refl & refl & refl & refl & refl & refl & done
 
 -- ---- what is read
 
@@ -233,6 +237,16 @@ abbrev pub runsOf : (file : List ℕ) → Judged (List ℕ)
 runsOf file = _>>=_ (judge file) (λ p. accept (p .runs))
 
 pub record RepeatsRead : Type 0 where
+  -- "Step kind 9 is a repeat": no byte above it is one
+  pub unknown : tab 246 (λ i. checkOf (whole (((i + 10) ∷ 2 ∷ 2 ∷ slice ++ gather) ∷ []))) ≡ replicate 246 (refuse 20 1)
+  -- the reader with document 01's limits knows repeats and orders
+  pub original-reads : judgeBy original mixed ≡ judge mixed
+  pub original-orders : judgeBy original (third [] [] (times 2 (swings 1) ∷ [])) ≡ judge (third [] [] (times 2 (swings 1) ∷ []))
+  -- the reason of each number
+  pub reason-41 : checkedOf (checkOf (whole (times 1 (slice ∷ []) ∷ []))) .outcome ≡ check.Refused (record { reason = ShardingChanged; step = 1 })
+  pub reason-42 : checkedOf (checkOf (whole (nested 5 (swings 1)))) .outcome ≡ check.Refused (record { reason = TooDeep; step = 5 })
+  pub reason-43 : checkedOf (checkOf (whole (times 255 (swings 9) ∷ []))) .outcome ≡ check.Refused (record { reason = TooManyRun; step = 1 })
+  pub reason-44 : checkedOf (checkOf (whole ((9 ∷ 0 ∷ []) ∷ []))) .outcome ≡ check.Refused (record { reason = RepeatOfNothing; step = 1 })
   -- a record for each kind byte, in file order; the plain steps in running order; how many of them each outermost step runs
   pub mixed-read : judge mixed ≡ accept (record {
     mesh = 2 ∷ [];
@@ -270,8 +284,15 @@ pub record RepeatsRead : Type 0 where
   })
 
 pub repeats-read : RepeatsRead
-unfolding fileOf judgeBy sameSharding
+unfolding fileIn fileOf judgeBy sameSharding checkOf reasonOf
 repeats-read = record {
+  unknown = refl;
+  original-reads = refl;
+  original-orders = refl;
+  reason-41 = refl;
+  reason-42 = refl;
+  reason-43 = refl;
+  reason-44 = refl;
   mixed-read = refl;
   alone = refl;
   so-far = refl;

@@ -4,7 +4,7 @@ use borrow.Author.Needs.{needs}
 use native.Mathlib.Omega.{arith}
 use Rattle.rules.specs.Limits.{mostDepth}
 use Rattle.blocks.specs.Blocks.{Judging}
-use Rattle.answer.proofs.Prints.{judging-next}
+use Rattle.blocks.proofs.Next.{judging-next}
 use Rattle.answer.proofs.print_steps.Statement.{statement}
 use Rattle.answer.proofs.print_steps.Tie as tie
 

@@ -1,4 +1,4 @@
--- A step that was read again leaves all that is asked before the next one. Assumes nothing.
+-- A step or a repeat that was accepted leaves all that is asked before the next one. Assumes nothing.
 use Prim.Native.Nat.{ℕ, _+_, _<_, _≤_, max}
 use mathlib.Core.Path.{_≡_, ap, _∙_, subst}
 use mathlib.Core.Bool.{true}
@@ -9,15 +9,16 @@ use Rattle.rules.specs.Sharding.{Sharding, IsSharding}
 use Rattle.rules.specs.PlanFile.{Read, StepsRead, itemAt}
 use Rattle.rules.specs.Demands.{onePass, largestOn}
 use Rattle.rules.specs.Types.{shardingOf, meshOf, sizesOf}
+use Rattle.rules.proofs.Turns.{steps-sharding, last-largest}
 use Rattle.rules.proofs.Repeats.{Told, item-tells}
 use Rattle.rules.proofs.Bytes.{Takes, item-takes}
 use Rattle.rules.specs.declared.Mesh.{Mesh}
 use Rattle.rules.specs.declared.Table.{Table}
 use Rattle.rules.specs.declared.Sharding as code
 use Rattle.judge.specs.Step.{Sharded}
 use Rattle.blocks.specs.Blocks.{shardWords, Summary, summaryIn, summarized, StepsTell, Judging}
 use Rattle.blocks.specs.declared.StepsJudged.{StepsJudged}
-use Rattle.blocks.proofs.Plain.{last-largest, fine-sound, summary-inv}
+use Rattle.blocks.proofs.Plain.{summary-inv}
 use Rattle.reader.specs.declared.Next.the-variants as next
 use Rattle.reader.proofs.Answers.{read-on}
 
@@ -45,7 +46,7 @@ judging-next file depth mesh table {at} {k} {total} {largest} {end} {s} r g e n 
     record {
       ready = record {
         fits = g .ready .fits;
-        sound = subst (IsSharding M N) (u .ends ∙ s-is) (fine-sound M N (g .ready .fits .sized .least) z (w .steps) (g .ready .sound) (u .fine));
+        sound = subst (IsSharding M N) (u .ends ∙ s-is) (steps-sharding M N (g .ready .fits .sized .least) z (w .steps) (g .ready .sound) (u .fine));
       };
       total-is = g .total-is;
       counted = omega (arith, last, m-is);
