@@ -2,3 +2,4 @@
 pub mod Sizes
 pub mod Counts
 pub mod Outside
+pub mod Shapes

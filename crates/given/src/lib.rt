@@ -15,7 +15,7 @@ ghost use Rattle.start.specs.Start.{meaning};
 ghost use Rattle.records.specs.Records.{innerOf, outermost};
 ghost use Rattle.records.specs.Writing.{judgeCounts, judgeSharding, judgeOrder};
 ghost use Rattle.records.specs.Forms.{listGiven, dimsGiven, shardingGiven, recordBytes, axisAt, listRecord, stepRecord, givenAt, recordCount, stepsGiven};
-ghost use Rattle.given.specs.Given.{judgeLimits, Shaped};
+ghost use Rattle.given.specs.Given.{judgeLimits, judgeShape, Shaped};
 use mesh::product_from;
 use order::order_allowed;
 use rules::Axis;
@@ -89,6 +89,30 @@ pub fn judge_order(mesh: &[u16], order: &[u16]) -> Verdict
         return refused(Reason::WrongOrder, 0);
     }
     Verdict::Fine
+}
+
+// What stands before the shardings: 5, 10, 11, 19, 12, 13.
+pub fn judge_shape<'a>(
+    mesh: &'a [u16],
+    order: &'a [u16],
+    table: &'a [u16],
+    outermost: usize,
+) -> Verdict
+    ensures { λ r. ⌜ meaning r ≡ judgeShape (now (mesh .entry)) (now (order .entry)) (now (table .entry)) outermost ⌝ }
+{
+    let limits = judge_limits(mesh.len(), table.len(), outermost);
+    let Verdict::Fine = limits else {
+        return limits;
+    };
+    let sizes = judge_sizes(mesh, Device::MOST, Reason::MeshSizeZero, Reason::TooManyDevices);
+    let Verdict::Fine = sizes else {
+        return sizes;
+    };
+    let ordered = judge_order(mesh, order);
+    let Verdict::Fine = ordered else {
+        return ordered;
+    };
+    judge_sizes(table, Table::MOST, Reason::TensorSizeZero, Reason::TooManyWords)
 }
 
 // The size at a place, 1 past the last.
