@@ -1,6 +1,6 @@
 -- What stands before the shardings, test by test, and what it tells. Assumes nothing.
 use Prim.Native.Nat.{ℕ, _+_, _*_, _≤_, _<_}
-use mathlib.Core.Path.{_≡_, refl, sym, ap, _∙_}
+use mathlib.Core.Path.{_≡_, refl, sym, ap, _∙_, subst}
 use mathlib.Core.Bool.{_&&_}
 use mathlib.Core.List.{List}
 use native.Mathlib.Omega.{arith}
@@ -11,6 +11,9 @@ use Rattle.rules.specs.Mesh.{devices, OnMesh}
 use Rattle.rules.specs.Limits.{mostAxes, mostDims, mostDevices, mostWords, mostSteps}
 use Rattle.rules.specs.Refusals.{Judged, accept, _>>_}
 use Rattle.rules.specs.PlanFile.{axesAllowed, rankAllowed, judgeSizes}
+use Rattle.rules.specs.Types.{meshOf, sizesOf, Sized}
+use Rattle.rules.specs.declared.Mesh.{Mesh}
+use Rattle.rules.specs.declared.Table.{Table}
 use Rattle.rules.specs.declared.Refusal.{Refusal}
 use Rattle.rules.proofs.Lists.{T-and}
 use Rattle.rules.proofs.Judging.{need-inv, then-inv}
@@ -19,7 +22,7 @@ use Rattle.start.specs.Start.{meaning}
 use Rattle.start.specs.declared.Verdict.{Verdict}
 use Rattle.start.specs.declared.Verdict.the-variants as verdict
 use Rattle.records.specs.Writing.{judgeOrder}
-use Rattle.given.specs.Given.{judgeLimits, judgeShape}
+use Rattle.given.specs.Given.{judgeLimits, judgeShape, Shaped}
 
 -- a refusal stays one, whatever follows
 pub halts : {j : Judged (Unit {0})} (rest : Judged (Unit {0})) {v : Verdict} {x : Refusal} → meaning v ≡ j → v ≡ verdict.Refused x → meaning v ≡ _>>_ j rest
@@ -83,3 +86,18 @@ module _ (mesh order sizes : List ℕ) (outermost : ℕ) where
         rank-some = leb→le 1 (length sizes) (r .0);
         rank-few = leb→le (length sizes) mostDims (r .1);
       }
+
+-- a mesh and a table with the sizes that passed
+pub shaped : (mesh order sizes : List ℕ) (outermost : ℕ) → judgeShape mesh order sizes outermost ≡ accept tt → (m : Mesh) (t : Table)
+    → (meshOf m ≡ mesh) × (m .n ≡ length mesh) → (sizesOf t ≡ sizes) × (t .rank ≡ length sizes) → Shaped m t
+shaped mesh order sizes outermost e m t a b =
+    let f : ShapeFacts mesh order sizes outermost = shape-facts mesh order sizes outermost e in
+    record {
+      fits = record {
+        axes = omega (arith, a .1, f .on .axes-few);
+        rank = omega (arith, b .1, f .rank-few);
+        sized = subst Sized (sym (a .0)) (record { least = f .mesh-sizes .each-pos; most = f .mesh-sizes .each-few });
+      };
+      n-is = ap length (a .0) ∙ sym (a .1);
+      rank-is = ap length (b .0) ∙ sym (b .1);
+    }

@@ -104,7 +104,12 @@ pub fn judge_shape<'a>(
     let Verdict::Fine = limits else {
         return limits;
     };
-    let sizes = judge_sizes(mesh, Device::MOST, Reason::MeshSizeZero, Reason::TooManyDevices);
+    let sizes = judge_sizes(
+        mesh,
+        Device::MOST,
+        Reason::MeshSizeZero,
+        Reason::TooManyDevices,
+    );
     let Verdict::Fine = sizes else {
         return sizes;
     };
@@ -112,7 +117,12 @@ pub fn judge_shape<'a>(
     let Verdict::Fine = ordered else {
         return ordered;
     };
-    judge_sizes(table, Table::MOST, Reason::TensorSizeZero, Reason::TooManyWords)
+    judge_sizes(
+        table,
+        Table::MOST,
+        Reason::TensorSizeZero,
+        Reason::TooManyWords,
+    )
 }
 
 // The size at a place, 1 past the last.

@@ -9,7 +9,15 @@ use Rattle.rules.specs.Types.{listFrom, listsFrom}
 use Rattle.rules.specs.declared.Kind.{Kind}
 use Rattle.rules.specs.declared.Kind.the-variants.{AllSlice, AllGather, AllReduce, AllToAll, Unknown}
 use Rattle.rules.specs.declared.Step.{Step}
+use Rattle.rules.specs.Refusals.{Judged, accept, refuse, _>>_, refusalOf}
+use Rattle.rules.specs.declared.Sharding as code
+use Rattle.records.specs.Writing.{judgeSharding}
+use Rattle.records.specs.Forms.{shardingGiven}
+use Rattle.records.specs.Planning.{planSteps, reachable, planOf}
+use Rattle.given.specs.Given.{judgeShape}
 use Rattle.planner.specs.declared.Steps.{Steps}
+use Rattle.planner.specs.declared.Planned.{Planned}
+use Rattle.planner.specs.declared.PlanOutcome.the-variants as outcome
 
 abbrev pub stepWith : Kind → (source target : ℕ) → List (List ℕ) → List ℕ → Step
 stepWith kind source target lists list = record {
@@ -32,3 +40,24 @@ noStep = stepWith Unknown 0 0 [] []
 -- at most three of them
 unfoldable pub stepsFrom : List rules.Step → Steps
 stepsFrom ts = record { count = length ts; steps = tab 3 (λ i. getD (map stepFrom ts) i noStep) }
+
+-- ---- the call
+
+-- the tests of `planOf`, in its order
+abbrev pub judgeRoute : (mesh order sizes : List ℕ) → (start goal : code.Sharding) → Judged (Unit {0})
+judgeRoute mesh order sizes start goal = do
+  judgeShape mesh order sizes 0
+  judgeSharding mesh sizes (shardingGiven (length sizes) start)
+  judgeSharding mesh sizes (shardingGiven (length sizes) goal)
+  reachable (shardingGiven (length sizes) start) (shardingGiven (length sizes) goal)
+
+-- the steps of the records that the definition makes of the arguments, or its refusal
+abbrev pub stepsPlanned : (mesh order sizes : List ℕ) → (start goal : code.Sharding) → Judged (List rules.Step)
+stepsPlanned mesh order sizes start goal = do
+  planOf mesh order sizes (shardingGiven (length sizes) start) (shardingGiven (length sizes) goal)
+  accept (planSteps (shardingGiven (length sizes) start) (shardingGiven (length sizes) goal))
+
+-- the answer of the code, every place of it
+abbrev pub plannedOf : Judged (List rules.Step) → Planned
+plannedOf (accept ts) = record { outcome = outcome.Made; plan = stepsFrom ts }
+plannedOf (refuse n k) = record { outcome = outcome.Refused (refusalOf n k); plan = stepsFrom [] }

@@ -1,5 +1,5 @@
-// The steps from one sharding to another, as records/specs/Planning.antt defines them: an all-reduce, an all-gather and an all-slice, each left out where
-// it names no axis.
+// The plan from one sharding to another, as records/specs/Planning.antt defines it: an all-reduce, an all-gather and an all-slice, each left out where it
+// names no axis.
 ghost use mathlib.Core.Path.{_≡_};
 ghost use mathlib.Core.List.{List, [], _∷_, _++_};
 ghost use Prim.Native.Nat.{ℕ, _≤_, _<_};
@@ -9,17 +9,29 @@ ghost use Rattle.rules.specs.Limits.{mostDims};
 ghost use Rattle.rules.specs.Collectives.{allSlice, allGather, allReduce};
 ghost use Rattle.rules.specs.Collectives as rules;
 ghost use Rattle.rules.specs.Types.{axesOf, dimsOf, shardingOf};
-ghost use Rattle.records.specs.Planning.{common as commonOf, restOfStart, planSteps};
-ghost use Rattle.planner.specs.Planned.{stepFrom, stepsFrom};
+ghost use Rattle.start.specs.Start.{meaning};
+ghost use Rattle.records.specs.Planning.{common as commonOf, restOfStart, planSteps, reachable};
+ghost use Rattle.planner.specs.Planned.{stepFrom, stepsFrom, judgeRoute, stepsPlanned, plannedOf};
+use axes::all_in;
 use axes::without;
+use blocks::same_list;
 use dims::dims_within;
 use dims::names_axis;
+use given::judge_shape;
+use given::judge_sharding;
+use given::mesh_of;
+use given::table_of;
 use rules::AxisList;
 use rules::Dim;
 use rules::DimLists;
 use rules::Kind;
+use rules::Reason;
+use rules::Refusal;
 use rules::Sharding;
 use rules::Step;
+use start::Verdict;
+use start::refusal_of;
+use start::refused;
 
 // How many axes two lists have in common from their beginning on.
 fn common(start: AxisList, goal: AxisList) -> usize
@@ -172,4 +184,78 @@ pub fn plan_steps(start: Sharding, goal: Sharding, rank: usize) -> Steps
     let one = none.with(reduce_of(list), list.len() != 0);
     let two = one.with(gather_of(off, rank), names_axis(off, rank));
     two.with(slice_of(on, rank), names_axis(on, rank))
+}
+
+// 40: the goal has an unreduced axis that the start lacks, or another replicated list.
+fn judge_reach(start: Sharding, goal: Sharding) -> Verdict
+    ensures { λ r. ⌜ ((rank : ℕ) → meaning r ≡ reachable (shardingOf rank start) (shardingOf rank goal)) ⌝ }
+{
+    if !all_in(goal.unreduced, start.unreduced) {
+        return refused(Reason::GoalOutOfReach, 0);
+    }
+    if !same_list(start.replicated, goal.replicated) {
+        return refused(Reason::GoalOutOfReach, 0);
+    }
+    Verdict::Fine
+}
+
+// All that a plan is asked for: mesh, order and table, the start, the goal, and that it can be reached.
+fn judge_route<'a>(
+    mesh: &'a [u16],
+    order: &'a [u16],
+    table: &'a [u16],
+    start: Sharding,
+    goal: Sharding,
+) -> Verdict
+    ensures { λ r. ⌜ meaning r ≡ judgeRoute (now (mesh .entry)) (now (order .entry)) (now (table .entry)) start goal ⌝ }
+{
+    let shape = judge_shape(mesh, order, table, 0);
+    let Verdict::Fine = shape else {
+        return shape;
+    };
+    let m = mesh_of(mesh);
+    let t = table_of(table);
+    let first = judge_sharding(start, m, t);
+    let Verdict::Fine = first else {
+        return first;
+    };
+    let second = judge_sharding(goal, m, t);
+    let Verdict::Fine = second else {
+        return second;
+    };
+    judge_reach(start, goal)
+}
+
+pub enum PlanOutcome {
+    Made,
+    Refused(Refusal),
+}
+
+// The planner's answer: the steps stand beside the outcome; there are none beside a refusal.
+pub struct Planned {
+    pub outcome: PlanOutcome,
+    pub plan: Steps,
+}
+
+// The plan from one sharding to another.
+pub fn plan<'a>(
+    mesh: &'a [u16],
+    order: &'a [u16],
+    table: &'a [u16],
+    start: Sharding,
+    goal: Sharding,
+) -> Planned
+    ensures { λ r. ⌜ r ≡ plannedOf (stepsPlanned (now (mesh .entry)) (now (order .entry)) (now (table .entry)) start goal) ⌝ }
+{
+    let verdict = judge_route(mesh, order, table, start, goal);
+    let Verdict::Fine = verdict else {
+        return Planned {
+            outcome: PlanOutcome::Refused(refusal_of(verdict)),
+            plan: Steps::none(),
+        };
+    };
+    Planned {
+        outcome: PlanOutcome::Made,
+        plan: plan_steps(start, goal, table.len()),
+    }
 }
