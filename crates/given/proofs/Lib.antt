@@ -2,3 +2,7 @@
 pub mod Sizes
 pub mod Counts
 pub mod Outside
+pub mod Ends
+pub mod Plain
+pub mod Heads
+pub mod Inside
