@@ -1,6 +1,7 @@
 // The arguments of the writer's and the planner's calls, judged: mesh, order, table and sharding, and step records of 38 bytes each.
 // records/specs/Writing.antt is the judgement and records/specs/Forms.antt what the arguments stand for; specs/Given.antt is what the parts ask and answer.
 ghost use mathlib.Core.Path.{_≡_};
+ghost use mathlib.Core.Bool.{true, false};
 ghost use mathlib.Core.List.{[], _∷_};
 ghost use Prim.Native.Nat.{ℕ, _+_, _*_, _≤_, _<_};
 ghost use lib.ListN.{length, getD};
@@ -8,16 +9,22 @@ ghost use lib.Dec.{leb, eqb};
 ghost use Rattle.rules.specs.Lists.{pick};
 ghost use Rattle.rules.specs.Limits.{mostAxes, mostDevices, mostDims, mostWords};
 ghost use Rattle.rules.specs.Mesh.{devices as devicesOf, OnMesh};
-ghost use Rattle.rules.specs.Refusals.{need, numberOf};
+ghost use Rattle.rules.specs.Refusals.{need, numberOf, refusedAs};
 ghost use Rattle.rules.specs.PlanFile.{kindOf, judgeSizes};
-ghost use Rattle.rules.specs.Types.{meshOf, sizesOf};
+ghost use Rattle.rules.specs.Types.{shardingOf, meshOf, sizesOf};
 ghost use Rattle.start.specs.Start.{meaning};
+ghost use Rattle.blocks.specs.Blocks.{headAt, repeatRead};
 ghost use Rattle.records.specs.Records.{innerOf, outermost};
-ghost use Rattle.records.specs.Writing.{judgeCounts, judgeSharding, judgeOrder};
-ghost use Rattle.records.specs.Forms.{listGiven, dimsGiven, shardingGiven, recordBytes, axisAt, listRecord, stepRecord, givenAt, recordCount, stepsGiven};
-ghost use Rattle.given.specs.Given.{judgeLimits, judgeShape, Shaped};
+ghost use Rattle.records.specs.Writing.{judgeCounts, judgeSharding, judgeOrder, mostRecords};
+ghost use Rattle.records.specs.Forms.{listGiven, dimsGiven, shardingGiven, recordBytes, axisAt, listRecord, stepRecord, givenKind, givenAt, recordCount, stepsGiven};
+ghost use Rattle.given.specs.Given.{judgeLimits, judgeShape, Shaped, judgeForm, repeatHere, FewInner, bytesGiven, placeGiven};
+ghost use Rattle.given.specs.Given.{plainGiven, repeatGiven, itemGiven, RecordsTell, Judging, Closing, closed};
+use blocks::RepeatRead;
+use blocks::same_sharding;
+use judge::judge_step;
 use mesh::product_from;
 use order::order_allowed;
+use reader::Next;
 use rules::Axis;
 use rules::AxisList;
 use rules::Device;
@@ -26,11 +33,13 @@ use rules::DimLists;
 use rules::Kind;
 use rules::Mesh;
 use rules::Reason;
+use rules::Refusal;
 use rules::Sharding;
 use rules::Step;
 use rules::Table;
 use start::Verdict;
 use start::judge_start;
+use start::refusal_of;
 use start::refused;
 
 // 5: "n, rank or step count outside its limits"; the steps that count are the outermost ones.
@@ -328,4 +337,211 @@ pub fn count_outermost(steps: &[u8]) -> usize
         i += 1;
     }
     found
+}
+
+// Whether record i is there and is a repeat.
+fn is_repeat(steps: &[u8], i: usize) -> bool
+    ensures { λ r. ⌜ r ≡ repeatHere (now (steps .entry)) i ⌝ }
+{
+    if steps.len() / 38 <= i {
+        return false;
+    }
+    steps[38 * i] == 9
+}
+
+// A record of a plain step before its step is judged: 20, then 8 over its lists.
+fn judge_form(step: Step, k: u16, rank: usize, n: usize) -> Verdict
+    requires { ⌜ (rank ≤ mostDims) × (n ≤ mostAxes) ⌝ }
+    ensures { λ r. ⌜ meaning r ≡ judgeForm n k (givenKind (step .kind) rank step) ⌝ }
+{
+    let kind = step.kind;
+    match kind {
+        Kind::AllSlice => judge_counts(step.lists, rank, n),
+        Kind::AllGather => judge_counts(step.lists, rank, n),
+        Kind::AllReduce => judge_count(step.list, n),
+        Kind::AllToAll => judge_count(step.list, n),
+        Kind::Unknown => refused(Reason::UnknownKind, k),
+    }
+}
+
+// Records that were judged: the next one, how many plain steps are run, and the sharding after them.
+pub struct RecordsJudged {
+    pub next: Next,
+    pub runs: usize,
+    pub sharding: Sharding,
+}
+
+impl RecordsJudged {
+    // Refused, with the sharding as it was.
+    fn refused(refusal: Refusal, sharding: Sharding) -> RecordsJudged
+        ensures { λ r. ⌜ ((rank : ℕ) → RecordsTell rank (shardingOf rank sharding) (refusedAs refusal) r) ⌝ }
+    {
+        RecordsJudged {
+            next: Next::Refused(refusal),
+            runs: 0,
+            sharding,
+        }
+    }
+}
+
+// Record i, which is no repeat; past the last record 7.
+fn judge_plain(
+    steps: &[u8],
+    i: usize,
+    mesh: Mesh,
+    table: Table,
+    sharding: Sharding,
+) -> RecordsJudged
+    requires { ⌜ Judging (now steps) i mesh table sharding × (repeatHere (now steps) i ≡ false) ⌝ }
+    ensures { λ r. ⌜ RecordsTell (table .rank) (shardingOf (table .rank) sharding)
+        (plainGiven (meshOf mesh) (sizesOf table) (table .rank) (now (steps .entry)) i (shardingOf (table .rank) sharding)) r ⌝ }
+{
+    if steps.len() / 38 <= i {
+        let past = Refusal {
+            reason: Reason::SectionPastEnd,
+            step: 0,
+        };
+        return RecordsJudged::refused(past, sharding);
+    }
+    let k = (i + 1) as u16;
+    let step = step_record(steps, i);
+    let form = judge_form(step, k, table.rank, mesh.n);
+    let Verdict::Fine = form else {
+        return RecordsJudged::refused(refusal_of(form), sharding);
+    };
+    let after = judge_step(step, k, sharding, mesh, table);
+    let verdict = after.verdict;
+    let Verdict::Fine = verdict else {
+        return RecordsJudged::refused(refusal_of(verdict), sharding);
+    };
+    let left = after.sharding;
+    RecordsJudged {
+        next: Next::At(i + 1),
+        runs: 1,
+        sharding: left,
+    }
+}
+
+// How often the block of record i is run and how many steps it has, where repeats may nest so deep, this one included: 44, then 42.
+fn read_head(steps: &[u8], i: usize, depth: usize) -> RepeatRead
+    requires { ⌜ (repeatHere (now steps) i ≡ true) × (recordCount (now steps) ≤ mostRecords) ⌝ }
+    ensures { λ r. ⌜ ((rank : ℕ) → repeatRead r
+        ≡ headAt depth (i + 1) (bytesGiven rank (now (steps .entry))) (placeGiven rank (now (steps .entry)) i + 1)) ⌝ }
+    ensures { λ r. ⌜ FewInner r ⌝ }
+{
+    let at = 38 * i;
+    let step = (i + 1) as u16;
+    let count = steps[at + 1];
+    let number = steps[at + 2];
+    if count == 0 {
+        let reason = Reason::RepeatOfNothing;
+        return RepeatRead::Refused(Refusal { reason, step });
+    }
+    if number == 0 {
+        let reason = Reason::RepeatOfNothing;
+        return RepeatRead::Refused(Refusal { reason, step });
+    }
+    if depth == 0 {
+        let reason = Reason::TooDeep;
+        return RepeatRead::Refused(Refusal { reason, step });
+    }
+    RepeatRead::Of(count, number)
+}
+
+// The end of the block with number k: the sharding is the one before it, and so many rounds are not too many steps.
+fn close_repeat(
+    k: u16,
+    count: u8,
+    block: RecordsJudged,
+    before: Sharding,
+    rank: usize,
+) -> RecordsJudged
+    requires { ⌜ Closing block rank ⌝ }
+    ensures { λ r. ⌜ RecordsTell rank (shardingOf rank before) (closed k count rank before block) r ⌝ }
+{
+    let after = block.sharding;
+    if !same_sharding(after, before, rank) {
+        let changed = Refusal {
+            reason: Reason::ShardingChanged,
+            step: k,
+        };
+        return RecordsJudged::refused(changed, before);
+    }
+    let rounds = count as usize;
+    let runs = rounds * block.runs;
+    if Step::MOST_RUN < runs {
+        let over = Refusal {
+            reason: Reason::TooManyRun,
+            step: k,
+        };
+        return RecordsJudged::refused(over, before);
+    }
+    let next = block.next;
+    RecordsJudged {
+        next,
+        runs,
+        sharding: after,
+    }
+}
+
+// The repeat that record i is, with all steps inside it, where repeats may nest so deep, this one included.
+pub fn judge_repeat(
+    steps: &[u8],
+    i: usize,
+    depth: usize,
+    mesh: Mesh,
+    table: Table,
+    sharding: Sharding,
+) -> RecordsJudged
+    requires { ⌜ Judging (now steps) i mesh table sharding × (repeatHere (now steps) i ≡ true) ⌝ }
+    ensures { λ r. ⌜ RecordsTell (table .rank) (shardingOf (table .rank) sharding)
+        (repeatGiven (meshOf mesh) (sizesOf table) (table .rank) (now (steps .entry)) depth i (shardingOf (table .rank) sharding)) r ⌝ }
+{
+    let head = read_head(steps, i, depth);
+    let RepeatRead::Of(count, inner) = head else {
+        return RecordsJudged::refused(head.refusal(), sharding);
+    };
+    let number = inner as usize;
+    let below = depth - 1;
+    let mut place = i + 1;
+    let mut runs: usize = 0;
+    let mut after = sharding;
+    let mut done: usize = 0;
+    while done < number {
+        let item = judge_record(steps, place, below, mesh, table, after);
+        let next = item.next;
+        let Next::At(end) = next else {
+            return RecordsJudged::refused(next.refusal(), sharding);
+        };
+        place = end;
+        runs = runs + item.runs;
+        after = item.sharding;
+        done += 1;
+    }
+    let block = RecordsJudged {
+        next: Next::At(place),
+        runs,
+        sharding: after,
+    };
+    close_repeat((i + 1) as u16, count, block, sharding, table.rank)
+}
+
+// Record i, with all steps inside it if it is a repeat, where repeats may nest so deep.
+pub fn judge_record(
+    steps: &[u8],
+    i: usize,
+    depth: usize,
+    mesh: Mesh,
+    table: Table,
+    sharding: Sharding,
+) -> RecordsJudged
+    requires { ⌜ Judging (now steps) i mesh table sharding ⌝ }
+    ensures { λ r. ⌜ RecordsTell (table .rank) (shardingOf (table .rank) sharding)
+        (itemGiven (meshOf mesh) (sizesOf table) (table .rank) (now (steps .entry)) depth i (shardingOf (table .rank) sharding)) r ⌝ }
+{
+    if is_repeat(steps, i) {
+        judge_repeat(steps, i, depth, mesh, table, sharding)
+    } else {
+        judge_plain(steps, i, mesh, table, sharding)
+    }
 }
