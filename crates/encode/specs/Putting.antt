@@ -49,3 +49,23 @@ ShortGiven unknown = Unit {0}
 -- each of the records
 abbrev pub ShortSteps : (rank : ℕ) → List ℕ → Type 0
 ShortSteps rank bytes = (i : ℕ) → i < recordCount bytes → ShortGiven (givenAt rank bytes (recordBytes * i))
+
+-- What is written as records: within the limits that are judged before. Steps within them may still make a file that is too long.
+pub record Encodable (mesh order sizes : List ℕ) (start : code.Sharding) (bytes : List ℕ) : Type 0 where
+  pub axes : length mesh ≤ mostAxes
+  pub devices : length order ≤ mostDevices
+  pub rank : length sizes ≤ mostDims
+  pub records : recordCount bytes ≤ mostRecords
+  pub short-start : ShortSharding (shardingGiven (length sizes) start)
+  pub short-steps : ShortSteps (length sizes) bytes
+
+-- ---- parts of the file
+
+-- what stands between the header and the steps
+abbrev pub frontBytes : (edition : ℕ) (mesh order sizes : List ℕ) → Sharding → List ℕ
+frontBytes e mesh order sizes s = u16sBytes mesh ++ (u16sBytes order ++ (u16sBytes sizes ++ shardingBytes e s))
+
+-- the header's numbers, by the numbers of axes, of devices in the order, of dimensions and of outermost steps
+abbrev pub headerOf : (edition n devices rank outer first total : ℕ) → List ℕ
+headerOf e n devices rank outer first total =
+    e ∷ n ∷ rank ∷ outer ∷ leastBytes ∷ (leastBytes + 2 * n + 2 * devices) ∷ (leastBytes + 2 * n + 2 * devices + 2 * rank) ∷ first ∷ total ∷ []

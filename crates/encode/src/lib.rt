@@ -3,18 +3,21 @@
 ghost use mathlib.Core.Path.{_≡_};
 ghost use mathlib.Core.List.{List, [], _∷_, _++_};
 ghost use Prim.Native.Nat.{ℕ, _+_, _*_, _≤_, _<_};
-ghost use lib.ListN.{length};
-ghost use Rattle.rules.specs.Limits.{mostAxes, mostDims};
+ghost use lib.ListN.{length, drop};
+ghost use Rattle.rules.specs.Lists.{pick};
+ghost use Rattle.rules.specs.Limits.{mostAxes, mostDevices, mostDims, mostSteps, leastBytes, mostBytes};
+ghost use Rattle.rules.specs.PlanFile.{some};
 ghost use Rattle.rules.specs.Types.{axesOf};
-ghost use Rattle.records.specs.Records.{u16Bytes, u16sBytes, listBytes, listsBytes, replicatedBytes, shardingBytes, givenBytes, stepsBytes};
-ghost use Rattle.records.specs.Forms.{listGiven, dimsGiven, shardingGiven, recordBytes, axisAt, placesAt, listRecord, stepRecord, givenKind, givenAt, recordCount, stepsGiven};
-ghost use Rattle.encode.specs.Putting.{Put, farthest, ShortLists, ShortSharding, ShortGiven, ShortSteps};
+ghost use Rattle.records.specs.Records.{u16Bytes, u16sBytes, listBytes, listsBytes, replicatedBytes, shardingBytes, givenBytes, stepsBytes, outermost, fileLength, fileOf};
+ghost use Rattle.records.specs.Forms.{listGiven, dimsGiven, shardingGiven, recordBytes, axisAt, placesAt, listRecord, stepRecord, givenKind, givenAt, recordCount, stepsGiven, recordsGiven};
+ghost use Rattle.encode.specs.Putting.{Put, farthest, ShortLists, ShortSharding, ShortGiven, ShortSteps, frontBytes, headerOf, Encodable};
 use reader::kind_of;
 use rules::Axis;
 use rules::AxisList;
 use rules::Dim;
 use rules::DimLists;
 use rules::Kind;
+use rules::PlanFile;
 use rules::Sharding;
 use rules::Step;
 
@@ -241,4 +244,111 @@ pub fn put_steps(out: &mut [u8], at: usize, steps: &[u8], rank: usize) -> usize
         i += 1;
     }
     place
+}
+
+// The edition: 3 with an order, 2 with axes that must stay replicated, else 1.
+fn edition_of(order: &[u16], replicated: AxisList) -> usize
+    ensures { λ r. ⌜ r ≡ pick (some (now (order .entry))) 3 (pick (some (axesOf replicated)) 2 1) ⌝ }
+{
+    if order.len() != 0 {
+        return 3;
+    }
+    if replicated.len() != 0 {
+        return 2;
+    }
+    1
+}
+
+// What stands between the header and the steps; it answers where the steps begin.
+fn put_front<'a>(
+    out: &mut [u8],
+    edition: usize,
+    mesh: &'a [u16],
+    order: &'a [u16],
+    sizes: &'a [u16],
+    start: Sharding,
+) -> usize
+    requires { ⌜ (length (now mesh) ≤ mostAxes) × (length (now order) ≤ mostDevices) × (length (now sizes) ≤ mostDims) × ShortSharding (shardingGiven (length (now sizes)) start) ⌝ }
+    ensures { λ r. ⌜ Put (now (out .entry)) (now (out .exit)) leastBytes r (frontBytes edition (now (mesh .entry)) (now (order .entry)) (now (sizes .entry)) (shardingGiven (length (now (sizes .entry))) start)) ⌝ }
+{
+    let rank = sizes.len();
+    let second = put_u16s(out, PlanFile::LEAST, mesh);
+    let third = put_u16s(out, second, order);
+    let fourth = put_u16s(out, third, sizes);
+    put_sharding(out, fourth, start, rank, edition)
+}
+
+// The header.
+fn put_header(
+    out: &mut [u8],
+    edition: usize,
+    n: usize,
+    devices: usize,
+    rank: usize,
+    outer: usize,
+    first: usize,
+    total: usize,
+) -> usize
+    requires { ⌜ (edition ≤ 3) × (n ≤ mostAxes) × (devices ≤ mostDevices) × (rank ≤ mostDims) × (outer ≤ mostSteps) × (first ≤ mostBytes) × (total ≤ mostBytes) ⌝ }
+    ensures { λ r. ⌜ Put (now (out .entry)) (now (out .exit)) 0 r (u16sBytes (headerOf edition n devices rank outer first total)) ⌝ }
+{
+    let tensor = PlanFile::LEAST + 2 * n + 2 * devices;
+    let sharding = tensor + 2 * rank;
+    let numbers = [
+        edition as u16,
+        n as u16,
+        rank as u16,
+        outer as u16,
+        18u16,
+        tensor as u16,
+        sharding as u16,
+        first as u16,
+        total as u16,
+    ];
+    put_u16s(out, 0, &numbers)
+}
+
+// The length of the file, measured in a buffer of one place.
+pub fn file_length<'a>(
+    mesh: &'a [u16],
+    order: &'a [u16],
+    sizes: &'a [u16],
+    start: Sharding,
+    steps: &[u8],
+) -> usize
+    requires { ⌜ Encodable (now mesh) (now order) (now sizes) start (now steps) ⌝ }
+    ensures { λ r. ⌜ r ≡ fileLength (recordsGiven (now (mesh .entry)) (now (order .entry)) (now (sizes .entry)) start (now (steps .entry))) ⌝ }
+{
+    let rank = sizes.len();
+    let replicated = start.replicated;
+    let edition = edition_of(order, replicated);
+    let mut none = [0u8; 1];
+    let first = put_front(&mut none, edition, mesh, order, sizes, start);
+    put_steps(&mut none, first, steps, rank)
+}
+
+// The whole file, at the front of a buffer that holds it; it answers its length. `outer` is the number of outermost steps. The header goes last, when
+// the places that it names are known.
+pub fn put_file<'a>(
+    out: &mut [u8],
+    mesh: &'a [u16],
+    order: &'a [u16],
+    sizes: &'a [u16],
+    start: Sharding,
+    steps: &[u8],
+    outer: usize,
+) -> usize
+    requires { ⌜ Encodable (now mesh) (now order) (now sizes) start (now steps) ⌝ }
+    requires { ⌜ (outer ≡ outermost (stepsGiven (length (now sizes)) (now steps))) × (outer ≤ mostSteps) ⌝ }
+    requires { ⌜ (fileLength (recordsGiven (now mesh) (now order) (now sizes) start (now steps)) ≤ mostBytes) × (fileLength (recordsGiven (now mesh) (now order) (now sizes) start (now steps)) ≤ length (now out)) ⌝ }
+    ensures { λ r. ⌜ r ≡ fileLength (recordsGiven (now (mesh .entry)) (now (order .entry)) (now (sizes .entry)) start (now (steps .entry))) ⌝ }
+    ensures { λ r. ⌜ now (out .exit) ≡ fileOf (recordsGiven (now (mesh .entry)) (now (order .entry)) (now (sizes .entry)) start (now (steps .entry))) ++ drop r (now (out .entry)) ⌝ }
+{
+    let rank = sizes.len();
+    let replicated = start.replicated;
+    let edition = edition_of(order, replicated);
+    let first = put_front(out, edition, mesh, order, sizes, start);
+    let total = put_steps(out, first, steps, rank);
+    put_header(out, edition, mesh.len(), order.len(), rank, outer, first, total);
+    total
 }
