@@ -1,3 +1,4 @@
 -- The laws of writing.
 pub mod Puts
 pub mod Given
+pub mod Files

@@ -8,9 +8,9 @@ ghost use Rattle.rules.specs.Lists.{pick};
 ghost use Rattle.rules.specs.Limits.{mostAxes, mostDevices, mostDims, mostSteps, leastBytes, mostBytes};
 ghost use Rattle.rules.specs.PlanFile.{some};
 ghost use Rattle.rules.specs.Types.{axesOf};
-ghost use Rattle.records.specs.Records.{u16Bytes, u16sBytes, listBytes, listsBytes, replicatedBytes, shardingBytes, givenBytes, stepsBytes, outermost, fileLength, fileOf};
+ghost use Rattle.records.specs.Records.{u16Bytes, u16sBytes, listBytes, listsBytes, replicatedBytes, shardingBytes, givenBytes, stepsBytes, fileLength, fileOf};
 ghost use Rattle.records.specs.Forms.{listGiven, dimsGiven, shardingGiven, recordBytes, axisAt, placesAt, listRecord, stepRecord, givenKind, givenAt, recordCount, stepsGiven, recordsGiven};
-ghost use Rattle.encode.specs.Putting.{Put, farthest, ShortLists, ShortSharding, ShortGiven, ShortSteps, frontBytes, headerOf, Encodable};
+ghost use Rattle.encode.specs.Putting.{Put, farthest, ShortLists, ShortSharding, ShortGiven, ShortSteps, frontBytes, headerOf, Encodable, Writable};
 use reader::kind_of;
 use rules::Axis;
 use rules::AxisList;
@@ -99,13 +99,7 @@ fn put_replicated(out: &mut [u8], at: usize, list: AxisList, edition: usize) -> 
 }
 
 // A sharding: a list for each dimension, the unreduced list, the replicated list.
-fn put_sharding(
-    out: &mut [u8],
-    at: usize,
-    sharding: Sharding,
-    rank: usize,
-    edition: usize,
-) -> usize
+fn put_sharding(out: &mut [u8], at: usize, sharding: Sharding, rank: usize, edition: usize) -> usize
     requires { ⌜ (at + 42 ≤ farthest) × (rank ≤ mostDims) × ShortSharding (shardingGiven rank sharding) ⌝ }
     ensures { λ r. ⌜ Put (now (out .entry)) (now (out .exit)) at r (shardingBytes edition (shardingGiven rank sharding)) ⌝ }
 {
@@ -338,17 +332,24 @@ pub fn put_file<'a>(
     steps: &[u8],
     outer: usize,
 ) -> usize
-    requires { ⌜ Encodable (now mesh) (now order) (now sizes) start (now steps) ⌝ }
-    requires { ⌜ (outer ≡ outermost (stepsGiven (length (now sizes)) (now steps))) × (outer ≤ mostSteps) ⌝ }
-    requires { ⌜ (fileLength (recordsGiven (now mesh) (now order) (now sizes) start (now steps)) ≤ mostBytes) × (fileLength (recordsGiven (now mesh) (now order) (now sizes) start (now steps)) ≤ length (now out)) ⌝ }
-    ensures { λ r. ⌜ r ≡ fileLength (recordsGiven (now (mesh .entry)) (now (order .entry)) (now (sizes .entry)) start (now (steps .entry))) ⌝ }
-    ensures { λ r. ⌜ now (out .exit) ≡ fileOf (recordsGiven (now (mesh .entry)) (now (order .entry)) (now (sizes .entry)) start (now (steps .entry))) ++ drop r (now (out .entry)) ⌝ }
+    requires { ⌜ Writable (now mesh) (now order) (now sizes) start (now steps) outer (now out) ⌝ }
+    ensures answers { λ r. ⌜ r ≡ fileLength (recordsGiven (now (mesh .entry)) (now (order .entry)) (now (sizes .entry)) start (now (steps .entry))) ⌝ }
+    ensures leaves { λ r. ⌜ now (out .exit) ≡ fileOf (recordsGiven (now (mesh .entry)) (now (order .entry)) (now (sizes .entry)) start (now (steps .entry))) ++ drop r (now (out .entry)) ⌝ }
 {
     let rank = sizes.len();
     let replicated = start.replicated;
     let edition = edition_of(order, replicated);
     let first = put_front(out, edition, mesh, order, sizes, start);
     let total = put_steps(out, first, steps, rank);
-    put_header(out, edition, mesh.len(), order.len(), rank, outer, first, total);
+    put_header(
+        out,
+        edition,
+        mesh.len(),
+        order.len(),
+        rank,
+        outer,
+        first,
+        total,
+    );
     total
 }

@@ -1,0 +1,25 @@
+use borrow.Author.Needs.{needs}
+use native.Mathlib.Omega.{arith}
+use denote.Ref.{now}
+use Rattle.records.proofs.Written.{length-u16s}
+use Rattle.encode.proofs.Puts.{put-both}
+use Rattle.encode.proofs.put_front.Statement.{statement}
+use Rattle.encode.proofs.put_front.Tie as tie
+
+pub put-front-spec : {M : Type 1} → statement M
+put-front-spec =
+    tie.close
+    (tie.spec
+    (λ c κs. search needs)
+    (λ c κs. let s = c .before .before .before .before .before .before .before .before .before in
+    let p = s .pre in
+    omega (arith, c .before .before .before .put-u16s .ensures .next, length-u16s (now (s .args .mesh))))
+    (λ c κs. let s = c .before .before .before .before .before .before .before .before .before .before .before .before .before in
+    let p = s .pre in
+    omega (arith, c .before .before .before .before .before .before .before .put-u16s .ensures .next, length-u16s (now (s .args .mesh)), c .before .before .before .put-u16s2 .ensures .next, length-u16s (now (s .args .order))))
+    (λ c κs. let s = c .before .before .before .before .before .before .before .before .before .before .before .before .before .before .before .before .before in
+    let a = s .args in
+    let p = s .pre in
+    (omega (arith, c .before .before .before .before .before .before .before .before .before .before .before .put-u16s .ensures .next, length-u16s (now (a .mesh)), c .before .before .before .before .before .before .before .put-u16s2 .ensures .next, length-u16s (now (a .order)), c .before .before .before .put-u16s3 .ensures .next, length-u16s (now (a .sizes))), p .2, p .3))
+    (λ c. search needs)
+    (λ c. put-both (c .before .before .before .before .before .before .before .before .before .before .before .before .before .before .put-u16s .ensures) (put-both (c .before .before .before .before .before .before .before .before .before .before .put-u16s2 .ensures) (put-both (c .before .before .before .before .before .before .put-u16s3 .ensures) (c .before .before .put-sharding .ensures)))))
