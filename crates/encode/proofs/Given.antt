@@ -107,11 +107,11 @@ module _ {a b c d : List ℕ} {at i j r : ℕ} where
 -- ---- a record
 
 module _ (rank : ℕ) (bytes : List ℕ) (from : ℕ) where
-  repeat-given : getD bytes from 0 ≡ 9 → givenAt rank bytes from ≡ known (repeat (getD bytes (from + 1) 0) (getD bytes (from + 2) 0))
+  pub repeat-given : getD bytes from 0 ≡ 9 → givenAt rank bytes from ≡ known (repeat (getD bytes (from + 1) 0) (getD bytes (from + 2) 0))
   unfolding givenAt
   repeat-given e = rw (is-eq (getD bytes from 0) 9 e) refl
 
-  plain-given : (getD bytes from 0 ≡ 9 → ⊥) → givenAt rank bytes from ≡ givenKind (stepRecord bytes from .kind) rank (stepRecord bytes from)
+  pub plain-given : (getD bytes from 0 ≡ 9 → ⊥) → givenAt rank bytes from ≡ givenKind (stepRecord bytes from .kind) rank (stepRecord bytes from)
   unfolding givenAt
   plain-given n = rw (nT→false (eqb (getD bytes from 0) 9) (λ t. n (eqb→eq (getD bytes from 0) 9 t))) refl
 

@@ -1,6 +1,6 @@
 -- What the writing functions leave in a buffer (`Put`), and what they ask of lists: no more axes than there are places, as the judgement has found before
 -- (8). Assumes nothing.
-use Prim.Native.Nat.{ℕ, _+_, _*_, _≤_, _<_}
+use Prim.Native.Nat.{ℕ, zero, suc, _+_, _*_, _≤_, _<_}
 use mathlib.Core.Path.{_≡_}
 use mathlib.Core.List.{List, [], _∷_, _++_}
 use lib.ListN.{length, getD}
@@ -77,3 +77,14 @@ frontBytes e mesh order sizes s = u16sBytes mesh ++ (u16sBytes order ++ (u16sByt
 abbrev pub headerOf : (edition n devices rank outer first total : ℕ) → List ℕ
 headerOf e n devices rank outer first total =
     e ∷ n ∷ rank ∷ outer ∷ leastBytes ∷ (leastBytes + 2 * n + 2 * devices) ∷ (leastBytes + 2 * n + 2 * devices + 2 * rank) ∷ first ∷ total ∷ []
+
+-- ---- counting outermost steps
+
+-- of one record, where so many are still to come of the blocks that are open: whether it stands in none of them, and how many are to come after it
+abbrev pub outermostOne : (still : ℕ) → ℕ
+outermostOne zero = 1
+outermostOne (suc n) = 0
+
+abbrev pub stillAfter : (still inner : ℕ) → ℕ
+stillAfter zero inner = inner
+stillAfter (suc n) inner = inner + n

@@ -8,9 +8,9 @@ ghost use Rattle.rules.specs.Lists.{pick};
 ghost use Rattle.rules.specs.Limits.{mostAxes, mostDevices, mostDims, mostSteps, leastBytes, mostBytes};
 ghost use Rattle.rules.specs.PlanFile.{some};
 ghost use Rattle.rules.specs.Types.{axesOf};
-ghost use Rattle.records.specs.Records.{u16Bytes, u16sBytes, listBytes, listsBytes, replicatedBytes, shardingBytes, givenBytes, stepsBytes, fileLength, fileOf};
+ghost use Rattle.records.specs.Records.{u16Bytes, u16sBytes, listBytes, listsBytes, replicatedBytes, shardingBytes, innerOf, outermost, givenBytes, stepsBytes, fileLength, fileOf};
 ghost use Rattle.records.specs.Forms.{listGiven, dimsGiven, shardingGiven, recordBytes, axisAt, placesAt, listRecord, stepRecord, givenKind, givenAt, recordCount, stepsGiven, recordsGiven};
-ghost use Rattle.encode.specs.Putting.{Put, farthest, ShortLists, ShortSharding, ShortGiven, ShortSteps, frontBytes, headerOf, Encodable, Writable};
+ghost use Rattle.encode.specs.Putting.{Put, farthest, ShortLists, ShortSharding, ShortGiven, ShortSteps, frontBytes, headerOf, Encodable, Writable, outermostOne, stillAfter};
 use reader::kind_of;
 use rules::Axis;
 use rules::AxisList;
@@ -238,6 +238,54 @@ pub fn put_steps(out: &mut [u8], at: usize, steps: &[u8], rank: usize) -> usize
         i += 1;
     }
     place
+}
+
+// How many steps a record says to stand right inside it.
+fn inner_at(steps: &[u8], from: usize) -> usize
+    requires { ⌜ from + recordBytes ≤ length (now steps) ⌝ }
+    ensures { λ r. ⌜ (r ≤ 255) × ((rank : ℕ) → r ≡ innerOf (givenAt rank (now (steps .entry)) from)) ⌝ }
+{
+    if steps[from] == 9 {
+        return steps[from + 2] as usize;
+    }
+    0
+}
+
+// Whether a record stands in no block, as 1 or 0, where so many are still to come of the blocks that are open; and how many are after it.
+fn is_outermost(still: usize) -> usize
+    ensures { λ r. ⌜ r ≡ outermostOne still ⌝ }
+{
+    if still == 0 {
+        return 1;
+    }
+    0
+}
+
+fn still_after(still: usize, inner: usize) -> usize
+    requires { ⌜ still + inner < 18446744073709551616 ⌝ }
+    ensures { λ r. ⌜ r ≡ stillAfter still inner ⌝ }
+{
+    if still == 0 {
+        return inner;
+    }
+    still - 1 + inner
+}
+
+// The number of outermost steps. Where the open blocks ask for as many records as are left, no other one is outermost.
+pub fn outermost_steps(steps: &[u8]) -> usize
+    ensures { λ r. ⌜ ((rank : ℕ) → r ≡ outermost (stepsGiven rank (now (steps .entry)))) ⌝ }
+{
+    let count = steps.len() / 38;
+    let mut outer: usize = 0;
+    let mut still: usize = 0;
+    let mut i: usize = 0;
+    while still < count - i {
+        let inner = inner_at(steps, 38 * i);
+        outer += is_outermost(still);
+        still = still_after(still, inner);
+        i += 1;
+    }
+    outer
 }
 
 // The edition: 3 with an order, 2 with axes that must stay replicated, else 1.
