@@ -16,7 +16,7 @@ use Rattle.rules.specs.Types.{axesOf}
 use Rattle.rules.specs.declared.Sharding as code
 use Rattle.records.specs.Records.{
   Records,
-  outermostFrom,
+  outermost,
   u16sBytes,
   listsBytes,
   listBytes,
@@ -134,9 +134,9 @@ front-stored x l n e h =
     let room : 0 + length x ≤ length l = omega (arith, e, h) in
     sets-eq x l 0 room ∙ ap (λ (k : ℕ). x ++ drop k l) z
 
-module _ (mesh order sizes : List ℕ) (start : code.Sharding) (bytes : List ℕ) (outer : ℕ) (out : List ℕ)
-    (w : Writable mesh order sizes start bytes outer out) (e first total : ℕ) (e-is : e ≡ editionOf (recordsGiven mesh order sizes start bytes))
-    (first-at : first ≡ stepsStart (recordsGiven mesh order sizes start bytes)) (total-at : total ≡ fileLength (recordsGiven mesh order sizes start bytes)) where
+module _ (mesh order sizes : List ℕ) (start : code.Sharding) (bytes out : List ℕ)
+    (w : Writable mesh order sizes start bytes out) (e outer first total : ℕ) (e-is : e ≡ editionOf (recordsGiven mesh order sizes start bytes))
+    (outer-is : outer ≡ outermost (stepsGiven (length sizes) bytes)) (first-at : first ≡ stepsStart (recordsGiven mesh order sizes start bytes)) (total-at : total ≡ fileLength (recordsGiven mesh order sizes start bytes)) where
   abbrev of : Records
   of = recordsGiven mesh order sizes start bytes
 
@@ -149,7 +149,7 @@ module _ (mesh order sizes : List ℕ) (start : code.Sharding) (bytes : List ℕ
   header-is : numbers ≡ header of
   unfolding header
   header-is = λ i.
-      e-is i ∷ length mesh ∷ length sizes ∷ w .outer-is i ∷ leastBytes ∷ (leastBytes + 2 * length mesh + 2 * length order)
+      e-is i ∷ length mesh ∷ length sizes ∷ outer-is i ∷ leastBytes ∷ (leastBytes + 2 * length mesh + 2 * length order)
       ∷ (leastBytes + 2 * length mesh + 2 * length order + 2 * length sizes) ∷ first-at i ∷ total-at i ∷ []
 
   -- the parts in their order

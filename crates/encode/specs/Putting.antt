@@ -59,11 +59,10 @@ pub record Encodable (mesh order sizes : List ℕ) (start : code.Sharding) (byte
   pub short-start : ShortSharding (shardingGiven (length sizes) start)
   pub short-steps : ShortSteps (length sizes) bytes
 
--- and a file of them: its number of outermost steps, and its length within the limit and within the buffer
-pub record Writable (mesh order sizes : List ℕ) (start : code.Sharding) (bytes : List ℕ) (outer : ℕ) (out : List ℕ) : Type 0 where
+-- and a file of them: outermost steps within their limit, and its length within the limit and within the buffer
+pub record Writable (mesh order sizes : List ℕ) (start : code.Sharding) (bytes out : List ℕ) : Type 0 where
   pub encodable : Encodable mesh order sizes start bytes
-  pub outer-is : outer ≡ outermost (stepsGiven (length sizes) bytes)
-  pub outer-few : outer ≤ mostSteps
+  pub few : outermost (stepsGiven (length sizes) bytes) ≤ mostSteps
   pub short : fileLength (recordsGiven mesh order sizes start bytes) ≤ mostBytes
   pub room : fileLength (recordsGiven mesh order sizes start bytes) ≤ length out
 

@@ -369,8 +369,7 @@ pub fn file_length<'a>(
     put_steps(&mut none, first, steps, rank)
 }
 
-// The whole file, at the front of a buffer that holds it; it answers its length. `outer` is the number of outermost steps. The header goes last, when
-// the places that it names are known.
+// The whole file, at the front of a buffer that holds it; it answers its length. The header goes last, when the places that it names are known.
 pub fn put_file<'a>(
     out: &mut [u8],
     mesh: &'a [u16],
@@ -378,15 +377,15 @@ pub fn put_file<'a>(
     sizes: &'a [u16],
     start: Sharding,
     steps: &[u8],
-    outer: usize,
 ) -> usize
-    requires { ⌜ Writable (now mesh) (now order) (now sizes) start (now steps) outer (now out) ⌝ }
+    requires { ⌜ Writable (now mesh) (now order) (now sizes) start (now steps) (now out) ⌝ }
     ensures answers { λ r. ⌜ r ≡ fileLength (recordsGiven (now (mesh .entry)) (now (order .entry)) (now (sizes .entry)) start (now (steps .entry))) ⌝ }
     ensures leaves { λ r. ⌜ now (out .exit) ≡ fileOf (recordsGiven (now (mesh .entry)) (now (order .entry)) (now (sizes .entry)) start (now (steps .entry))) ++ drop r (now (out .entry)) ⌝ }
 {
     let rank = sizes.len();
     let replicated = start.replicated;
     let edition = edition_of(order, replicated);
+    let outer = outermost_steps(steps);
     let first = put_front(out, edition, mesh, order, sizes, start);
     let total = put_steps(out, first, steps, rank);
     put_header(
