@@ -12,14 +12,21 @@ put-front-spec =
     (tie.spec
     (λ c κs. search needs)
     (λ c κs. let s = c .before .before .before .before .before .before .before .before .before in
+    let a = s .args in
     let p = s .pre in
-    omega (arith, c .before .before .before .put-u16s .ensures .next, length-u16s (now (s .args .mesh))))
+    omega (arith, c .before .before .before .put-u16s .ensures .next, length-u16s (now (a .mesh)), length-u16s (now (a .order))))
     (λ c κs. let s = c .before .before .before .before .before .before .before .before .before .before .before .before .before in
+    let a = s .args in
     let p = s .pre in
-    omega (arith, c .before .before .before .before .before .before .before .put-u16s .ensures .next, length-u16s (now (s .args .mesh)), c .before .before .before .put-u16s2 .ensures .next, length-u16s (now (s .args .order))))
+    omega (arith, c .before .before .before .before .before .before .before .put-u16s .ensures .next, c .before .before .before .put-u16s2 .ensures .next, length-u16s (now (a .mesh)), length-u16s (now (a .order))))
     (λ c κs. let s = c .before .before .before .before .before .before .before .before .before .before .before .before .before .before .before .before .before in
     let a = s .args in
     let p = s .pre in
-    (omega (arith, c .before .before .before .before .before .before .before .before .before .before .before .put-u16s .ensures .next, length-u16s (now (a .mesh)), c .before .before .before .before .before .before .before .put-u16s2 .ensures .next, length-u16s (now (a .order)), c .before .before .before .put-u16s3 .ensures .next, length-u16s (now (a .sizes))), p .2, p .3))
+    let u = c .before .before .before .before .before .before .before .before .before .before .before .put-u16s .ensures .next in
+    let v = c .before .before .before .before .before .before .before .put-u16s2 .ensures .next in
+    let w = c .before .before .before .put-u16s3 .ensures .next in
+    (omega (arith, u, v, w, length-u16s (now (a .mesh)), length-u16s (now (a .order)), length-u16s (now (a .sizes))), p .2, p .3))
     (λ c. search needs)
-    (λ c. put-both (c .before .before .before .before .before .before .before .before .before .before .before .before .before .before .put-u16s .ensures) (put-both (c .before .before .before .before .before .before .before .before .before .before .put-u16s2 .ensures) (put-both (c .before .before .before .before .before .before .put-u16s3 .ensures) (c .before .before .put-sharding .ensures)))))
+    (λ c. let d6 = c .before .before .before .before .before .before in
+    let d10 = d6 .before .before .before .before in
+    put-both (d10 .before .before .before .before .put-u16s .ensures) (put-both (d10 .put-u16s2 .ensures) (put-both (d6 .put-u16s3 .ensures) (c .before .before .put-sharding .ensures)))))
