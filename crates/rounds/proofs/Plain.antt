@@ -9,7 +9,7 @@ use lib.ListN.{length}
 use Rattle.rules.specs.Lists.{pick, product}
 use Rattle.rules.specs.Sharding.{Sharding, shardSizes}
 use Rattle.rules.specs.Spread.{addWords}
-use Rattle.rules.specs.Collectives.{Step, after, Shards, stepped}
+use Rattle.rules.specs.Collectives.{Step, after, stepped}
 use Rattle.rules.specs.Limits.{mostBytes}
 use Rattle.rules.specs.Refusals.{accept}
 use Rattle.rules.specs.PlanFile.{Read, stepAt, judgeStep, plain, StepsRead, plainAt}

@@ -1,5 +1,5 @@
 -- What the parts (src/lib.rt) ask for and leave, of no plan: one step by itself; and whatever was accepted from a sharding on, a plain step, a repeat,
--- or so many steps in turn. Assumes nothing.
+-- or so many steps in turn, with both buffers whole. Assumes nothing.
 use Prim.Native.Nat.{ℕ, _+_, _*_, _≤_, _<_}
 use mathlib.Core.Path.{_≡_}
 use mathlib.Core.Bool.{Bool, true, false, not}
@@ -82,8 +82,8 @@ staysIn (allToAll source target L) = false
 unfoldable pub memoryAfter : (mesh : List ℕ) → Step → Memory → Memory
 memoryAfter mesh t m = putIn mesh (stepped addWords mesh t (m .shards)) (pick (staysIn t) (m .in-work) (not (m .in-work))) m
 
--- What steps leave of two buffers, of any shards of a shape that stood in the one that is named. Every word of both buffers is fixed, and so is the buffer
--- in which the shards after the steps stand.
+-- What steps leave of two buffers, of any shards of a shape that stood in the one that is named; the words that it holds are such shards (`held-stands`,
+-- rules/proofs/Stands). So every word of both buffers is fixed, and in which of them the shards after the steps stand.
 abbrev pub Leaves : (mesh shape : List ℕ) → List Step → (in-work : Bool) → (work spare : List ℕ) → (in-work′ : Bool) → (work′ spare′ : List ℕ) → Type 0
 Leaves mesh shape ts in-work work spare in-work′ work′ spare′ =
     (v : Shards ℕ) → v .shape ≡ shape → Stands mesh v (pick in-work work spare)
