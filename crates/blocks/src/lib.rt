@@ -120,7 +120,8 @@ pub fn is_repeat(file: &[u8], at: usize) -> bool
     file[at] == 9
 }
 
-fn same_list(a: AxisList, b: AxisList) -> bool
+// Whether two lists name the same axes in the same order.
+pub fn same_list(a: AxisList, b: AxisList) -> bool
     ensures { λ r. ⌜ r ≡ same (axesOf a) (axesOf b) ⌝ }
 {
     if a.len() != b.len() {

@@ -227,7 +227,7 @@ fn list_at(lists: DimLists, rank: usize, d: usize) -> AxisList
 }
 
 // The lists of the dimensions below a rank, with no axes past it and every place fixed that is not used.
-fn dims_within(lists: DimLists, rank: usize) -> DimLists
+pub fn dims_within(lists: DimLists, rank: usize) -> DimLists
     ensures { λ r. ⌜ r ≡ listsFrom (take rank (dimsOf lists)) ⌝ }
 {
     DimLists([

@@ -41,6 +41,8 @@ pub fn number_of(reason: Reason) -> u8
         Reason::NoSuchDevice => 32,
         Reason::OutputTooShort => 33,
         Reason::NoSuchState => 34,
+        Reason::BufferTooShort => 35,
+        Reason::GoalOutOfReach => 40,
         Reason::ShardingChanged => 41,
         Reason::TooDeep => 42,
         Reason::TooManyRun => 43,

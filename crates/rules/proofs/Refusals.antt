@@ -36,6 +36,8 @@ use Rattle.rules.specs.declared.Reason.the-variants.{
   NoSuchDevice,
   OutputTooShort,
   NoSuchState,
+  BufferTooShort,
+  GoalOutOfReach,
   ShardingChanged,
   TooDeep,
   TooManyRun,
@@ -78,6 +80,8 @@ reason-number SpareTooShort = refl
 reason-number NoSuchDevice = refl
 reason-number OutputTooShort = refl
 reason-number NoSuchState = refl
+reason-number BufferTooShort = refl
+reason-number GoalOutOfReach = refl
 reason-number ShardingChanged = refl
 reason-number TooDeep = refl
 reason-number TooManyRun = refl

@@ -40,6 +40,8 @@ use Rattle.rules.specs.declared.Reason.the-variants.{
   NoSuchDevice,
   OutputTooShort,
   NoSuchState,
+  BufferTooShort,
+  GoalOutOfReach,
   ShardingChanged,
   TooDeep,
   TooManyRun,
@@ -81,6 +83,8 @@ numberOf SpareTooShort = 31
 numberOf NoSuchDevice = 32
 numberOf OutputTooShort = 33
 numberOf NoSuchState = 34
+numberOf BufferTooShort = 35
+numberOf GoalOutOfReach = 40
 numberOf ShardingChanged = 41
 numberOf TooDeep = 42
 numberOf TooManyRun = 43
@@ -92,7 +96,7 @@ reasons =
     FileTooShort ∷ FileTooLong ∷ UnknownEdition ∷ WrongLength ∷ CountOutsideLimits ∷ WrongOffset ∷ SectionPastEnd ∷ ListTooLong ∷ BytesLeft
     ∷ MeshSizeZero ∷ TooManyDevices ∷ TensorSizeZero ∷ TooManyWords ∷ StartAxisTooLarge ∷ StartAxisRepeated ∷ StartNotIncreasing ∷ StartNotDivisible
     ∷ ReplicatedEmpty ∷ WrongOrder ∷ UnknownKind ∷ NoAxis ∷ AxisTooLarge ∷ NotReplicated ∷ NotTail ∷ ShardNotDivisible ∷ NotIncreasing ∷ NotUnreduced ∷ WrongDims ∷ WorkTooShort
-    ∷ SpareTooShort ∷ NoSuchDevice ∷ OutputTooShort ∷ NoSuchState ∷ ShardingChanged ∷ TooDeep ∷ TooManyRun ∷ RepeatOfNothing ∷ []
+    ∷ SpareTooShort ∷ NoSuchDevice ∷ OutputTooShort ∷ NoSuchState ∷ BufferTooShort ∷ GoalOutOfReach ∷ ShardingChanged ∷ TooDeep ∷ TooManyRun ∷ RepeatOfNothing ∷ []
 
 abbrev pub numbered : ℕ → List Reason → Reason
 numbered n [] = FileTooShort

@@ -208,6 +208,8 @@ pub enum Reason {
     NoSuchDevice,
     OutputTooShort,
     NoSuchState,
+    BufferTooShort,
+    GoalOutOfReach,
     ShardingChanged,
     TooDeep,
     TooManyRun,

@@ -115,6 +115,12 @@ enum-told-36 c = search needs
 enum-told-37 : tie.Need-enum-told-37
 enum-told-37 c = search needs
 
+enum-told-38 : tie.Need-enum-told-38
+enum-told-38 c = search needs
+
+enum-told-39 : tie.Need-enum-told-39
+enum-told-39 c = search needs
+
 returns : tie.Need-returns
 returns c = simp (c .enum-told .given .1)
 
@@ -226,6 +232,12 @@ returns-36 c = simp (c .enum-told36 .given .1)
 returns-37 : tie.Need-returns-37
 returns-37 c = simp (c .enum-told37 .given .1)
 
+returns-38 : tie.Need-returns-38
+returns-38 c = simp (c .enum-told38 .given .1)
+
+returns-39 : tie.Need-returns-39
+returns-39 c = simp (c .enum-told39 .given .1)
+
 pub number-of-spec : {M : Type 1} → statement M
 number-of-spec =
     tie.close
@@ -267,6 +279,8 @@ number-of-spec =
     enum-told-35
     enum-told-36
     enum-told-37
+    enum-told-38
+    enum-told-39
     returns
     returns-2
     returns-3
@@ -303,4 +317,6 @@ number-of-spec =
     returns-34
     returns-35
     returns-36
-    returns-37)
+    returns-37
+    returns-38
+    returns-39)

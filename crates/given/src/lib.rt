@@ -1,0 +1,331 @@
+// The arguments of the writer's and the planner's calls, judged: mesh, order, table and sharding, and step records of 38 bytes each.
+// records/specs/Writing.antt is the judgement and records/specs/Forms.antt what the arguments stand for; specs/Given.antt is what the parts ask and answer.
+ghost use mathlib.Core.Path.{_≡_};
+ghost use mathlib.Core.List.{[], _∷_};
+ghost use Prim.Native.Nat.{ℕ, _+_, _*_, _≤_, _<_};
+ghost use lib.ListN.{length, getD};
+ghost use lib.Dec.{leb, eqb};
+ghost use Rattle.rules.specs.Lists.{pick};
+ghost use Rattle.rules.specs.Limits.{mostAxes, mostDevices, mostDims, mostWords};
+ghost use Rattle.rules.specs.Mesh.{devices as devicesOf, OnMesh};
+ghost use Rattle.rules.specs.Refusals.{need, numberOf};
+ghost use Rattle.rules.specs.PlanFile.{kindOf, judgeSizes};
+ghost use Rattle.rules.specs.Types.{meshOf, sizesOf};
+ghost use Rattle.start.specs.Start.{meaning};
+ghost use Rattle.records.specs.Records.{innerOf, outermost};
+ghost use Rattle.records.specs.Writing.{judgeCounts, judgeSharding, judgeOrder};
+ghost use Rattle.records.specs.Forms.{listGiven, dimsGiven, shardingGiven, recordBytes, axisAt, listRecord, stepRecord, givenAt, recordCount, stepsGiven};
+ghost use Rattle.given.specs.Given.{judgeLimits, judgeShape, Shaped};
+use mesh::product_from;
+use order::order_allowed;
+use rules::Axis;
+use rules::AxisList;
+use rules::Device;
+use rules::Dim;
+use rules::DimLists;
+use rules::Kind;
+use rules::Mesh;
+use rules::Reason;
+use rules::Sharding;
+use rules::Step;
+use rules::Table;
+use start::Verdict;
+use start::judge_start;
+use start::refused;
+
+// 5: "n, rank or step count outside its limits"; the steps that count are the outermost ones.
+pub fn judge_limits(n: usize, rank: usize, steps: usize) -> Verdict
+    ensures { λ r. ⌜ meaning r ≡ judgeLimits n rank steps ⌝ }
+{
+    if n < 1 {
+        return refused(Reason::CountOutsideLimits, 0);
+    }
+    if Axis::MOST < n {
+        return refused(Reason::CountOutsideLimits, 0);
+    }
+    if rank < 1 {
+        return refused(Reason::CountOutsideLimits, 0);
+    }
+    if Dim::MOST < rank {
+        return refused(Reason::CountOutsideLimits, 0);
+    }
+    if Step::MOST < steps {
+        return refused(Reason::CountOutsideLimits, 0);
+    }
+    Verdict::Fine
+}
+
+// "each size in turn (zero, then running product)"
+pub fn judge_sizes(sizes: &[u16], most: usize, zero: Reason, over: Reason) -> Verdict
+    requires { ⌜ (1 ≤ most) × (most ≤ mostWords) ⌝ }
+    ensures { λ r. ⌜ meaning r ≡ judgeSizes most (numberOf zero) (numberOf over) 1 (now (sizes .entry)) ⌝ }
+{
+    let mut product: usize = 1;
+    let mut i: usize = 0;
+    while i < sizes.len() {
+        let size = sizes[i] as usize;
+        if size == 0 {
+            return refused(zero, 0);
+        }
+        product = product * size;
+        if most < product {
+            return refused(over, 0);
+        }
+        i += 1;
+    }
+    Verdict::Fine
+}
+
+// 19: the order of a mesh that passed. "An order of no numbers counts as none"
+pub fn judge_order(mesh: &[u16], order: &[u16]) -> Verdict
+    requires { ⌜ OnMesh (now mesh) ⌝ }
+    ensures { λ r. ⌜ meaning r ≡ judgeOrder (devicesOf (now (mesh .entry))) (now (order .entry)) ⌝ }
+{
+    if order.len() == 0 {
+        return Verdict::Fine;
+    }
+    let devices = product_from(mesh, 0);
+    if !order_allowed(order, devices) {
+        return refused(Reason::WrongOrder, 0);
+    }
+    Verdict::Fine
+}
+
+// What stands before the shardings: 5, 10, 11, 19, 12, 13.
+pub fn judge_shape<'a>(
+    mesh: &'a [u16],
+    order: &'a [u16],
+    table: &'a [u16],
+    outermost: usize,
+) -> Verdict
+    ensures { λ r. ⌜ meaning r ≡ judgeShape (now (mesh .entry)) (now (order .entry)) (now (table .entry)) outermost ⌝ }
+{
+    let limits = judge_limits(mesh.len(), table.len(), outermost);
+    let Verdict::Fine = limits else {
+        return limits;
+    };
+    let sizes = judge_sizes(
+        mesh,
+        Device::MOST,
+        Reason::MeshSizeZero,
+        Reason::TooManyDevices,
+    );
+    let Verdict::Fine = sizes else {
+        return sizes;
+    };
+    let ordered = judge_order(mesh, order);
+    let Verdict::Fine = ordered else {
+        return ordered;
+    };
+    judge_sizes(
+        table,
+        Table::MOST,
+        Reason::TensorSizeZero,
+        Reason::TooManyWords,
+    )
+}
+
+// The size at a place, 1 past the last.
+fn size_or_one(sizes: &[u16], i: usize) -> u16
+    ensures { λ r. ⌜ r ≡ getD (now (sizes .entry)) i 1 ⌝ }
+{
+    if i < sizes.len() { sizes[i] } else { 1 }
+}
+
+// The mesh of these sizes.
+pub fn mesh_of(sizes: &[u16]) -> Mesh
+    requires { ⌜ length (now sizes) ≤ mostAxes ⌝ }
+    ensures { λ r. ⌜ (meshOf r ≡ now (sizes .entry)) × (r .n ≡ length (now (sizes .entry))) ⌝ }
+{
+    let n = sizes.len();
+    let places = [
+        size_or_one(sizes, 0),
+        size_or_one(sizes, 1),
+        size_or_one(sizes, 2),
+        size_or_one(sizes, 3),
+        size_or_one(sizes, 4),
+        size_or_one(sizes, 5),
+    ];
+    Mesh { n, sizes: places }
+}
+
+// The table of these sizes.
+pub fn table_of(sizes: &[u16]) -> Table
+    requires { ⌜ length (now sizes) ≤ mostDims ⌝ }
+    ensures { λ r. ⌜ (sizesOf r ≡ now (sizes .entry)) × (r .rank ≡ length (now (sizes .entry))) ⌝ }
+{
+    let rank = sizes.len();
+    let places = [
+        size_or_one(sizes, 0),
+        size_or_one(sizes, 1),
+        size_or_one(sizes, 2),
+        size_or_one(sizes, 3),
+    ];
+    Table {
+        rank,
+        sizes: places,
+    }
+}
+
+// 8: the count of a list as it stands there, which may be past the places.
+fn judge_count(list: AxisList, n: usize) -> Verdict
+    requires { ⌜ n ≤ mostAxes ⌝ }
+    ensures { λ r. ⌜ meaning r ≡ need (leb (length (listGiven list)) n) 8 ⌝ }
+{
+    let count = list.count as usize;
+    if n < count {
+        return refused(Reason::ListTooLong, 0);
+    }
+    Verdict::Fine
+}
+
+// 8: the counts of the dimensions' lists.
+fn judge_counts(lists: DimLists, rank: usize, n: usize) -> Verdict
+    requires { ⌜ (rank ≤ mostDims) × (n ≤ mostAxes) ⌝ }
+    ensures { λ r. ⌜ meaning r ≡ judgeCounts n (dimsGiven rank lists) ⌝ }
+{
+    let mut d: usize = 0;
+    while d < rank {
+        let list = lists.0[d];
+        let verdict = judge_count(list, n);
+        let Verdict::Fine = verdict else {
+            return verdict;
+        };
+        d += 1;
+    }
+    Verdict::Fine
+}
+
+// 8: the counts of the unreduced and the replicated list.
+fn judge_two_counts(unreduced: AxisList, replicated: AxisList, n: usize) -> Verdict
+    requires { ⌜ n ≤ mostAxes ⌝ }
+    ensures { λ r. ⌜ meaning r ≡ judgeCounts n (listGiven unreduced ∷ listGiven replicated ∷ []) ⌝ }
+{
+    let first = judge_count(unreduced, n);
+    let Verdict::Fine = first else {
+        return first;
+    };
+    judge_count(replicated, n)
+}
+
+// A sharding: 8 over all its lists, then 14, 15, 16 axis by axis, then 17.
+pub fn judge_sharding(sharding: Sharding, mesh: Mesh, table: Table) -> Verdict
+    requires { ⌜ Shaped mesh table ⌝ }
+    ensures { λ r. ⌜ meaning r ≡ judgeSharding (meshOf mesh) (sizesOf table) (shardingGiven (table .rank) sharding) ⌝ }
+{
+    let dims = judge_counts(sharding.dims, table.rank, mesh.n);
+    let Verdict::Fine = dims else {
+        return dims;
+    };
+    let others = judge_two_counts(sharding.unreduced, sharding.replicated, mesh.n);
+    let Verdict::Fine = others else {
+        return others;
+    };
+    judge_start(sharding, mesh, table)
+}
+
+// "1 all-slice, 2 all-gather .., 3 all-reduce .., 4 all-to-all": what the first byte of a record stands for, where it is no repeat's.
+fn record_kind(byte: u8) -> Kind
+    ensures { λ r. ⌜ r ≡ kindOf byte ⌝ }
+{
+    if byte == 1 {
+        Kind::AllSlice
+    } else if byte == 2 {
+        Kind::AllGather
+    } else if byte == 3 {
+        Kind::AllReduce
+    } else if byte == 4 {
+        Kind::AllToAll
+    } else {
+        Kind::Unknown
+    }
+}
+
+fn axis_record(steps: &[u8], at: usize) -> Axis
+    requires { ⌜ at < length (now steps) ⌝ }
+    ensures { λ r. ⌜ r ≡ axisAt (now (steps .entry)) at ⌝ }
+{
+    Axis(steps[at])
+}
+
+// A list of the record at a byte: its count as it stands there, and all its places.
+fn list_record(steps: &[u8], at: usize, list: usize) -> AxisList
+    requires { ⌜ (at + recordBytes ≤ length (now steps)) × (list < 5) ⌝ }
+    ensures { λ r. ⌜ r ≡ listRecord (now (steps .entry)) at list ⌝ }
+{
+    let count = steps[at + 3 + list] as u16;
+    let first = at + 8 + 6 * list;
+    let axes = [
+        axis_record(steps, first),
+        axis_record(steps, first + 1),
+        axis_record(steps, first + 2),
+        axis_record(steps, first + 3),
+        axis_record(steps, first + 4),
+        axis_record(steps, first + 5),
+    ];
+    AxisList { count, axes }
+}
+
+// The step of record i.
+pub fn step_record(steps: &[u8], i: usize) -> Step
+    requires { ⌜ i < recordCount (now steps) ⌝ }
+    ensures { λ r. ⌜ r ≡ stepRecord (now (steps .entry)) (recordBytes * i) ⌝ }
+{
+    let at = 38 * i;
+    let kind = record_kind(steps[at]);
+    let lists = [
+        list_record(steps, at, 0),
+        list_record(steps, at, 1),
+        list_record(steps, at, 2),
+        list_record(steps, at, 3),
+    ];
+    let list = list_record(steps, at, 4);
+    Step {
+        kind,
+        source: Dim(steps[at + 1]),
+        target: Dim(steps[at + 2]),
+        lists: DimLists(lists),
+        list,
+    }
+}
+
+// How many steps record i says to stand right inside it.
+fn inner_of(steps: &[u8], i: usize) -> usize
+    requires { ⌜ i < recordCount (now steps) ⌝ }
+    ensures { λ r. ⌜ (((rank : ℕ) → r ≡ innerOf (givenAt rank (now (steps .entry)) (recordBytes * i)))) × (r ≤ 255) ⌝ }
+{
+    let at = 38 * i;
+    if steps[at] == 9 {
+        steps[at + 2] as usize
+    } else {
+        0
+    }
+}
+
+fn one_if_none(still: usize) -> usize
+    ensures { λ r. ⌜ r ≡ pick (eqb still 0) 1 0 ⌝ }
+{
+    if still == 0 { 1 } else { 0 }
+}
+
+// The records that stand in no block. Where at least as many steps are still to come as there are records, all of these stand in blocks, so no number
+// grows past the records by more than a byte.
+pub fn count_outermost(steps: &[u8]) -> usize
+    ensures { λ r. ⌜ ((rank : ℕ) → r ≡ outermost (stepsGiven rank (now (steps .entry)))) ⌝ }
+{
+    let count = steps.len() / 38;
+    let mut still: usize = 0;
+    let mut found: usize = 0;
+    let mut i: usize = 0;
+    while i < count {
+        if count - i <= still {
+            return found;
+        }
+        let inner = inner_of(steps, i);
+        let one = one_if_none(still);
+        found = found + one;
+        still = still + one + inner - 1;
+        i += 1;
+    }
+    found
+}

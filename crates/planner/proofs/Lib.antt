@@ -1,0 +1,4 @@
+-- Laws of the planner.
+pub mod Tails
+pub mod Three
+pub mod Routes

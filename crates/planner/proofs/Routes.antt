@@ -1,0 +1,118 @@
+-- The planner, test by test. Assumes nothing.
+use Prim.Native.Nat.{ℕ, _≤_}
+use mathlib.Core.Path.{_≡_, refl, sym, ap, _∙_, subst}
+use mathlib.Core.Bool.{Bool, true, false, _&&_}
+use mathlib.Core.List.{List, [], _∷_}
+use lib.ListN.{length}
+use Rattle.rules.specs.Limits.{mostAxes}
+use Rattle.rules.specs.Sharding.{Sharding}
+use Rattle.rules.specs.Collectives.{Step}
+use Rattle.rules.specs.Refusals.{Judged, accept, refuse, _>>_, need, refusedAs, numberOf, refusalOf}
+use Rattle.rules.specs.PlanFile.{allIn, same}
+use Rattle.rules.specs.Types.{axesOf, shardingOf, meshOf, sizesOf}
+use Rattle.rules.specs.declared.Mesh.{Mesh}
+use Rattle.rules.specs.declared.Table.{Table}
+use Rattle.rules.specs.declared.Refusal.{Refusal}
+use Rattle.rules.specs.declared.Sharding as code
+use Rattle.rules.proofs.Judging.{then-inv, then-assoc}
+use Rattle.rules.proofs.Refusals.{refusal-told}
+use Rattle.start.specs.Start.{meaning}
+use Rattle.start.specs.Start as verdicts
+use Rattle.start.specs.declared.Verdict.{Verdict}
+use Rattle.start.specs.declared.Verdict.the-variants as verdict
+use Rattle.records.specs.Writing.{judgeCounts, judgeSharding}
+use Rattle.records.specs.Forms.{shardingGiven}
+use Rattle.records.specs.Planning.{planSteps, reachable, planOf}
+use Rattle.given.specs.Given.{judgeShape}
+use Rattle.given.proofs.Shapes.{halts, ShapeFacts, shape-facts}
+use Rattle.given.proofs.Counts.{sharding-fits}
+use Rattle.planner.specs.declared.Planned.{Planned}
+use Rattle.planner.specs.declared.Steps.{Steps}
+use Rattle.planner.specs.declared.PlanOutcome.the-variants as outcome
+use Rattle.planner.specs.Planned.{stepsFrom, judgeRoute, stepsPlanned, plannedOf}
+
+-- ---- 40
+
+pub lacks-axis : (s g : Sharding) {b : Bool} → b ≡ allIn (g .unreduced) (s .unreduced) → b ≡ false → reachable s g ≡ refuse 40 0
+unfolding reachable
+lacks-axis s g e f = rw (sym e ∙ f) refl
+
+pub other-list : (s g : Sharding) {b c : Bool} → b ≡ allIn (g .unreduced) (s .unreduced) → b ≡ true → c ≡ same (s .replicated) (g .replicated) → c ≡ false
+    → reachable s g ≡ refuse 40 0
+unfolding reachable
+other-list s g e f h k = rw (sym e ∙ f, sym h ∙ k) refl
+
+pub in-reach : (s g : Sharding) {b c : Bool} → b ≡ allIn (g .unreduced) (s .unreduced) → b ≡ true → c ≡ same (s .replicated) (g .replicated) → c ≡ true
+    → reachable s g ≡ accept tt
+unfolding reachable
+in-reach s g e f h k = rw (sym e ∙ f, sym h ∙ k) refl
+
+-- a sharding judged for a mesh and a table that have these sizes
+pub sharding-judged : (mesh sizes : List ℕ) (m : Mesh) (t : Table) (s : code.Sharding) → (meshOf m ≡ mesh) × (m .n ≡ length mesh)
+    → (sizesOf t ≡ sizes) × (t .rank ≡ length sizes) → (v : Verdict) → meaning v ≡ judgeSharding (meshOf m) (sizesOf t) (shardingGiven (t .rank) s)
+    → meaning v ≡ judgeSharding mesh sizes (shardingGiven (length sizes) s)
+sharding-judged mesh sizes m t s a b v e = e ∙ (λ i. judgeSharding (a .0 i) (b .0 i) (shardingGiven (b .1 i) s))
+
+-- ---- the tests in turn
+
+module _ (mesh order sizes : List ℕ) (start goal : code.Sharding) where
+  abbrev S : Sharding
+  S = shardingGiven (length sizes) start
+
+  abbrev G : Sharding
+  G = shardingGiven (length sizes) goal
+
+  module _ {v : Verdict} {x : Refusal} where
+    pub shape-halts : meaning v ≡ judgeShape mesh order sizes 0 → v ≡ verdict.Refused x → meaning v ≡ judgeRoute mesh order sizes start goal
+    shape-halts e f = halts (_>>_ (judgeSharding mesh sizes S) (_>>_ (judgeSharding mesh sizes G) (reachable S G))) e f
+
+    pub start-halts : judgeShape mesh order sizes 0 ≡ accept tt → meaning v ≡ judgeSharding mesh sizes S → v ≡ verdict.Refused x
+        → meaning v ≡ judgeRoute mesh order sizes start goal
+    start-halts s e f = rw s (halts (_>>_ (judgeSharding mesh sizes G) (reachable S G)) e f)
+
+    pub goal-halts : judgeShape mesh order sizes 0 ≡ accept tt → judgeSharding mesh sizes S ≡ accept tt → meaning v ≡ judgeSharding mesh sizes G
+        → v ≡ verdict.Refused x → meaning v ≡ judgeRoute mesh order sizes start goal
+    goal-halts s o e f = rw (s, o) (halts (reachable S G) e f)
+
+  -- a sharding that passed has no list past its places
+  fits : (s : code.Sharding) → length mesh ≤ mostAxes → judgeSharding mesh sizes (shardingGiven (length sizes) s) ≡ accept tt
+      → shardingGiven (length sizes) s ≡ shardingOf (length sizes) s
+  unfolding judgeSharding
+  fits s n e =
+      let z : Sharding = shardingGiven (length sizes) s in
+      let d = then-inv (judgeCounts (length mesh) (z .dims)) _ tt e in
+      let o = then-inv (judgeCounts (length mesh) (z .unreduced ∷ z .replicated ∷ [])) _ tt (d .1) in
+      sharding-fits (length mesh) (length sizes) s n (d .0 .1) (o .0 .1)
+
+  pub reach-decides : length mesh ≤ mostAxes → judgeShape mesh order sizes 0 ≡ accept tt → judgeSharding mesh sizes S ≡ accept tt → judgeSharding mesh sizes G ≡ accept tt
+      → (v : Verdict) → meaning v ≡ reachable (shardingOf (length sizes) start) (shardingOf (length sizes) goal) → meaning v ≡ judgeRoute mesh order sizes start goal
+  reach-decides n s o q v e = rw (s, o, q) (e ∙ (λ i. reachable (sym (fits start n o) i) (sym (fits goal n q) i)))
+
+  -- ---- the answer
+
+  -- the definition makes the same tests
+  planned-is : stepsPlanned mesh order sizes start goal ≡ _>>_ (judgeRoute mesh order sizes start goal) (accept (planSteps S G))
+  unfolding planOf judgeShape
+  planned-is = simp then-assoc refl
+
+  pub plan-refused : (v : Verdict) (x : Refusal) {t : Refusal} → meaning v ≡ judgeRoute mesh order sizes start goal → v ≡ verdict.Refused x → t ≡ verdicts.refusalOf v
+      → {none : Steps} → none ≡ stepsFrom [] → record { outcome = outcome.Refused t; plan = none } ≡ plannedOf (stepsPlanned mesh order sizes start goal)
+  plan-refused v x {t} e f q {none} n =
+      let j : judgeRoute mesh order sizes start goal ≡ refusedAs x = sym e ∙ ap meaning f in
+      let w : t ≡ refusalOf (numberOf (x .reason)) (x .step) = q ∙ ap verdicts.refusalOf f ∙ sym (refusal-told x) in
+      (λ i. record { outcome = outcome.Refused (w i); plan = n i })
+      ∙ sym (ap plannedOf (planned-is ∙ ap (λ (i : Judged (Unit {0})). _>>_ i (accept (planSteps S G))) j))
+
+  pub route-facts : judgeRoute mesh order sizes start goal ≡ accept tt → ShapeFacts mesh order sizes 0
+  route-facts e = shape-facts mesh order sizes 0 (then-inv (judgeShape mesh order sizes 0) _ tt e .0 .1)
+
+  pub plan-made : judgeRoute mesh order sizes start goal ≡ accept tt → {made : Steps}
+      → made ≡ stepsFrom (planSteps (shardingOf (length sizes) start) (shardingOf (length sizes) goal))
+      → record { outcome = outcome.Made; plan = made } ≡ plannedOf (stepsPlanned mesh order sizes start goal)
+  plan-made e {made} q =
+      let n : length mesh ≤ mostAxes = route-facts e .on .axes-few in
+      let s = then-inv (judgeShape mesh order sizes 0) _ tt e in
+      let o = then-inv (judgeSharding mesh sizes S) _ tt (s .1) in
+      let g = then-inv (judgeSharding mesh sizes G) _ tt (o .1) in
+      ap (λ (z : Steps). record { outcome = outcome.Made; plan = z }) (q ∙ (λ i. stepsFrom (planSteps (sym (fits start n (o .0 .1)) i) (sym (fits goal n (g .0 .1)) i))))
+      ∙ sym (ap plannedOf (planned-is ∙ ap (λ (i : Judged (Unit {0})). _>>_ i (accept (planSteps S G))) e))

@@ -1,0 +1,34 @@
+use borrow.Author.Needs.{needs}
+use denote.Ref.{now}
+use Rattle.start.proofs.Verdicts.{passed}
+use Rattle.planner.proofs.Routes.{route-facts, plan-refused, plan-made}
+use Rattle.planner.proofs.plan.Statement.{statement}
+use Rattle.planner.proofs.plan.Tie as tie
+
+enum-told : tie.Need-enum-told
+enum-told c = search needs
+
+enum-told-2 : tie.Need-enum-told-2
+enum-told-2 c = search needs
+
+pub plan-spec : {M : Type 1} → statement M
+plan-spec =
+    tie.close
+    (tie.spec
+    (λ c κs. search needs)
+    enum-told
+    enum-told-2
+    (λ c κs. search needs)
+    (λ c κs. search needs)
+    (λ c. let e = c .before .before in
+    let j = e .before .before in
+    let a = j .before .before .before .before .args in
+    plan-refused (now (a .mesh)) (now (a .order)) (now (a .table)) (a .start) (a .goal) (j .judge-route .result) _ (j .judge-route .ensures) (e .enum-told2 .given .1)
+    (c .before .refusal-of .ensures) (c .none .ensures))
+    (λ c κs. let j = c .before .before in
+    let a = j .before .before .before .before .args in
+    route-facts (now (a .mesh)) (now (a .order)) (now (a .table)) (a .start) (a .goal) (passed (j .judge-route .ensures) (c .enum-told .given .1)) .rank-few)
+    (λ c. let e = c .before in
+    let j = e .before .before in
+    let a = j .before .before .before .before .args in
+    plan-made (now (a .mesh)) (now (a .order)) (now (a .table)) (a .start) (a .goal) (passed (j .judge-route .ensures) (e .enum-told .given .1)) (c .plan-steps .ensures)))

@@ -1,0 +1,21 @@
+use borrow.Author.Needs.{needs}
+use mathlib.Core.Path.{ap, _∙_}
+use Rattle.rules.specs.Types.{listFrom, listsFrom}
+use Rattle.rules.specs.declared.Kind.the-variants.{AllReduce}
+use Rattle.planner.proofs.reduce_of.Statement.{statement}
+use Rattle.planner.proofs.reduce_of.Tie as tie
+
+pub reduce-of-spec : {M : Type 1} → statement M
+reduce-of-spec =
+    tie.close
+    (tie.spec
+    (λ c κs. search needs)
+    (λ c κs. search needs)
+    (λ c κs. search needs)
+    (λ c i. record {
+      kind = AllReduce;
+      source = record { 0 = 0 };
+      target = record { 0 = 0 };
+      lists = c .before .dims-within .ensures i;
+      list = c .cleared .ensures i;
+    }))

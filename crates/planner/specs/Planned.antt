@@ -1,0 +1,63 @@
+-- Steps as the planner answers them: every place is fixed, and those that are not used hold no axes, no step. Assumes nothing.
+use Prim.Native.Nat.{ℕ}
+use mathlib.Core.List.{List, [], _∷_, map}
+use lib.ListN.{length, getD}
+use Rattle.rules.specs.Lists.{tab}
+use Rattle.rules.specs.Collectives.{allSlice, allGather, allReduce, allToAll}
+use Rattle.rules.specs.Collectives as rules
+use Rattle.rules.specs.Types.{listFrom, listsFrom}
+use Rattle.rules.specs.declared.Kind.{Kind}
+use Rattle.rules.specs.declared.Kind.the-variants.{AllSlice, AllGather, AllReduce, AllToAll, Unknown}
+use Rattle.rules.specs.declared.Step.{Step}
+use Rattle.rules.specs.Refusals.{Judged, accept, refuse, _>>_, refusalOf}
+use Rattle.rules.specs.declared.Sharding as code
+use Rattle.records.specs.Writing.{judgeSharding}
+use Rattle.records.specs.Forms.{shardingGiven}
+use Rattle.records.specs.Planning.{planSteps, reachable, planOf}
+use Rattle.given.specs.Given.{judgeShape}
+use Rattle.planner.specs.declared.Steps.{Steps}
+use Rattle.planner.specs.declared.Planned.{Planned}
+use Rattle.planner.specs.declared.PlanOutcome.the-variants as outcome
+
+abbrev pub stepWith : Kind → (source target : ℕ) → List (List ℕ) → List ℕ → Step
+stepWith kind source target lists list = record {
+  kind = kind;
+  source = record { 0 = source };
+  target = record { 0 = target };
+  lists = listsFrom lists;
+  list = listFrom list;
+}
+
+abbrev pub stepFrom : rules.Step → Step
+stepFrom (allSlice Ss) = stepWith AllSlice 0 0 Ss []
+stepFrom (allGather Gs) = stepWith AllGather 0 0 Gs []
+stepFrom (allReduce L) = stepWith AllReduce 0 0 [] L
+stepFrom (allToAll source target L) = stepWith AllToAll source target [] L
+
+abbrev pub noStep : Step
+noStep = stepWith Unknown 0 0 [] []
+
+-- at most three of them
+unfoldable pub stepsFrom : List rules.Step → Steps
+stepsFrom ts = record { count = length ts; steps = tab 3 (λ i. getD (map stepFrom ts) i noStep) }
+
+-- ---- the call
+
+-- the tests of `planOf`, in its order
+abbrev pub judgeRoute : (mesh order sizes : List ℕ) → (start goal : code.Sharding) → Judged (Unit {0})
+judgeRoute mesh order sizes start goal = do
+  judgeShape mesh order sizes 0
+  judgeSharding mesh sizes (shardingGiven (length sizes) start)
+  judgeSharding mesh sizes (shardingGiven (length sizes) goal)
+  reachable (shardingGiven (length sizes) start) (shardingGiven (length sizes) goal)
+
+-- the steps of the records that the definition makes of the arguments, or its refusal
+abbrev pub stepsPlanned : (mesh order sizes : List ℕ) → (start goal : code.Sharding) → Judged (List rules.Step)
+stepsPlanned mesh order sizes start goal = do
+  planOf mesh order sizes (shardingGiven (length sizes) start) (shardingGiven (length sizes) goal)
+  accept (planSteps (shardingGiven (length sizes) start) (shardingGiven (length sizes) goal))
+
+-- the answer of the code, every place of it
+abbrev pub plannedOf : Judged (List rules.Step) → Planned
+plannedOf (accept ts) = record { outcome = outcome.Made; plan = stepsFrom ts }
+plannedOf (refuse n k) = record { outcome = outcome.Refused (refusalOf n k); plan = stepsFrom [] }
