@@ -11,13 +11,16 @@ pub mod json;
 pub mod library;
 pub mod plans;
 pub mod random;
+pub mod records;
 pub mod reference;
 pub mod short;
 pub mod spreads;
 
 use answers::{Axis, Checked, Device, Placed, Refusal, Sizes};
+use records::{MeshAndTable, Records, ShardingRecord, StepRecord};
 
-/// The four calls of document 01, and the listing by an order of document 02.
+/// The four calls of document 01, and of document 02 the listing by an order, the writer and the
+/// planner.
 pub trait Implementation {
     fn name(&self) -> &'static str;
 
@@ -36,6 +39,21 @@ pub trait Implementation {
     ) -> Result<(), Refusal>;
 
     fn run(&self, file: &[u8], work: &mut [u32], spare: &mut [u32]) -> Result<(), Refusal>;
+
+    /// Writes the file of a plan, and answers its length; nothing where there is no such call.
+    fn write(&self, _records: &Records, _out: &mut [u8]) -> Option<Result<usize, Refusal>> {
+        None
+    }
+
+    /// Makes the plan from one sharding to another; nothing where there is no such call.
+    fn plan(
+        &self,
+        _on: &MeshAndTable,
+        _start: &ShardingRecord,
+        _goal: &ShardingRecord,
+    ) -> Option<Result<Vec<StepRecord>, Refusal>> {
+        None
+    }
 
     /// The shard sizes of every state, the start first.
     fn shards(&self, file: &[u8]) -> Result<Vec<Sizes>, Refusal> {
@@ -77,6 +95,19 @@ impl Implementation for Reference {
 
     fn run(&self, file: &[u8], work: &mut [u32], spare: &mut [u32]) -> Result<(), Refusal> {
         reference::run(file, work, spare)
+    }
+
+    fn write(&self, records: &Records, out: &mut [u8]) -> Option<Result<usize, Refusal>> {
+        Some(reference::records::write(records, out))
+    }
+
+    fn plan(
+        &self,
+        on: &MeshAndTable,
+        start: &ShardingRecord,
+        goal: &ShardingRecord,
+    ) -> Option<Result<Vec<StepRecord>, Refusal>> {
+        Some(reference::records::plan(on, start, goal))
     }
 
     fn shards(&self, file: &[u8]) -> Result<Vec<Sizes>, Refusal> {

@@ -1,5 +1,5 @@
 //! Document 01 with the limits, the editions and the repeats of document 02 in plain Rust, written
-//! from these documents alone.
+//! from these documents alone. `records` has its writer and its planner.
 //!
 //! A file is judged into a `Plan`, which holds the state after every outermost step. The calls read
 //! their answers off the plan. A run moves the words between the two lent buffers, step by step; the
@@ -14,6 +14,8 @@ use crate::answers::{
 };
 use crate::short::Short;
 use std::mem;
+
+pub mod records;
 
 /// The answer of the check, and the shard sizes of every state, the start first.
 #[derive(Clone, Debug, PartialEq, Eq)]
@@ -155,7 +157,7 @@ impl Plan {
         }
         let mut judge = Judge::new(&mesh, reader, start);
         let (steps, states) = judge.outermost(header.steps)?;
-        if judge.reader.at < file.len() {
+        if judge.source.at < file.len() {
             return Err(Refusal::whole(9));
         }
         let most = judge.most;
@@ -247,10 +249,25 @@ impl Taken {
 /// The kind byte of a repeat.
 const REPEAT: u8 = 9;
 
+/// What steps are read from, one after the other: a file, or records.
+trait Source {
+    /// The kind of the next step.
+    fn kind(&mut self) -> Result<u8, Refusal>;
+
+    /// The two numbers of a repeat, each judged when it is read.
+    fn repeat(
+        &mut self,
+        positive: &dyn Fn(u8) -> Result<usize, Refusal>,
+    ) -> Result<(usize, usize), Refusal>;
+
+    /// A plain step of this kind, or nothing where no step has it.
+    fn step(&mut self, kind: u8, axes: usize, rank: usize) -> Result<Option<Step>, Refusal>;
+}
+
 /// Reads and judges the steps one after the other.
-struct Judge<'a> {
+struct Judge<'a, S> {
     mesh: &'a Mesh,
-    reader: Reader<'a>,
+    source: S,
     /// The state after what was judged.
     state: State,
     /// The words of the largest shard so far.
@@ -259,11 +276,11 @@ struct Judge<'a> {
     number: u16,
 }
 
-impl<'a> Judge<'a> {
-    fn new(mesh: &'a Mesh, reader: Reader<'a>, start: State) -> Judge<'a> {
+impl<'a, S: Source> Judge<'a, S> {
+    fn new(mesh: &'a Mesh, source: S, start: State) -> Judge<'a, S> {
         Judge {
             mesh,
-            reader,
+            source,
             state: start,
             most: start.words(),
             number: 0,
@@ -294,7 +311,7 @@ impl<'a> Judge<'a> {
 
     /// A step; a repeat there would have this depth.
     fn item(&mut self, depth: usize) -> Result<Item, Refusal> {
-        let kind = self.reader.byte()?;
+        let kind = self.source.kind()?;
         self.number += 1;
         match kind {
             REPEAT => self.repeat(depth),
@@ -306,7 +323,7 @@ impl<'a> Judge<'a> {
         let before = self.state;
         let at = self.number;
         let refused = |number| Refusal { number, step: at };
-        let read = self.reader.step(kind, self.mesh.axes(), before.shard.len());
+        let read = self.source.step(kind, self.mesh.axes(), before.shard.len());
         let step = read?.ok_or(refused(20))?;
         let after = step.judge(self.mesh, &before).map_err(refused)?;
         self.state = after;
@@ -326,8 +343,7 @@ impl<'a> Judge<'a> {
             0 => Err(refused(44)),
             _ => Ok(usize::from(byte)),
         };
-        let count = positive(self.reader.byte()?)?;
-        let steps = positive(self.reader.byte()?)?;
+        let (count, steps) = self.source.repeat(&positive)?;
         if depth > MOST_DEPTH {
             return Err(refused(42));
         }
@@ -371,12 +387,7 @@ impl Header {
             return Err(Refusal::whole(4));
         }
         let (axes, rank, steps) = (entry(1), entry(2), entry(3));
-        let within = (1..=MOST_AXES).contains(&axes)
-            && (1..=MOST_RANK).contains(&rank)
-            && steps <= MOST_STEPS;
-        if !within {
-            return Err(Refusal::whole(5));
-        }
+        within_limits(axes, rank, steps)?;
         Ok(Header {
             edition: entry(0),
             axes,
@@ -387,6 +398,16 @@ impl Header {
             start_at: entry(6),
             steps_at: entry(7),
         })
+    }
+}
+
+fn within_limits(axes: usize, rank: usize, steps: usize) -> Result<(), Refusal> {
+    let within =
+        (1..=MOST_AXES).contains(&axes) && (1..=MOST_RANK).contains(&rank) && steps <= MOST_STEPS;
+    if within {
+        Ok(())
+    } else {
+        Err(Refusal::whole(5))
     }
 }
 
@@ -459,8 +480,22 @@ impl Reader<'_> {
             replicated,
         })
     }
+}
 
-    /// A plain step behind its kind byte, or nothing where no step has this kind.
+impl Source for Reader<'_> {
+    fn kind(&mut self) -> Result<u8, Refusal> {
+        self.byte()
+    }
+
+    fn repeat(
+        &mut self,
+        positive: &dyn Fn(u8) -> Result<usize, Refusal>,
+    ) -> Result<(usize, usize), Refusal> {
+        let count = positive(self.byte()?)?;
+        let steps = positive(self.byte()?)?;
+        Ok((count, steps))
+    }
+
     fn step(&mut self, kind: u8, axes: usize, rank: usize) -> Result<Option<Step>, Refusal> {
         let step = match kind {
             1 => Step::Slice(self.lists(axes, rank)?),

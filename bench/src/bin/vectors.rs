@@ -4,14 +4,16 @@
 //! what its cases are: `check.txt` or `plans.txt`, `run.txt` or `runs.txt`, `place.txt` or
 //! `placements.txt`, `groups.txt`, `groups_ordered.txt`. Empty lines and lines that begin with `#`
 //! are no cases. A file whose name ends with `-CALL.jsonl` has a JSON object in each line, as
-//! `tools/json_cases` takes them, and is compared where it is named itself.
+//! `tools/json_cases` takes them, and is compared where it is named itself. Where an implementation
+//! has no such call, that is said, and its cases count as not tried.
 
-use bench::answers::{Axis, Device, Refusal, Sharding};
+use bench::answers::{Axis, Device, Dim, Refusal, Sharding};
 use bench::json::Json;
+use bench::records::{MeshAndTable, Records, ShardingRecord, StepRecord};
 use bench::{hex, implementations, Implementation};
 use std::path::{Path, PathBuf};
 use std::process::ExitCode;
-use std::{env, fs};
+use std::{env, fmt, fs};
 
 /// The files of a folder that are compared, and how each of their cases is.
 const FILES: [(&str, Compare); 8] = [
@@ -26,18 +28,38 @@ const FILES: [(&str, Compare); 8] = [
 ];
 
 /// The same of files in JSON, by the end of their name.
-const JSON_FILES: [(&str, CompareJson); 4] = [
+const JSON_FILES: [(&str, CompareJson); 6] = [
     ("-check.jsonl", json_check),
     ("-run.jsonl", json_run),
     ("-place.jsonl", json_place),
     ("-groups.jsonl", json_groups),
+    ("-write.jsonl", json_write),
+    ("-plan.jsonl", json_plan),
 ];
 
 /// Whether an implementation gives a case's answer; an error tells that the case is malformed.
 type Compare = fn(&dyn Implementation, &[&str]) -> Result<bool, String>;
 
 /// The same, where nothing tells that the case is malformed.
-type CompareJson = fn(&dyn Implementation, &Json) -> Option<bool>;
+type CompareJson = fn(&dyn Implementation, &Json) -> Option<Compared>;
+
+/// How an implementation fared on a case.
+enum Compared {
+    Same,
+    Different,
+    /// It has no such call.
+    NotTried,
+}
+
+impl From<bool> for Compared {
+    fn from(same: bool) -> Compared {
+        if same {
+            Compared::Same
+        } else {
+            Compared::Different
+        }
+    }
+}
 
 fn main() -> ExitCode {
     let arguments: Vec<PathBuf> = env::args_os().skip(1).map(PathBuf::from).collect();
@@ -90,7 +112,10 @@ fn compare_file(path: &Path) -> Result<usize, String> {
     let by_name = FILES.iter().find(|(known, _)| *known == name);
     let by_end = JSON_FILES.iter().find(|(end, _)| name.ends_with(end));
     let compare = |implementation: &dyn Implementation, line: &str| match (by_name, by_end) {
-        (Some((_, compare)), _) => compare(implementation, &line.split('|').collect::<Vec<_>>()),
+        (Some((_, compare)), _) => {
+            let fields: Vec<&str> = line.split('|').collect();
+            compare(implementation, &fields).map(Compared::from)
+        }
         (_, Some((_, compare))) => Json::parse(line)
             .and_then(|case| compare(implementation, &case))
             .ok_or_else(|| "not a case".into()),
@@ -107,25 +132,53 @@ fn compare_file(path: &Path) -> Result<usize, String> {
     })?;
     let mut all = 0;
     for implementation in implementations() {
-        let mut cases = 0;
-        let mut differences = 0;
-        for (number, line) in text.lines().enumerate() {
-            if line.is_empty() || line.starts_with('#') {
-                continue;
-            }
-            cases += 1;
-            let same = compare(implementation, line)
-                .map_err(|message| format!("{name}, line {}: {message}", number + 1))?;
-            if !same {
-                differences += 1;
-                println!("{name}, line {}: different", number + 1);
-            }
-        }
-        let who = implementation.name();
-        println!("{name}: {who}: {cases} cases, {differences} differences");
-        all += differences;
+        let tally = tally(&name, &text, |line| compare(implementation, line))?;
+        println!("{name}: {}: {tally}", implementation.name());
+        all += tally.different;
     }
     Ok(all)
+}
+
+/// How an implementation fared on the cases of a file.
+#[derive(Default)]
+struct Tally {
+    same: usize,
+    different: usize,
+    not_tried: usize,
+}
+
+impl fmt::Display for Tally {
+    fn fmt(&self, f: &mut fmt::Formatter) -> fmt::Result {
+        let tried = self.same + self.different;
+        match self.not_tried {
+            0 => write!(f, "{tried} cases, {} differences", self.different),
+            cases => write!(f, "no such call, {cases} cases not tried"),
+        }
+    }
+}
+
+/// Goes through the cases of a file, and names those that are different.
+fn tally(
+    name: &str,
+    text: &str,
+    compare: impl Fn(&str) -> Result<Compared, String>,
+) -> Result<Tally, String> {
+    let mut tally = Tally::default();
+    for (number, line) in text.lines().enumerate() {
+        if line.is_empty() || line.starts_with('#') {
+            continue;
+        }
+        let at = format!("{name}, line {}", number + 1);
+        match compare(line).map_err(|message| format!("{at}: {message}"))? {
+            Compared::Same => tally.same += 1,
+            Compared::NotTried => tally.not_tried += 1,
+            Compared::Different => {
+                tally.different += 1;
+                println!("{at}: different");
+            }
+        }
+    }
+    Ok(tally)
 }
 
 fn compare_check(implementation: &dyn Implementation, fields: &[&str]) -> Result<bool, String> {
@@ -230,7 +283,7 @@ fn same_listing(
 
 // ---- cases in JSON: what is given, and under the call's name what it answers
 
-fn json_check(implementation: &dyn Implementation, case: &Json) -> Option<bool> {
+fn json_check(implementation: &dyn Implementation, case: &Json) -> Option<Compared> {
     let file = json_file(case)?;
     let answer = implementation.check(&file).and_then(|checked| {
         let states: Result<Vec<Json>, Refusal> = (0..=checked.steps)
@@ -248,10 +301,10 @@ fn json_check(implementation: &dyn Implementation, case: &Json) -> Option<bool> 
             ("states", Json::List(states?)),
         ]))
     });
-    same_json(case, "check", answer)
+    same_json(case, "check", answer).map(Compared::from)
 }
 
-fn json_run(implementation: &dyn Implementation, case: &Json) -> Option<bool> {
+fn json_run(implementation: &dyn Implementation, case: &Json) -> Option<Compared> {
     let (before, spare_before) = (case.get("work")?, case.get("spare")?);
     let mut work: Vec<u32> = before.numbers()?;
     let mut spare: Vec<u32> = spare_before.numbers()?;
@@ -259,10 +312,11 @@ fn json_run(implementation: &dyn Implementation, case: &Json) -> Option<bool> {
     let (work, spare) = (json_numbers(&work), json_numbers(&spare));
     let stayed = work == *before && spare == *spare_before;
     let answered = answer.map(|()| object([("work", work), ("spare", spare)]));
-    Some(same_json(case, "run", answered)? && (answer.is_ok() || stayed))
+    let same = same_json(case, "run", answered)? && (answer.is_ok() || stayed);
+    Some(same.into())
 }
 
-fn json_place(implementation: &dyn Implementation, case: &Json) -> Option<bool> {
+fn json_place(implementation: &dyn Implementation, case: &Json) -> Option<Compared> {
     let (state, device) = (case.get("state")?.number()?, case.get("device")?.number()?);
     let placed = implementation.place(&json_file(case)?, state, Device(device));
     let answer = placed.map(|placed| {
@@ -272,10 +326,10 @@ fn json_place(implementation: &dyn Implementation, case: &Json) -> Option<bool> 
             ("first", json_numbers(&placed.first)),
         ])
     });
-    same_json(case, "place", answer)
+    same_json(case, "place", answer).map(Compared::from)
 }
 
-fn json_groups(implementation: &dyn Implementation, case: &Json) -> Option<bool> {
+fn json_groups(implementation: &dyn Implementation, case: &Json) -> Option<Compared> {
     let mesh: Vec<u16> = case.get("mesh")?.numbers()?;
     let order = case.get("order")?.list(|id| id.number().map(Device))?;
     let axes = case.get("axes")?.list(|axis| axis.number().map(Axis))?;
@@ -287,7 +341,87 @@ fn json_groups(implementation: &dyn Implementation, case: &Json) -> Option<bool>
     let same = same_listing(case.get("room")?.number()?, &outcome, |out| {
         implementation.groups_ordered(&mesh, &order, &axes, out)
     });
-    Some(same)
+    Some(same.into())
+}
+
+fn json_write(implementation: &dyn Implementation, case: &Json) -> Option<Compared> {
+    let records = Records {
+        on: json_mesh_and_table(case)?,
+        start: json_sharding_record(case.get("start")?)?,
+        steps: case.get("steps")?.list(json_step)?,
+    };
+    let before = vec![0xa5; case.get("room")?.number()?];
+    let mut out = before.clone();
+    let Some(answer) = implementation.write(&records, &mut out) else {
+        return Some(Compared::NotTried);
+    };
+    let written = answer.unwrap_or(0);
+    let stayed = out.get(written..)? == before.get(written..)?;
+    let answered = answer.map(|length| Json::Text(printed_hex(&out[..length])));
+    let same = same_json(case, "write", answered)? && stayed;
+    Some(same.into())
+}
+
+fn json_plan(implementation: &dyn Implementation, case: &Json) -> Option<Compared> {
+    let on = json_mesh_and_table(case)?;
+    let start = json_sharding_record(case.get("start")?)?;
+    let goal = json_sharding_record(case.get("goal")?)?;
+    let Some(answer) = implementation.plan(&on, &start, &goal) else {
+        return Some(Compared::NotTried);
+    };
+    let same = match case.get("plan")?.get("no") {
+        Some(refusal) => {
+            let [number, step] = refusal.numbers::<u16>()?[..] else {
+                return None;
+            };
+            let number = u8::try_from(number).ok()?;
+            answer == Err(Refusal { number, step })
+        }
+        None => answer == Ok(case.get("plan")?.list(json_step)?),
+    };
+    Some(same.into())
+}
+
+fn json_mesh_and_table(case: &Json) -> Option<MeshAndTable> {
+    Some(MeshAndTable {
+        mesh: case.get("mesh")?.numbers()?,
+        order: case.get("order")?.list(|id| id.number().map(Device))?,
+        table: case.get("table")?.numbers()?,
+    })
+}
+
+fn json_axes(list: &Json) -> Option<Vec<Axis>> {
+    list.list(|axis| axis.number().map(Axis))
+}
+
+fn json_sharding_record(sharding: &Json) -> Option<ShardingRecord> {
+    Some(ShardingRecord {
+        dims: sharding.get("dims")?.list(json_axes)?,
+        unreduced: json_axes(sharding.get("unreduced")?)?,
+        replicated: json_axes(sharding.get("replicated")?)?,
+    })
+}
+
+/// A step record: its kind, then what its kind has.
+fn json_step(step: &Json) -> Option<StepRecord> {
+    let parts = step.list(|part| Some(part.clone()))?;
+    let kind: u8 = parts.first()?.number()?;
+    let dim = |part: &Json| part.number().map(Dim);
+    match (kind, &parts[1..]) {
+        (1, [lists]) => Some(StepRecord::Slice(lists.list(json_axes)?)),
+        (2, [lists]) => Some(StepRecord::Gather(lists.list(json_axes)?)),
+        (3, [axes]) => Some(StepRecord::Reduce(json_axes(axes)?)),
+        (4, [source, target, axes]) => {
+            let (source, target) = (dim(source)?, dim(target)?);
+            Some(StepRecord::AllToAll(source, target, json_axes(axes)?))
+        }
+        (9, [count, steps]) => {
+            let (count, steps) = (count.number()?, steps.number()?);
+            Some(StepRecord::Repeat { count, steps })
+        }
+        (1..=4 | 9, _) => None,
+        _ => Some(StepRecord::Unknown(kind)),
+    }
 }
 
 fn same_json(case: &Json, call: &str, answer: Result<Json, Refusal>) -> Option<bool> {
@@ -325,6 +459,10 @@ fn json_sharding(sharding: &Sharding) -> Json {
 
 fn printed<T>(answer: Result<T, Refusal>, accepted: impl FnOnce(T) -> String) -> String {
     answer.map_or_else(|refusal| refusal.to_string(), accepted)
+}
+
+fn printed_hex(bytes: &[u8]) -> String {
+    bytes.iter().map(|byte| format!("{byte:02x}")).collect()
 }
 
 fn joined(numbers: &[u16]) -> String {

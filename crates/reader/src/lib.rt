@@ -645,7 +645,7 @@ impl StepRead {
 }
 
 // "1 all-slice, 2 all-gather .., 3 all-reduce .., 4 all-to-all"
-fn kind_of(byte: u8) -> Kind
+pub fn kind_of(byte: u8) -> Kind
     ensures { λ r. ⌜ r ≡ kindOf byte ⌝ }
 {
     if byte == 1 {

@@ -4,3 +4,4 @@ pub mod Writing
 pub mod Forms
 pub mod RoundTrip
 pub mod Planning
+pub mod WorkedRecords

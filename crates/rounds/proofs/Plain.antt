@@ -1,5 +1,5 @@
--- A plain step: what it asks of the two buffers (`plain-asks`), that its number fits (`plain-numbered`), that it is not refused (`plain-read`), and that
--- the shards after it stand where the answer says (`plain-ran`). Assumes nothing.
+-- A plain step: what it asks of the two buffers (`plain-asks`), that its number fits (`plain-numbered`), that it is not refused (`plain-read`), and
+-- what it leaves (`plain-ran`). Assumes nothing.
 use Prim.Native.Nat.{ℕ, _+_, _≤_, _<_, max}
 use mathlib.Core.Path.{_≡_, refl, sym, ap, _∙_, subst}
 use mathlib.Core.Bool.{Bool}
@@ -9,7 +9,7 @@ use lib.ListN.{length}
 use Rattle.rules.specs.Lists.{pick, product}
 use Rattle.rules.specs.Sharding.{Sharding, shardSizes}
 use Rattle.rules.specs.Spread.{addWords}
-use Rattle.rules.specs.Collectives.{Step, after, stepped, Stands}
+use Rattle.rules.specs.Collectives.{Step, after, stepped}
 use Rattle.rules.specs.Limits.{mostBytes}
 use Rattle.rules.specs.Refusals.{accept}
 use Rattle.rules.specs.PlanFile.{Read, stepAt, judgeStep, plain, StepsRead, plainAt}
@@ -20,30 +20,29 @@ use Rattle.rules.specs.declared.Refusal.{Refusal}
 use Rattle.rules.specs.declared.Table.{Table}
 use Rattle.rules.proofs.Judging.{never, accept-inj, bind-inv}
 use Rattle.rules.proofs.Steps.{facts}
-use Rattle.rules.proofs.Stands.{with-stands}
 use Rattle.rules.proofs.Bytes.{Takes, plain-takes}
 use Rattle.reader.specs.declared.Next.the-variants as next
 use Rattle.reader.proofs.Answers.{read-on, read-stopped}
 use Rattle.taking.specs.Taking.{StepTaken, takeStep}
 use Rattle.taking.specs.declared.Taken.{Taken}
 use Rattle.taking.proofs.Takes.{step-taken}
-use Rattle.step.specs.Stepping.{inPlace}
 use Rattle.step.proofs.Shards.{stepping}
-use Rattle.rounds.specs.Rounds.{Turning, Turned, standsAfter, shardingAt, CanRun, Ran, HasRun}
+use Rattle.rounds.specs.Rounds.{shapeOf, Turning, Turned, standsAfter, Leaves, shardingOn, CanRun, HasTaken, HasRun}
 use Rattle.rounds.specs.declared.Progress.{Progress}
-use Rattle.rounds.proofs.Steps.{less-room, pick-long, next-in, within}
+use Rattle.rounds.proofs.Memory.{step-leaves}
+use Rattle.rounds.proofs.Steps.{less-room, pick-long, within}
 
 pub plain-numbered : {file : List ℕ} {mesh : Mesh} {table : Table} {p : Progress} {work spare : ℕ}
     → CanRun (plainAt (meshOf mesh) (sizesOf table) file) file mesh table p work spare → p .number < mostBytes
 plain-numbered {file} {mesh} {table} {p} g =
     let t : Takes (meshOf mesh) (sizesOf table) file (p .at) (g .read) =
-    plain-takes (meshOf mesh) (sizesOf table) file (p .number) (p .at) (shardingAt table p) (g .read) (g .accepted) in
+    plain-takes (meshOf mesh) (sizesOf table) file (p .number) (p .at) (shardingOn table p) (g .read) (g .accepted) in
     omega (arith, t .bytes, t .some, t .inside, g .number-few, g .short)
 
 module _ {file : List ℕ} {mesh : Mesh} {table : Table} {p : Progress} (work spare : List ℕ)
     (g : CanRun (plainAt (meshOf mesh) (sizesOf table) file) file mesh table p (length work) (length spare)) where
   abbrev s : Sharding
-  s = shardingAt table p
+  s = shardingOn table p
 
   abbrev words : Sharding → ℕ
   words r = product (shardSizes (meshOf mesh) (sizesOf table) (r .dims))
@@ -104,12 +103,12 @@ module _ {file : List ℕ} {mesh : Mesh} {table : Table} {p : Progress} (work sp
         let is : takenAs (was .step) (was .end) ≡ record { value = record { step = stepOf (table .rank) (r .step); sharding = shardingOf (table .rank) (r .sharding) }; next = end } =
         accept-inj (sym (was .taken) ∙ read-on _ (t .taken) n) in
         let same : readAs (was .step) (was .end) ≡ w = was .read-is ∙ accept-inj (sym (g .accepted) ∙ e) in
-        subst (λ (w : StepsRead). Ran w mesh table p work spare work′ spare′ (record { at = end; number = p .number + 1; «in_work» = b; sharding = r .sharding })) same (record {
+        subst (λ (w : StepsRead). HasTaken w mesh table p work spare work′ spare′ (record { at = end; number = p .number + 1; «in_work» = b; sharding = r .sharding })) same (record {
           at-is = sym (ap (λ (x : Read StepTaken). x .next) is);
           number-is = refl;
           sharding-is = sym (ap (λ (x : Read StepTaken). x .value .sharding) is);
-          stands = λ v f st.
-              let stood = ap (λ (c : Bool). pick c work′ spare′) q ∙ next-in (inPlace (r .step .kind)) (p .«in_work») work′ spare′ ∙ t .leaves v f st in
-              subst (λ (x : Step). Stands (meshOf mesh) (stepped addWords (meshOf mesh) x v) (pick b work′ spare′)) (sym (ap (λ (x : Read StepTaken). x .value .step) is))
-              (subst (Stands (meshOf mesh) _) (sym stood) (with-stands (meshOf mesh) _ _));
+          leaves = subst (λ (x : Step). Leaves (meshOf mesh) (shapeOf mesh table (p .sharding)) (x ∷ []) (p .«in_work») work spare b work′ spare′)
+              (sym (ap (λ (x : Read StepTaken). x .value .step) is)) (λ v f st.
+              ap (λ (c : Bool). record { shards = stepped addWords (meshOf mesh) (stepOf (table .rank) (r .step)) v; in-work = c; work = work′; spare = spare′ }) q
+              ∙ step-leaves (meshOf mesh) (table .rank) (r .step) (p .«in_work») v work spare work′ spare′ (t .leaves v f st) (t .keeps));
         })

@@ -8,24 +8,23 @@ use mathlib.Core.List.{List, _++_, append-assoc, append-nil}
 use native.Mathlib.Omega.{arith}
 use native.Mathlib.Numerals.{add-one}
 use lib.ListN.{length, getD, replicate}
-use Rattle.rules.specs.Lists.{pick, inTurn, flat, product}
+use Rattle.rules.specs.Lists.{inTurn, flat, product}
 use Rattle.rules.specs.Mesh.{devices}
 use Rattle.rules.specs.Sharding.{Sharding, shardSizes}
 use Rattle.rules.specs.Spread.{addWords}
-use Rattle.rules.specs.Collectives.{Step, after, Shards, stepped, Stands}
+use Rattle.rules.specs.Collectives.{Step, after, Shards, stepped}
 use Rattle.rules.specs.Refusals.{accept}
 use Rattle.rules.specs.PlanFile.{StepsRead, JudgesSteps, stepsAt, plainAt, isRepeat, itemBy, tooDeep, itemAt}
 use Rattle.rules.specs.Demands.{largestOn}
 use Rattle.rules.specs.Types.{meshOf, sizesOf}
 use Rattle.rules.specs.declared.Mesh.{Mesh}
 use Rattle.rules.specs.declared.Table.{Table}
-use Rattle.rules.proofs.Lists.{in-turn-append}
 use Rattle.rules.proofs.Judging.{never, accept-inj}
-use Rattle.rules.proofs.Turns.{in-turn-times, fine-times, largest-times}
+use Rattle.rules.proofs.Turns.{in-turn-times, fine-times, steps-shape, largest-times}
 use Rattle.rules.proofs.Repeats.{Told, steps-tell, item-tells, positive-inv, IsRepeat, repeat-inv}
-use Rattle.rounds.specs.Rounds.{shapeOf, blockAt, shardingAt, judgedFrom, CanRun, Ran, HasRun}
+use Rattle.rounds.specs.Rounds.{shapeOf, Leaves, blockAt, shardingOn, judgedFrom, CanRun, HasTaken, HasRun}
 use Rattle.rounds.specs.declared.Progress.{Progress}
-use Rattle.rounds.proofs.Steps.{steps-shape}
+use Rattle.rounds.proofs.Memory.{leaves-append}
 
 -- one round more
 rounds-more : {A : Type 0} (n : ℕ) (l : List A) → flat (replicate (n + 1) l) ≡ flat (replicate n l) ++ l
@@ -61,7 +60,7 @@ module _ (mesh sizes file : List ℕ) (depth k at : ℕ) (s : Sharding) {w : Ste
 
 module _ (mesh : Mesh) (table : Table) (file : List ℕ) (depth : ℕ) (from : Progress) where
   abbrev s : Sharding
-  s = shardingAt table from
+  s = shardingOn table from
 
   abbrev inner : JudgesSteps
   inner = stepsAt (itemAt true (meshOf mesh) (sizesOf table) file depth)
@@ -129,9 +128,9 @@ module _ (mesh : Mesh) (table : Table) (file : List ℕ) (depth : ℕ) (from : P
     pub is-repeat : Repeat rounds number (can .read)
     pub few : i ≤ rounds
     pub last : 0 < i → (here .at ≡ is-repeat .block .next) × (here .number ≡ from .number + 1 + length (is-repeat .block .records))
-        × (shardingAt table here ≡ is-repeat .block .sharding)
-    pub stands : (v : Shards ℕ) → Shaped v → Stands (meshOf mesh) v (pick (from .«in_work») work₀ spare₀)
-        → Stands (meshOf mesh) (run (flat (replicate i (is-repeat .block .steps))) v) (pick (here .«in_work») work spare)
+        × (shardingOn table here ≡ is-repeat .block .sharding)
+    pub leaves : Leaves (meshOf mesh) (shapeOf mesh table (from .sharding)) (flat (replicate i (is-repeat .block .steps)))
+        (from .«in_work») work₀ spare₀ (here .«in_work») work spare
     pub work-long : length work ≡ length work₀
     pub spare-long : length spare ≡ length spare₀
 
@@ -143,7 +142,7 @@ module _ (mesh : Mesh) (table : Table) (file : List ℕ) (depth : ℕ) (from : P
     is-repeat = repeated g r n;
     few = omega arith;
     last = λ h. absurd (omega arith);
-    stands = λ v h st. st;
+    leaves = λ v h st. refl;
     work-long = refl;
     spare-long = refl;
   }
@@ -171,23 +170,22 @@ module _ (mesh : Mesh) (table : Table) (file : List ℕ) (depth : ℕ) (from : P
     -- shards have the same shape again
     same-shape : (v : Shards ℕ) → Shaped v → Shaped (run (flat (replicate i (block .steps))) v)
     same-shape v h =
-        steps-shape (meshOf mesh) (sizesOf table) (g .can .ready .fits .sized .least) (flat (replicate i (block .steps))) s v (g .can .ready .sound)
+        steps-shape (meshOf mesh) (sizesOf table) (g .can .ready .fits .sized .least) addWords (flat (replicate i (block .steps))) s v (g .can .ready .sound)
         (fine-times (meshOf mesh) (sizesOf table) i (block .steps) s (g .is-repeat .back) (g .is-repeat .told .fine)) h
         ∙ ap (λ (x : Sharding). shardSizes (meshOf mesh) (sizesOf table) (x .dims)) (in-turn-times after i (block .steps) s (g .is-repeat .back))
 
     pub rounds-step : i < rounds → {end : Progress} (work′ spare′ : List ℕ) → HasRun (inner number) mesh table (first (here .«in_work»)) work spare work′ spare′ end
         → length work′ ≡ length work → length spare′ ≡ length spare → RoundsRun rounds number work₀ spare₀ (i + 1) end work′ spare′
     rounds-step h {end} work′ spare′ f lw ls =
-        let ran : Ran block mesh table (first (here .«in_work»)) work spare work′ spare′ end = f block (g .is-repeat .block-is (here .«in_work»)) in
+        let ran : HasTaken block mesh table (first (here .«in_work»)) work spare work′ spare′ end = f block (g .is-repeat .block-is (here .«in_work»)) in
         let l : List Step = block .steps in
         record {
           can = g .can;
           is-repeat = g .is-repeat;
           few = omega arith;
           last = λ _. (ran .at-is, ran .number-is, ran .sharding-is);
-          stands = λ v e st. subst (λ (x : Shards ℕ). Stands (meshOf mesh) x (pick (end .«in_work») work′ spare′))
-              (sym (ap (λ (m : List Step). run m v) (rounds-more i l) ∙ in-turn-append (stepped addWords (meshOf mesh)) (flat (replicate i l)) l v))
-              (ran .stands (run (flat (replicate i l)) v) (same-shape v e) (g .stands v e st));
+          leaves = subst (λ (m : List Step). Leaves (meshOf mesh) (shapeOf mesh table (from .sharding)) m (from .«in_work») work₀ spare₀ (end .«in_work») work′ spare′)
+              (sym (rounds-more i l)) (leaves-append (meshOf mesh) (flat (replicate i l)) (from .«in_work») work₀ spare₀ (g .leaves) l same-shape (ran .leaves));
           work-long = lw ∙ g .work-long;
           spare-long = ls ∙ g .spare-long;
         }
@@ -197,10 +195,10 @@ module _ (mesh : Mesh) (table : Table) (file : List ℕ) (depth : ℕ) (from : P
         let r : Repeat rounds number (g .can .read) = g .is-repeat in
         let n : i ≡ rounds = omega (arith, g .few) in
         let l = g .last (omega (arith, r .some)) in
-        subst (λ (w : StepsRead). Ran w mesh table from work₀ spare₀ work spare here) (accept-inj (sym (g .can .accepted) ∙ a)) (record {
+        subst (λ (w : StepsRead). HasTaken w mesh table from work₀ spare₀ work spare here) (accept-inj (sym (g .can .accepted) ∙ a)) (record {
           at-is = l .0 ∙ sym (r .next-is);
           number-is = l .1 ∙ omega (arith, r .records-are);
           sharding-is = l .2 ∙ sym (r .sharding-is);
-          stands = λ v e st. subst (λ (m : List Step). Stands (meshOf mesh) (run m v) (pick (here .«in_work») work spare))
-              (ap (λ (x : ℕ). flat (replicate x (block .steps))) n ∙ sym (r .steps-are)) (g .stands v e st);
+          leaves = subst (λ (m : List Step). Leaves (meshOf mesh) (shapeOf mesh table (from .sharding)) m (from .«in_work») work₀ spare₀ (here .«in_work») work spare)
+              (ap (λ (x : ℕ). flat (replicate x (block .steps))) n ∙ sym (r .steps-are)) (g .leaves);
         })

@@ -6,10 +6,10 @@ use mathlib.Core.Bool.{true}
 use mathlib.Core.List.{List, [], _++_, append-assoc, append-nil}
 use native.Mathlib.Omega.{arith}
 use lib.ListN.{length, length-append}
-use Rattle.rules.specs.Lists.{pick, inTurn, product}
+use Rattle.rules.specs.Lists.{inTurn, product}
 use Rattle.rules.specs.Sharding.{Sharding, shardSizes, IsSharding}
 use Rattle.rules.specs.Spread.{addWords}
-use Rattle.rules.specs.Collectives.{Step, Shards, stepped, Stands}
+use Rattle.rules.specs.Collectives.{Step, Shards, stepped}
 use Rattle.rules.specs.Refusals.{accept}
 use Rattle.rules.specs.PlanFile.{StepsRead, JudgesStep, stepsAt, itemAt}
 use Rattle.rules.specs.Demands.{largestOn}
@@ -18,12 +18,13 @@ use Rattle.rules.specs.declared.Mesh.{Mesh}
 use Rattle.rules.specs.declared.Table.{Table}
 use Rattle.rules.proofs.Lists.{in-turn-append}
 use Rattle.rules.proofs.Judging.{accept-inj, bind-inv}
-use Rattle.rules.proofs.Turns.{largest-append}
+use Rattle.rules.proofs.Turns.{steps-sharding, steps-shape, largest-append}
 use Rattle.rules.proofs.Repeats.{Told, item-tells}
 use Rattle.rules.proofs.Bytes.{Takes, item-takes}
-use Rattle.rounds.specs.Rounds.{shapeOf, shardingAt, judgedFrom, CanRun, Ran, HasRun}
+use Rattle.rounds.specs.Rounds.{shapeOf, shardingOn, judgedFrom, CanRun, HasTaken, HasRun}
 use Rattle.rounds.specs.declared.Progress.{Progress}
-use Rattle.rounds.proofs.Steps.{steps-sharding, steps-shape, less-room}
+use Rattle.rounds.proofs.Memory.{leaves-append}
+use Rattle.rounds.proofs.Steps.{less-room}
 
 -- two one after the other
 abbrev joined : StepsRead → StepsRead → StepsRead
@@ -78,7 +79,7 @@ module _ (mesh : Mesh) (table : Table) (file : List ℕ) (depth : ℕ) where
   pub record RowRun (count : ℕ) (from : Progress) (work₀ spare₀ : List ℕ) (i : ℕ) (here : Progress) (work spare : List ℕ) : Type 0 where
     pub few : i ≤ count
     pub done : StepsRead
-    pub ran : Ran done mesh table from work₀ spare₀ work spare here
+    pub ran : HasTaken done mesh table from work₀ spare₀ work spare here
     pub shaped : (v : Shards ℕ) → Shaped from v → Shaped here (run (done .steps) v)
     pub rest : CanRun (stepsAt item (count - i)) file mesh table here (length work) (length spare)
     pub whole : judgedFrom (stepsAt item count) table from ≡ accept (joined done (rest .read))
@@ -91,8 +92,8 @@ module _ (mesh : Mesh) (table : Table) (file : List ℕ) (depth : ℕ) where
       let q : count - 0 ≡ count = omega arith in
       record {
         few = omega arith;
-        done = none (from .at) (shardingAt table from);
-        ran = record { at-is = refl; number-is = omega arith; sharding-is = refl; stands = λ v h st. st };
+        done = none (from .at) (shardingOn table from);
+        ran = record { at-is = refl; number-is = omega arith; sharding-is = refl; leaves = λ v h st. refl };
         shaped = λ v h. h;
         rest = record {
           ready = g .ready;
@@ -112,7 +113,7 @@ module _ (mesh : Mesh) (table : Table) (file : List ℕ) (depth : ℕ) where
   module _ {count : ℕ} {from : Progress} {work₀ spare₀ : List ℕ} {i : ℕ} {here : Progress} {work spare : List ℕ}
       (g : RowRun count from work₀ spare₀ i here work spare) where
     abbrev s : Sharding
-    s = shardingAt table here
+    s = shardingOn table here
 
     pub row-done : count ≤ i → HasRun (stepsAt item count) mesh table from work₀ spare₀ work spare here
     row-done h w a =
@@ -120,7 +121,7 @@ module _ (mesh : Mesh) (table : Table) (file : List ℕ) (depth : ℕ) where
         let e : g .rest .read ≡ none (here .at) s = no-steps item (count - i) (here .number) (here .at) s (g .rest .read) (omega arith) (g .rest .accepted) in
         let all : joined d (g .rest .read) ≡ d =
         ap (joined d) e ∙ (λ j. record { records = append-nil (d .records) j; steps = append-nil (d .steps) j; sharding = g .ran .sharding-is j; next = g .ran .at-is j }) in
-        subst (λ (w : StepsRead). Ran w mesh table from work₀ spare₀ work spare here) (sym all ∙ accept-inj (sym (g .whole) ∙ a)) (g .ran)
+        subst (λ (w : StepsRead). HasTaken w mesh table from work₀ spare₀ work spare here) (sym all ∙ accept-inj (sym (g .whole) ∙ a)) (g .ran)
 
     module _ (h : i < count) where
       apart : Split item (count - i) (here .number) (here .at) s (g .rest .read)
@@ -149,7 +150,7 @@ module _ (mesh : Mesh) (table : Table) (file : List ℕ) (depth : ℕ) where
           }
 
       module _ {end : Progress} (work′ spare′ : List ℕ) (f : HasRun item mesh table here work spare work′ spare′ end) where
-        ran : Ran (apart .first) mesh table here work spare work′ spare′ end
+        ran : HasTaken (apart .first) mesh table here work spare work′ spare′ end
         ran = f (apart .first) (apart .first-is)
 
         -- the others can run from there
@@ -157,8 +158,8 @@ module _ (mesh : Mesh) (table : Table) (file : List ℕ) (depth : ℕ) where
             → CanRun (stepsAt item c) file mesh table end (length work′) (length spare′)
         others lw ls c n =
             let u : StepsRead = apart .others in
-            let q : shardingAt table end ≡ apart .first .sharding = ran .sharding-is in
-            let l : largestOn words (shardingAt table end) (u .steps) ≤ largestOn words s (g .rest .read .steps) =
+            let q : shardingOn table end ≡ apart .first .sharding = ran .sharding-is in
+            let l : largestOn words (shardingOn table end) (u .steps) ≤ largestOn words s (g .rest .read .steps) =
             subst (λ (x : Sharding). largestOn words x (u .steps) ≤ largestOn words s (g .rest .read .steps)) (sym q) (omega (arith, largest)) in
             let tk : Takes (meshOf mesh) (sizesOf table) file (here .at) (apart .first) =
             item-takes (meshOf mesh) (sizesOf table) file true depth (here .number) (here .at) s (apart .first) (apart .first-is) in
@@ -166,7 +167,7 @@ module _ (mesh : Mesh) (table : Table) (file : List ℕ) (depth : ℕ) where
               ready = record {
                 fits = g .rest .ready .fits;
                 sound = subst (IsSharding (meshOf mesh) (sizesOf table)) (told .ends ∙ sym q)
-                    (steps-sharding (meshOf mesh) (sizesOf table) (g .rest .ready .fits .sized .least) (apart .first .steps) s (g .rest .ready .sound) (told .fine));
+                    (steps-sharding (meshOf mesh) (sizesOf table) (g .rest .ready .fits .sized .least) s (apart .first .steps) (g .rest .ready .sound) (told .fine));
               };
               limits = g .rest .limits;
               number-few = omega (arith, ran .number-is, ran .at-is, g .rest .number-few, tk .bytes);
@@ -192,11 +193,10 @@ module _ (mesh : Mesh) (table : Table) (file : List ℕ) (depth : ℕ) where
                 at-is = ran .at-is;
                 number-is = omega (arith, ran .number-is, g .ran .number-is, length-append (d .records) (t .records));
                 sharding-is = ran .sharding-is;
-                stands = λ v e st. subst (λ (x : Shards ℕ). Stands (meshOf mesh) x (pick (end .«in_work») work′ spare′)) (sym (append v))
-                    (ran .stands (run (d .steps) v) (g .shaped v e) (g .ran .stands v e st));
+                leaves = leaves-append (meshOf mesh) (d .steps) (from .«in_work») work₀ spare₀ (g .ran .leaves) (t .steps) (g .shaped) (ran .leaves);
               };
               shaped = λ v e. ap (λ (x : Shards ℕ). x .shape) (append v)
-                  ∙ steps-shape (meshOf mesh) (sizesOf table) (g .rest .ready .fits .sized .least) (t .steps) s (run (d .steps) v) (g .rest .ready .sound) (told .fine) (g .shaped v e)
+                  ∙ steps-shape (meshOf mesh) (sizesOf table) (g .rest .ready .fits .sized .least) addWords (t .steps) s (run (d .steps) v) (g .rest .ready .sound) (told .fine) (g .shaped v e)
                   ∙ ap (λ (x : Sharding). shardSizes (meshOf mesh) (sizesOf table) (x .dims)) (told .ends ∙ sym (ran .sharding-is));
               rest = others lw ls (count - (i + 1)) (omega arith);
               whole = g .whole ∙ ap (λ (w : StepsRead). accept (joined d w)) (sym (apart .whole))

@@ -1,15 +1,15 @@
 -- What the parts (src/lib.rt) ask for and leave, of no plan: one step by itself; and whatever was accepted from a sharding on, a plain step, a repeat,
--- or so many steps in turn. Assumes nothing.
+-- or so many steps in turn, with both buffers whole. Assumes nothing.
 use Prim.Native.Nat.{ℕ, _+_, _*_, _≤_, _<_}
 use mathlib.Core.Path.{_≡_}
-use mathlib.Core.Bool.{Bool, true, not}
+use mathlib.Core.Bool.{Bool, true, false, not}
 use mathlib.Core.List.{List}
 use lib.ListN.{length, take}
 use Rattle.rules.specs.Lists.{pick, inTurn, product}
 use Rattle.rules.specs.Mesh.{devices, OnMesh}
 use Rattle.rules.specs.Sharding.{Sharding, shardSizes}
 use Rattle.rules.specs.Spread.{addWords}
-use Rattle.rules.specs.Collectives.{Step, Shards, stepped, Stands, withShards}
+use Rattle.rules.specs.Collectives.{Step, allSlice, allGather, allReduce, allToAll, Shards, stepped, Stands, withShards}
 use Rattle.rules.specs.Limits.{mostDims, mostWords, mostBytes}
 use Rattle.rules.specs.Refusals.{Judged, accept}
 use Rattle.rules.specs.PlanFile.{Read, StepsRead, JudgesStep, stepsAt, repeatAt, itemAt}
@@ -53,6 +53,43 @@ pub record Turned (file : List ℕ) (at k : ℕ) (mesh : Mesh) (table : Table) (
 abbrev pub standsAfter : Kind → Bool → Bool
 standsAfter kind in-work = pick (inPlace kind) in-work (not in-work)
 
+-- ---- the memory of a run
+
+-- shards, whether they stand at the front of work, else at that of spare, and both buffers whole
+pub record Memory : Type 0 where
+  pub shards : Shards ℕ
+  pub in-work : Bool
+  pub work : List ℕ
+  pub spare : List ℕ
+
+-- shards put at the front of one of the buffers: its other words stay, and so does the other buffer
+abbrev pub putIn : (mesh : List ℕ) → Shards ℕ → Bool → Memory → Memory
+putIn mesh v in-work m = record {
+  shards = v;
+  in-work = in-work;
+  work = pick in-work (withShards mesh v (m .work)) (m .work);
+  spare = pick in-work (m .spare) (withShards mesh v (m .spare));
+}
+
+-- whether the state stays in its buffer, of a step of the rules
+abbrev pub staysIn : Step → Bool
+staysIn (allSlice Ss) = false
+staysIn (allGather Gs) = false
+staysIn (allReduce L) = true
+staysIn (allToAll source target L) = false
+
+-- one step on it
+unfoldable pub memoryAfter : (mesh : List ℕ) → Step → Memory → Memory
+memoryAfter mesh t m = putIn mesh (stepped addWords mesh t (m .shards)) (pick (staysIn t) (m .in-work) (not (m .in-work))) m
+
+-- What steps leave of two buffers, of any shards of a shape that stood in the one that is named; the words that it holds are such shards (`held-stands`,
+-- rules/proofs/Stands). So every word of both buffers is fixed, and in which of them the shards after the steps stand.
+abbrev pub Leaves : (mesh shape : List ℕ) → List Step → (in-work : Bool) → (work spare : List ℕ) → (in-work′ : Bool) → (work′ spare′ : List ℕ) → Type 0
+Leaves mesh shape ts in-work work spare in-work′ work′ spare′ =
+    (v : Shards ℕ) → v .shape ≡ shape → Stands mesh v (pick in-work work spare)
+    → record { shards = inTurn (stepped addWords mesh) ts v; in-work = in-work′; work = work′; spare = spare′ }
+    ≡ inTurn (memoryAfter mesh) ts (record { shards = v; in-work = in-work; work = work; spare = spare })
+
 -- ---- whatever was accepted
 
 -- a repeat at its kind byte, its inner steps nested at most so deep
@@ -68,11 +105,11 @@ pub record WithinLimits (mesh sizes : List ℕ) : Type 0 where
   pub words-few : product sizes ≤ mostWords
 
 -- the sharding where a run is, and what is judged from there on
-abbrev pub shardingAt : Table → Progress → Sharding
-shardingAt table p = shardingOf (table .rank) (p .sharding)
+abbrev pub shardingOn : Table → Progress → Sharding
+shardingOn table p = shardingOf (table .rank) (p .sharding)
 
 abbrev pub judgedFrom : JudgesStep → Table → Progress → Judged StepsRead
-judgedFrom judges table p = judges (p .number) (p .at) (shardingAt table p)
+judgedFrom judges table p = judges (p .number) (p .at) (shardingOn table p)
 
 -- the words that steps need, from a sharding on: D times the largest m on their way
 abbrev pub roomFor : (mesh sizes : List ℕ) → Sharding → List Step → ℕ
@@ -87,18 +124,16 @@ pub record CanRun (judges : JudgesStep) (file : List ℕ) (mesh : Mesh) (table :
   pub short : length file ≤ mostBytes
   pub read : StepsRead
   pub accepted : judgedFrom judges table from ≡ accept read
-  pub work-room : roomFor (meshOf mesh) (sizesOf table) (shardingAt table from) (read .steps) ≤ work
-  pub spare-room : roomFor (meshOf mesh) (sizesOf table) (shardingAt table from) (read .steps) ≤ spare
+  pub work-room : roomFor (meshOf mesh) (sizesOf table) (shardingOn table from) (read .steps) ≤ work
+  pub spare-room : roomFor (meshOf mesh) (sizesOf table) (shardingOn table from) (read .steps) ≤ spare
 
--- where the run is after the steps w, and that of any shards of the sharding's shape that stood in the one buffer, those after all these steps in
--- running order stand in the other, or the same, one
-pub record Ran (w : StepsRead) (mesh : Mesh) (table : Table) (from : Progress) (work spare work′ spare′ : List ℕ) (end : Progress) : Type 0 where
+-- where the run is after the steps w, and what they leave, in running order, of both buffers
+pub record HasTaken (w : StepsRead) (mesh : Mesh) (table : Table) (from : Progress) (work spare work′ spare′ : List ℕ) (end : Progress) : Type 0 where
   pub at-is : end .at ≡ w .next
   pub number-is : end .number ≡ from .number + length (w .records)
-  pub sharding-is : shardingAt table end ≡ w .sharding
-  pub stands : (v : Shards ℕ) → v .shape ≡ shapeOf mesh table (from .sharding) → Stands (meshOf mesh) v (pick (from .«in_work») work spare)
-      → Stands (meshOf mesh) (inTurn (stepped addWords (meshOf mesh)) (w .steps) v) (pick (end .«in_work») work′ spare′)
+  pub sharding-is : shardingOn table end ≡ w .sharding
+  pub leaves : Leaves (meshOf mesh) (shapeOf mesh table (from .sharding)) (w .steps) (from .«in_work») work spare (end .«in_work») work′ spare′
 
 abbrev pub HasRun : JudgesStep → Mesh → Table → (from : Progress) → (work spare work′ spare′ : List ℕ) → (end : Progress) → Type 0
 HasRun judges mesh table from work spare work′ spare′ end =
-    (w : StepsRead) → judgedFrom judges table from ≡ accept w → Ran w mesh table from work spare work′ spare′ end
+    (w : StepsRead) → judgedFrom judges table from ≡ accept w → HasTaken w mesh table from work spare work′ spare′ end

@@ -1,0 +1,461 @@
+//! The writer and the planner of document 02, Asks 2 and 10: the bytes, the order of the refusals,
+//! what is left of the buffer, and the steps from one sharding to another.
+
+use bench::answers::{Axis, Dim, Refusal, Sharding, MOST_BYTES};
+use bench::plans::{accepted, axes, devices, lists, random_scale, Draft, Scale, Step};
+use bench::random::Random;
+use bench::records::{MeshAndTable, Records, ShardingRecord, StepRecord};
+use bench::{blocks, hex, implementations, Implementation};
+use std::collections::BTreeMap;
+
+fn refusal<T>(number: u8, step: u16) -> Result<T, Refusal> {
+    Err(Refusal { number, step })
+}
+
+/// What each implementation that has the call answers; at least one has it.
+fn answers<T>(call: impl Fn(&dyn Implementation) -> Option<T>) -> Vec<T> {
+    let answers: Vec<T> = implementations().into_iter().filter_map(call).collect();
+    assert!(!answers.is_empty());
+    answers
+}
+
+/// What a write into so many bytes answers and leaves. The bytes are no part of any file.
+fn write(records: &Records, room: usize) -> Vec<(Result<usize, Refusal>, Vec<u8>)> {
+    answers(|one| {
+        let mut out = vec![0xa5; room];
+        let answer = one.write(records, &mut out)?;
+        Some((answer, out))
+    })
+}
+
+/// Into exactly enough bytes, into more and into one too few.
+fn assert_written(records: &Records, file: &[u8]) {
+    for more in [0, 3] {
+        for (answer, out) in write(records, file.len() + more) {
+            assert_eq!(answer, Ok(file.len()), "{records:?}");
+            assert_eq!(out[..file.len()], *file, "{records:?}");
+            assert_eq!(out[file.len()..], vec![0xa5; more]);
+        }
+    }
+    for (answer, out) in write(records, file.len() - 1) {
+        assert_eq!(answer, refusal(35, 0));
+        assert_eq!(out, vec![0xa5; file.len() - 1]);
+    }
+}
+
+/// Whether there is room or none, and nothing is written.
+fn assert_refused(records: &Records, number: u8, step: u16) {
+    for room in [0, 2 * MOST_BYTES] {
+        for (answer, out) in write(records, room) {
+            assert_eq!(answer, refusal(number, step), "{records:?}");
+            assert_eq!(out, vec![0xa5; room]);
+        }
+    }
+}
+
+fn sharding(dims: &[&[u8]], unreduced: &[u8], replicated: &[u8]) -> ShardingRecord {
+    ShardingRecord {
+        dims: lists(dims),
+        unreduced: axes(unreduced),
+        replicated: axes(replicated),
+    }
+}
+
+fn on(mesh: &[u16], order: &[u16], table: &[u16]) -> MeshAndTable {
+    MeshAndTable {
+        mesh: mesh.to_vec(),
+        order: devices(order),
+        table: table.to_vec(),
+    }
+}
+
+fn records(on: MeshAndTable, start: ShardingRecord, steps: Vec<StepRecord>) -> Records {
+    Records { on, start, steps }
+}
+
+/// A mesh of 2x2 and a table of 4x3 with these steps, nothing named at the start.
+fn small(steps: Vec<StepRecord>) -> Records {
+    let start = sharding(&[&[], &[]], &[], &[]);
+    records(on(&[2, 2], &[], &[4, 3]), start, steps)
+}
+
+fn slice() -> StepRecord {
+    StepRecord::Slice(lists(&[&[0], &[]]))
+}
+
+fn gather() -> StepRecord {
+    StepRecord::Gather(lists(&[&[0], &[]]))
+}
+
+fn repeat(count: u8, steps: u8) -> StepRecord {
+    StepRecord::Repeat { count, steps }
+}
+
+/// A slice and the gather back, so many times.
+fn pairs(times: usize) -> Vec<StepRecord> {
+    vec![[slice(), gather()]; times].concat()
+}
+
+fn bytes(text: &str) -> Vec<u8> {
+    hex::parse(text).expect("hex")
+}
+
+#[test]
+fn w1_is_written() {
+    let start = sharding(&[&[0], &[1]], &[], &[]);
+    let gather = StepRecord::Gather(lists(&[&[], &[1]]));
+    let w1 = bytes(
+        "01 00 02 00 02 00 01 00 12 00 16 00 1a 00 1f 00 23 00 | 02 00 02 00 | 04 00 04 00 | \
+         01 00 01 01 00 | 02 00 01 01",
+    );
+    assert_written(
+        &records(on(&[2, 2], &[], &[4, 4]), start, vec![gather]),
+        &w1,
+    );
+}
+
+#[test]
+fn the_edition_is_the_least_that_holds_the_plan() {
+    let of = |order: &[u16], replicated: &[u8]| {
+        let start = sharding(&[&[]], &[], replicated);
+        records(on(&[2], order, &[4]), start, Vec::new())
+    };
+    let first = "0100 0100 0100 0000 1200 1400 1600 1800 1800 | 0200 | 0400 | 00 00";
+    let second = "0200 0100 0100 0000 1200 1400 1600 1a00 1a00 | 0200 | 0400 | 00 00 01 00";
+    let third = "0300 0100 0100 0000 1200 1800 1a00 1d00 1d00 | 0200 0100 0000 | 0400 | 00 00 00";
+    let both = "0300 0100 0100 0000 1200 1800 1a00 1e00 1e00 | 0200 0100 0000 | 0400 | 00 00 01 00";
+    assert_written(&of(&[], &[]), &bytes(first));
+    assert_written(&of(&[], &[0]), &bytes(second));
+    assert_written(&of(&[1, 0], &[]), &bytes(third));
+    assert_written(&of(&[1, 0], &[0]), &bytes(both));
+}
+
+#[test]
+fn accepted_plans_are_written_as_their_files() {
+    let mut random = Random::new(21);
+    let mut nested = 0;
+    for _ in 0..2000 {
+        let scale = random_scale(&mut random);
+        let draft = accepted(&mut random, scale);
+        nested += usize::from(blocks::depth(&draft.steps) > 1);
+        assert_written(&Records::from(&draft), &draft.encode());
+    }
+    assert!(nested > 100, "{nested}");
+}
+
+/// A plan of few words and steps.
+fn small_draft(random: &mut Random) -> Draft {
+    let scale = Scale {
+        devices: 16,
+        words: 64,
+        steps: random.between(1, 12),
+        run: 64,
+    };
+    accepted(random, scale)
+}
+
+/// Some list of axes: of the start, or of a step in a block or outside.
+fn random_list<'a>(random: &mut Random, draft: &'a mut Draft) -> Option<&'a mut Vec<Axis>> {
+    fn gathered<'a>(step: &'a mut Step, all: &mut Vec<&'a mut Vec<Axis>>) {
+        match step {
+            Step::Slice(lists) | Step::Gather(lists) => all.extend(lists),
+            Step::Reduce(axes) | Step::AllToAll(_, _, axes) => all.push(axes),
+            Step::Repeat(_, block) => block.iter_mut().for_each(|step| gathered(step, all)),
+            Step::Bytes(_) => {}
+        }
+    }
+    let mut all: Vec<&mut Vec<Axis>> = draft.start.iter_mut().collect();
+    all.push(&mut draft.unreduced);
+    all.push(&mut draft.replicated);
+    for step in &mut draft.steps {
+        gathered(step, &mut all);
+    }
+    let at = random.below(all.len());
+    all.into_iter().nth(at)
+}
+
+/// Changes something of a plan; it may still pass.
+fn spoil(random: &mut Random, draft: &mut Draft) -> Option<()> {
+    match random.below(10) {
+        0 => {
+            *draft.mesh.last_mut()? = random.pick(&[0, 1, 3, 1025]);
+            draft.order.clear();
+        }
+        1 => *draft.table.last_mut()? = random.pick(&[0, 1, 3, 65535]),
+        2 => *random_list(random, draft)?.last_mut()? = Axis(random.below(8) as u8),
+        3 => random_list(random, draft)?.push(Axis(random.below(8) as u8)),
+        4 => *random_list(random, draft)? = axes(&[0; 7]),
+        5 => random_list(random, draft)?.reverse(),
+        6 => random_list(random, draft)?.clear(),
+        7 => draft.order.sort_unstable(),
+        8 => {
+            let at = random.below(draft.steps.len() + 1);
+            let block = draft.steps.clone();
+            let step = match random.below(4) {
+                0 => Step::Bytes(vec![random.pick(&[0, 5, 8, 10, 255])]),
+                1 => Step::AllToAll(Dim(random.byte() % 5), Dim(1), axes(&[0])),
+                _ => Step::Repeat(random.pick(&[0, 1, 2, 255]), block),
+            };
+            draft.steps.insert(at, step);
+        }
+        _ => {
+            let first = random.below(draft.steps.len() + 1);
+            draft.steps.drain(..first);
+        }
+    }
+    Some(())
+}
+
+#[test]
+fn spoilt_records_get_the_refusal_of_the_check() {
+    let mut random = Random::new(22);
+    let mut seen: BTreeMap<u8, usize> = BTreeMap::new();
+    for _ in 0..20000 {
+        let mut draft = small_draft(&mut random);
+        for _ in 0..random.between(1, 3) {
+            spoil(&mut random, &mut draft);
+        }
+        let (records, file) = (Records::from(&draft), draft.encode());
+        for one in implementations() {
+            match one.check(&file) {
+                Ok(_) => assert_written(&records, &file),
+                Err(refused) => {
+                    *seen.entry(refused.number).or_default() += 1;
+                    assert_refused(&records, refused.number, refused.step);
+                }
+            }
+        }
+    }
+    let wanted = (8..=28).chain(41..=44).filter(|n| ![9, 18].contains(n));
+    let missing: Vec<u8> = wanted.filter(|number| !seen.contains_key(number)).collect();
+    assert!(missing.is_empty(), "{missing:?} {seen:?}");
+}
+
+#[test]
+fn the_outermost_records_are_counted_first() {
+    assert_refused(&small([pairs(32), vec![slice()]].concat()), 5, 0);
+    // Those of blocks do not count; a block that the records end in does.
+    let block = [repeat(1, 2), slice(), gather()];
+    assert_written_length(&small(vec![block; 33].concat()));
+    assert_refused(
+        &small([pairs(32), vec![repeat(1, 3), slice()]].concat()),
+        5,
+        0,
+    );
+    let last = vec![slice(), repeat(1, 3), gather(), slice()];
+    assert_refused(&small([pairs(31), last].concat()), 7, 0);
+    // Before the mesh; repeats of nothing and unknown kinds are steps too.
+    let mut many = small(vec![StepRecord::Unknown(0); 65]);
+    many.on.mesh = vec![0];
+    assert_refused(&many, 5, 0);
+    assert_refused(&small(vec![repeat(0, 0); 65]), 5, 0);
+    assert_refused(&small(vec![repeat(1, 0); 64]), 44, 1);
+    assert_refused(&small(vec![repeat(1, 1); 65]), 42, 5);
+    for (mesh, table) in [(0, 1), (7, 1), (1, 0), (1, 5)] {
+        let on = on(&vec![0; mesh], &[], &vec![1; table]);
+        let start = sharding(&vec![&[][..]; table], &[], &[]);
+        assert_refused(&records(on, start, Vec::new()), 5, 0);
+    }
+}
+
+fn assert_written_length(records: &Records) {
+    for (answer, out) in write(records, MOST_BYTES) {
+        let length = answer.expect("accepted");
+        assert!(implementations()
+            .iter()
+            .all(|one| one.check(&out[..length]).is_ok()));
+    }
+}
+
+#[test]
+fn records_that_end_inside_a_block_get_7() {
+    let mut random = Random::new(23);
+    let mut inside = 0;
+    for _ in 0..300 {
+        let draft = small_draft(&mut random);
+        let whole = Records::from(&draft);
+        // Where each outermost step begins.
+        let ends: Vec<usize> = (0..=draft.steps.len())
+            .map(|steps| blocks::kinds(&draft.steps[..steps]))
+            .collect();
+        for count in 0..whole.steps.len() {
+            let mut cut = whole.clone();
+            cut.steps.truncate(count);
+            match ends.binary_search(&count) {
+                Ok(steps) => assert_written(&cut, &draft.prefix(steps).encode()),
+                Err(_) => {
+                    inside += 1;
+                    assert_refused(&cut, 7, 0);
+                }
+            }
+        }
+    }
+    assert!(inside > 300, "{inside}");
+}
+
+#[test]
+fn the_order_is_judged_between_mesh_and_table() {
+    let of = |mesh: &[u16], order: &[u16], table: &[u16]| {
+        let start = sharding(&[&[]], &[], &[]);
+        records(on(mesh, order, table), start, Vec::new())
+    };
+    assert_refused(&of(&[1025], &[0], &[0]), 11, 0);
+    // Another length, the plain order, a number twice, a number that no device has.
+    for order in [&[1, 0][..], &[1, 0, 2, 3, 4], &[0, 1, 2, 3]] {
+        assert_refused(&of(&[2, 2], order, &[0]), 19, 0);
+    }
+    assert_refused(&of(&[2, 2], &[0, 0, 1, 2], &[0]), 19, 0);
+    assert_refused(&of(&[2, 2], &[1, 0, 2, 4], &[0]), 19, 0);
+    assert_refused(&of(&[2, 2], &[1, 0, 2, 3], &[0]), 12, 0);
+}
+
+#[test]
+fn all_counts_of_the_start_are_judged_before_its_axes() {
+    let of = |start: ShardingRecord| records(on(&[2, 2], &[], &[4, 3]), start, Vec::new());
+    assert_refused(&of(sharding(&[&[7], &[0, 1, 0]], &[], &[])), 8, 0);
+    assert_refused(&of(sharding(&[&[7], &[]], &[0, 1, 0], &[])), 8, 0);
+    assert_refused(&of(sharding(&[&[7], &[]], &[], &[0, 1, 0])), 8, 0);
+    assert_refused(&of(sharding(&[&[7], &[]], &[1, 0], &[])), 14, 0);
+}
+
+#[test]
+fn a_file_past_the_limit_gets_2_before_35() {
+    let mut random = Random::new(24);
+    for _ in 0..5 {
+        let longest = blocks::longest(&mut random, small_draft, MOST_BYTES);
+        assert_written(&Records::from(&longest), &longest.encode());
+        let longer = blocks::longest(&mut random, small_draft, MOST_BYTES + 1);
+        let mut records = Records::from(&longer);
+        assert_refused(&records, 2, 0);
+        // The refusal of the records themselves comes first.
+        let last = records.steps.len() as u16;
+        *records.steps.last_mut().expect("a step") = StepRecord::Unknown(5);
+        assert_refused(&records, 20, last);
+    }
+    assert_refused(&small(vec![repeat(1, 1); 65535]), 42, 5);
+    assert_refused(&small(vec![repeat(1, 1); 65536]), 2, 0);
+}
+
+// ---- the planner
+
+fn assert_planned(
+    on: &MeshAndTable,
+    start: &ShardingRecord,
+    goal: &ShardingRecord,
+    expected: Result<Vec<StepRecord>, Refusal>,
+) {
+    for answer in answers(|one| one.plan(on, start, goal)) {
+        assert_eq!(answer, expected, "{start:?} {goal:?}");
+    }
+}
+
+/// The steps between shardings of a table of 8x4x4 on a mesh of five axes of 2.
+fn assert_steps(start: &ShardingRecord, goal: &ShardingRecord, steps: Vec<StepRecord>) {
+    assert_planned(&on(&[2; 5], &[], &[8, 4, 4]), start, goal, Ok(steps));
+}
+
+#[test]
+fn plans_reduce_then_gather_then_slice() {
+    let of = |dims: &[&[u8]], unreduced: &[u8]| sharding(dims, unreduced, &[4]);
+    let reduce = |list: &[u8]| StepRecord::Reduce(axes(list));
+    let gather = |dims: &[&[u8]]| StepRecord::Gather(lists(dims));
+    let slice = |dims: &[&[u8]]| StepRecord::Slice(lists(dims));
+    let here = of(&[&[0, 1], &[], &[2]], &[3]);
+    assert_steps(&here, &here, Vec::new());
+    // Alone.
+    let whole = of(&[&[], &[], &[]], &[]);
+    let parts = of(&[&[], &[], &[]], &[0, 1, 2]);
+    assert_steps(&parts, &of(&[&[], &[], &[]], &[1]), vec![reduce(&[0, 2])]);
+    let one = of(&[&[0, 1], &[], &[2]], &[]);
+    assert_steps(&one, &whole, vec![gather(&[&[0, 1], &[], &[2]])]);
+    assert_steps(&whole, &one, vec![slice(&[&[0, 1], &[], &[2]])]);
+    // From one dimension to another, and from unreduced into a dimension.
+    let moved = vec![gather(&[&[1], &[], &[]]), slice(&[&[], &[1], &[]])];
+    assert_steps(&one, &of(&[&[0], &[1], &[2]], &[]), moved);
+    let scattered = vec![reduce(&[0]), slice(&[&[], &[0], &[]])];
+    assert_steps(&parts, &of(&[&[], &[0], &[]], &[1, 2]), scattered);
+    // Common beginnings of two axes, of one and of none, where the lists end alike.
+    let from = of(&[&[0, 1, 2], &[3], &[]], &[]);
+    let back = vec![gather(&[&[2], &[], &[]]), slice(&[&[], &[], &[2]])];
+    assert_steps(&from, &of(&[&[0, 1], &[3], &[2]], &[]), back);
+    let inner = vec![gather(&[&[1, 2], &[3], &[]]), slice(&[&[3, 2], &[], &[]])];
+    assert_steps(&from, &of(&[&[0, 3, 2], &[], &[]], &[]), inner);
+    let turned = vec![
+        gather(&[&[0, 1, 2], &[], &[]]),
+        slice(&[&[2, 1, 0], &[], &[]]),
+    ];
+    assert_steps(&from, &of(&[&[2, 1, 0], &[3], &[]], &[]), turned);
+}
+
+#[test]
+fn plans_are_refused_in_order() {
+    let of = |dim: &[u8], unreduced: &[u8], replicated: &[u8]| {
+        sharding(&[dim, &[]], unreduced, replicated)
+    };
+    let whole = of(&[], &[], &[]);
+    let assert_no = |on: &MeshAndTable, start: &ShardingRecord, goal: &ShardingRecord, number| {
+        assert_planned(on, start, goal, refusal(number, 0));
+    };
+    let long = of(&[0, 1, 0], &[], &[]);
+    let table = &[4, 3];
+    assert_no(&on(&[], &[0], table), &long, &long, 5);
+    assert_no(&on(&[0; 7], &[0], table), &long, &long, 5);
+    assert_no(&on(&[0], &[0], &[0; 5]), &long, &long, 5);
+    assert_no(&on(&[2, 0], &[0], &[0, 3]), &long, &long, 10);
+    assert_no(&on(&[1025], &[0], &[0, 3]), &long, &long, 11);
+    assert_no(&on(&[2, 2], &[0, 1], &[0, 3]), &long, &long, 19);
+    assert_no(&on(&[2, 2], &[], &[4, 0]), &long, &long, 12);
+    assert_no(&on(&[2, 2], &[], &[256, 257]), &long, &long, 13);
+    let on = on(&[2, 2], &[], table);
+    // The start whole before the goal.
+    let bad = [
+        (long, 8),
+        (of(&[2], &[], &[]), 14),
+        (of(&[0], &[0], &[]), 15),
+        (of(&[], &[1, 0], &[]), 16),
+        (sharding(&[&[], &[0]], &[], &[]), 17),
+    ];
+    for (start, number) in &bad {
+        bad.iter()
+            .for_each(|(goal, _)| assert_no(&on, start, goal, *number));
+        // The goal's own before 40.
+        assert_no(&on, &of(&[], &[], &[1]), start, *number);
+    }
+    // Unreduced axes that the start lacks, and lists that differ, either way.
+    assert_no(&on, &of(&[], &[0], &[]), &of(&[], &[0, 1], &[]), 40);
+    assert_no(&on, &of(&[0], &[], &[]), &of(&[], &[0], &[]), 40);
+    assert_no(&on, &of(&[], &[], &[0]), &whole, 40);
+    assert_no(&on, &whole, &of(&[], &[], &[0]), 40);
+}
+
+fn record_of(sharding: &Sharding) -> ShardingRecord {
+    ShardingRecord {
+        dims: sharding.dims.iter().map(|list| list.to_vec()).collect(),
+        unreduced: sharding.unreduced.to_vec(),
+        replicated: sharding.replicated.to_vec(),
+    }
+}
+
+#[test]
+fn plans_are_accepted_and_end_at_the_goal() {
+    let mut random = Random::new(25);
+    let mut of_length = [0; 4];
+    for _ in 0..2000 {
+        let draft = small_draft(&mut random);
+        let Records { on, start, .. } = Records::from(&draft);
+        for one in implementations() {
+            let goal = one.check(&draft.encode()).expect("accepted").sharding;
+            let Some(answer) = one.plan(&on, &start, &record_of(&goal)) else {
+                continue;
+            };
+            let steps = answer.expect("a plan");
+            of_length[steps.len()] += 1;
+            let mut file = vec![0; MOST_BYTES];
+            let planned = records(on.clone(), start.clone(), steps);
+            let length = one.write(&planned, &mut file).expect("the call");
+            let checked = one.check(&file[..length.expect("written")]);
+            assert_eq!(checked.expect("accepted").sharding, goal);
+        }
+    }
+    assert!(of_length.iter().all(|&plans| plans > 20), "{of_length:?}");
+}

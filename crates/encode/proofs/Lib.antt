@@ -1,0 +1,5 @@
+-- The laws of writing.
+pub mod Puts
+pub mod Given
+pub mod Counting
+pub mod Files

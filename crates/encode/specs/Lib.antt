@@ -1,0 +1,2 @@
+-- What the writing functions ask, and what they leave.
+pub mod Putting
