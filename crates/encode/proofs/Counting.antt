@@ -73,7 +73,7 @@ pub record Counting (bytes : List ℕ) (outer still i : ℕ) : Type 0 where
 pub counting-start : (bytes : List ℕ) → Counting bytes 0 0 0
 counting-start bytes = record { few = omega arith; outer-few = omega arith; counted = λ rank. omega arith }
 
-given-length : (rank : ℕ) (bytes : List ℕ) → length (stepsGiven rank bytes) ≡ recordCount bytes
+pub given-length : (rank : ℕ) (bytes : List ℕ) → length (stepsGiven rank bytes) ≡ recordCount bytes
 unfolding stepsGiven
 given-length rank bytes = length-tab (recordCount bytes) (λ i. givenAt rank bytes (recordBytes * i))
 
