@@ -1,11 +1,11 @@
 -- RECORDS THAT THE WRITER'S JUDGEMENT ACCEPTS CAN BE WRITTEN (`accepted-encodable`): every list that passes 8 has no more axes than there are places.
 -- Assumes nothing.
-use Prim.Native.Nat.{ℕ, zero, suc, _+_, _*_, _≤_, _<_}
+use Prim.Native.Nat.{ℕ, zero, suc, _+_, _*_, _≤_}
 use mathlib.Core.Bool.{Bool, true, false, _&&_}
-use mathlib.Core.Path.{_≡_, refl, sym, ap, _∙_, subst}
+use mathlib.Core.Path.{_≡_, refl, sym, ap, subst}
 use mathlib.Core.List.{List, [], _∷_, _++_, map}
 use native.Mathlib.Omega.{arith}
-use lib.Dec.{T, leb, leb→le, ltb, eqb, lit≤}
+use lib.Dec.{leb, leb→le, ltb, eqb, lit≤}
 use lib.ListN.{length, getD, take, drop, length-take, length-map}
 use lib.Seq.{length-take-le}
 use Rattle.rules.specs.Lists.{tab, pick}
@@ -13,7 +13,7 @@ use Rattle.rules.specs.Limits.{mostAxes, mostDevices, mostDims, mostWords, most
 use Rattle.rules.specs.Mesh.{devices}
 use Rattle.rules.specs.Sharding.{Sharding}
 use Rattle.rules.specs.Collectives.{Step}
-use Rattle.rules.specs.Refusals.{Judged, accept, _>>=_, _>>_}
+use Rattle.rules.specs.Refusals.{accept}
 use Rattle.rules.specs.PlanFile.{
   axesAllowed,
   rankAllowed,
@@ -26,7 +26,6 @@ use Rattle.rules.specs.PlanFile.{
   stepAt,
   judgeStep,
   Record,
-  plain,
   repeat,
   Plan,
   StepsRead,
@@ -56,7 +55,6 @@ use Rattle.records.specs.Writing.{judgeCounts, judgeSharding, judgeOrder, judge
 use Rattle.records.specs.Forms.{
   listGiven,
   dimsGiven,
-  shardingGiven,
   recordBytes,
   stepRecord,
   givenKind,
@@ -70,7 +68,7 @@ use Rattle.records.proofs.Places.{from-all}
 use Rattle.records.proofs.Given.{all-given}
 use Rattle.records.proofs.Readback.{order-passed}
 use Rattle.records.proofs.Planned.{sharding-facts}
-use Rattle.encode.specs.Putting.{ShortLists, ShortStep, ShortGiven, ShortSharding, ShortSteps, Encodable}
+use Rattle.encode.specs.Putting.{ShortLists, ShortStep, ShortGiven, ShortSteps, Encodable}
 use Rattle.encode.proofs.Counting.{given-length}
 
 -- ---- what is read is short
@@ -191,7 +189,8 @@ module _ (rank : ℕ) (few : rank ≤ mostDims) where
   unfolding givenAt
   record-ranked bytes at = go (eqb (getD bytes at 0) 9)
     where
-      go : (b : Bool) → Ranked rank (pick b (known (repeat (getD bytes (at + 1) 0) (getD bytes (at + 2) 0))) (givenKind (kindOf (getD bytes at 0)) rank (stepRecord bytes at)))
+      go : (b : Bool)
+          → Ranked rank (pick b (known (repeat (getD bytes (at + 1) 0) (getD bytes (at + 2) 0))) (givenKind (kindOf (getD bytes at 0)) rank (stepRecord bytes at)))
       go true = tt
       go false = kind-ranked (kindOf (getD bytes at 0)) (stepRecord bytes at) refl
 
@@ -270,7 +269,8 @@ accepted-encodable mesh order sizes start bytes p e =
     let s = sharding-facts mesh sizes (r .start) (o .sharding) in
     let others = counts-short (length mesh) (r .start .unreduced ∷ r .start .replicated ∷ []) (o .axes) (s .others) in
     let g : r .steps ≡ map known (ts .0 .records) =
-    all-given mesh sizes (stepsBytes (r .steps)) true 0 1 0 (r .start) (r .steps) (ts .0) (given-ranked (length sizes) (o .rank) bytes) (from-all (stepsBytes (r .steps))) (ts .1) .0 in
+    all-given mesh sizes (stepsBytes (r .steps)) true 0 1 0 (r .start) (r .steps) (ts .0) (given-ranked (length sizes) (o .rank) bytes)
+    (from-all (stepsBytes (r .steps))) (ts .1) .0 in
     let short = outermost-short mesh sizes (stepsBytes (r .steps)) (o .axes) true 0 (outermost (r .steps)) 1 0 (r .start) (ts .0) (ts .1) in (
       record {
         axes = o .axes;
