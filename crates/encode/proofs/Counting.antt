@@ -1,18 +1,16 @@
 -- Laws of counting outermost steps, record by record. Assumes nothing.
 use Prim.Native.Nat.{ℕ, zero, suc, _+_, _*_, _-_, _≤_, _<_}
-use mathlib.Core.Bool.{Bool, true, false}
 use mathlib.Core.Path.{_≡_, refl, sym, ap, _∙_, subst}
 use mathlib.Core.List.{List, [], _∷_}
 use native.Mathlib.Omega.{arith}
 use native.Mathlib.Numerals.{add-one}
 use lib.ListN.{length, getD, drop, length-drop}
 use lib.Seq.{drop-cons}
-use Rattle.rules.specs.PlanFile.{repeat}
 use Rattle.rules.specs.declared.Kind.{Kind}
 use Rattle.rules.specs.declared.Kind.the-variants.{AllSlice, AllGather, AllReduce, AllToAll, Unknown}
 use Rattle.rules.specs.declared.Step.{Step}
 use Rattle.rules.proofs.Lists.{length-tab, getD-tab}
-use Rattle.records.specs.Records.{Given, known, unknown, innerOf, outermostFrom, outermost}
+use Rattle.records.specs.Records.{Given, unknown, innerOf, outermostFrom, outermost}
 use Rattle.records.specs.Forms.{recordBytes, stepRecord, givenKind, givenAt, recordCount, stepsGiven}
 use Rattle.encode.specs.Putting.{outermostOne, stillAfter}
 use Rattle.encode.proofs.Given.{repeat-given, plain-given}
@@ -73,7 +71,7 @@ pub record Counting (bytes : List ℕ) (outer still i : ℕ) : Type 0 where
 pub counting-start : (bytes : List ℕ) → Counting bytes 0 0 0
 counting-start bytes = record { few = omega arith; outer-few = omega arith; counted = λ rank. omega arith }
 
-given-length : (rank : ℕ) (bytes : List ℕ) → length (stepsGiven rank bytes) ≡ recordCount bytes
+pub given-length : (rank : ℕ) (bytes : List ℕ) → length (stepsGiven rank bytes) ≡ recordCount bytes
 unfolding stepsGiven
 given-length rank bytes = length-tab (recordCount bytes) (λ i. givenAt rank bytes (recordBytes * i))
 

@@ -1,15 +1,15 @@
 -- Laws of the whole file: the edition, where the steps begin, and the header that is stored last (`file-put`). Assumes nothing.
-use Prim.Native.Nat.{ℕ, zero, suc, _+_, _*_, _≤_, _<_}
+use Prim.Native.Nat.{ℕ, suc, _+_, _*_, _≤_, _<_}
 use mathlib.Core.Bool.{Bool, true, false}
-use mathlib.Core.Path.{_≡_, refl, sym, ap, ap₂, _∙_, subst}
+use mathlib.Core.Path.{_≡_, refl, sym, ap, ap₂, _∙_}
 use mathlib.Core.List.{List, [], _∷_, _++_, append-assoc}
 use native.Mathlib.Omega.{arith}
-use native.Mathlib.Nat.{add-zero, zero-add}
+use native.Mathlib.Nat.{add-zero}
 use lib.Dec.{leb}
 use lib.ListN.{length, set, drop, length-append}
 use lib.Seq.{sets, sets-eq, set-comm}
 use Rattle.rules.specs.Lists.{pick}
-use Rattle.rules.specs.Limits.{mostAxes, mostDevices, mostDims, leastBytes, mostBytes}
+use Rattle.rules.specs.Limits.{mostAxes, mostDims, leastBytes}
 use Rattle.rules.specs.Sharding.{Sharding}
 use Rattle.rules.specs.PlanFile.{some}
 use Rattle.rules.specs.Types.{axesOf}
@@ -30,7 +30,7 @@ use Rattle.records.specs.Records.{
   fileOf,
 }
 use Rattle.records.specs.Forms.{listGiven, dimsGiven, shardingGiven, stepsGiven, recordsGiven}
-use Rattle.records.proofs.Written.{length-u16s, length-file}
+use Rattle.records.proofs.Written.{length-u16s}
 use Rattle.encode.specs.Putting.{Put, ShortSharding, Encodable, Writable, frontBytes, headerOf}
 use Rattle.encode.proofs.Puts.{put-both}
 use Rattle.encode.proofs.Given.{list-given, lists-few}
@@ -107,7 +107,8 @@ module _ (mesh order sizes : List ℕ) (start : code.Sharding) (bytes : List ℕ
   first-is {e} {first} p q =
       omega (arith, q, front-length e mesh order sizes given, ap (λ (k : ℕ). length (shardingBytes k given)) p)
 
-  pub total-is : {first total : ℕ} → first ≡ stepsStart all → total ≡ first + length (stepsBytes (stepsGiven (length sizes) bytes)) → total ≡ fileLength all
+  pub total-is : {first total : ℕ} → first ≡ stepsStart all → total ≡ first + length (stepsBytes (stepsGiven (length sizes) bytes))
+      → total ≡ fileLength all
   unfolding fileLength
   total-is p q = omega (arith, p, q)
 
@@ -136,7 +137,8 @@ front-stored x l n e h =
 
 module _ (mesh order sizes : List ℕ) (start : code.Sharding) (bytes out : List ℕ)
     (w : Writable mesh order sizes start bytes out) (e outer first total : ℕ) (e-is : e ≡ editionOf (recordsGiven mesh order sizes start bytes))
-    (outer-is : outer ≡ outermost (stepsGiven (length sizes) bytes)) (first-at : first ≡ stepsStart (recordsGiven mesh order sizes start bytes)) (total-at : total ≡ fileLength (recordsGiven mesh order sizes start bytes)) where
+    (outer-is : outer ≡ outermost (stepsGiven (length sizes) bytes)) (first-at : first ≡ stepsStart (recordsGiven mesh order sizes start bytes))
+    (total-at : total ≡ fileLength (recordsGiven mesh order sizes start bytes)) where
   abbrev of : Records
   of = recordsGiven mesh order sizes start bytes
 

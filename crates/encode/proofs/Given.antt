@@ -139,14 +139,16 @@ module _ (rank : ℕ) (bytes : List ℕ) (from : ℕ) where
   kind-few AllToAll t h f = omega (arith, f)
   kind-few Unknown t h f = omega arith
 
+  -- a record by whether it is a repeat
+  abbrev either : Bool → Given
+  either b = pick b (known (repeat (getD bytes (from + 1) 0) (getD bytes (from + 2) 0))) (givenKind (stepRecord bytes from .kind) rank (stepRecord bytes from))
+
   -- a record takes at most 31 bytes
   pub record-few : rank ≤ mostDims → ShortGiven (givenAt rank bytes from) → length (givenBytes (givenAt rank bytes from)) ≤ 31
   unfolding givenAt givenBytes
   record-few h f = go (eqb (getD bytes from 0) 9) f
     where
-      go : (b : Bool)
-          → ShortGiven (pick b (known (repeat (getD bytes (from + 1) 0) (getD bytes (from + 2) 0))) (givenKind (stepRecord bytes from .kind) rank (stepRecord bytes from)))
-          → length (givenBytes (pick b (known (repeat (getD bytes (from + 1) 0) (getD bytes (from + 2) 0))) (givenKind (stepRecord bytes from .kind) rank (stepRecord bytes from)))) ≤ 31
+      go : (b : Bool) → ShortGiven (either b) → length (givenBytes (either b)) ≤ 31
       go true g = omega arith
       go false g = kind-few (stepRecord bytes from .kind) (stepRecord bytes from) h g
 
@@ -193,8 +195,8 @@ records-step {out₀} {out} {next} {at} {place} {r} {rank} {bytes} {i} s less h 
   put = subst (Put out₀ next at r) (sym (steps-next rank bytes i)) (put-both (s .put) p);
 }
 
-pub records-done : {out₀ out : List ℕ} {at place rank : ℕ} {bytes : List ℕ} {i : ℕ} → Records out₀ out at place rank bytes i → recordCount bytes ≤ i
-    → Put out₀ out at place (stepsBytes (stepsGiven rank bytes))
+pub records-done : {out₀ out : List ℕ} {at place rank : ℕ} {bytes : List ℕ} {i : ℕ} → Records out₀ out at place rank bytes i
+    → recordCount bytes ≤ i → Put out₀ out at place (stepsBytes (stepsGiven rank bytes))
 unfolding stepsGiven
 records-done {out₀} {out} {at} {place} {rank} {bytes} {i} s h =
     let e : i ≡ recordCount bytes = omega (arith, s .few) in

@@ -3,3 +3,4 @@ pub mod Puts
 pub mod Given
 pub mod Counting
 pub mod Files
+pub mod Accepted

@@ -1,7 +1,7 @@
 // The bytes of a plan file, written from the arguments of the writer's call. A byte past the end of the buffer is left out, so that a buffer with no
 // place measures. What is written is defined in records/specs/Records.antt, what the arguments stand for in records/specs/Forms.antt.
 ghost use mathlib.Core.Path.{_≡_};
-ghost use mathlib.Core.List.{List, [], _∷_, _++_};
+ghost use mathlib.Core.List.{[], _∷_, _++_};
 ghost use Prim.Native.Nat.{ℕ, _+_, _*_, _≤_, _<_};
 ghost use lib.ListN.{length, drop};
 ghost use Rattle.rules.specs.Lists.{pick};
@@ -9,7 +9,7 @@ ghost use Rattle.rules.specs.Limits.{mostAxes, mostDevices, mostDims, mostSteps
 ghost use Rattle.rules.specs.PlanFile.{some};
 ghost use Rattle.rules.specs.Types.{axesOf};
 ghost use Rattle.records.specs.Records.{u16Bytes, u16sBytes, listBytes, listsBytes, replicatedBytes, shardingBytes, innerOf, outermost, givenBytes, stepsBytes, fileLength, fileOf};
-ghost use Rattle.records.specs.Forms.{listGiven, dimsGiven, shardingGiven, recordBytes, axisAt, placesAt, listRecord, stepRecord, givenKind, givenAt, recordCount, stepsGiven, recordsGiven};
+ghost use Rattle.records.specs.Forms.{listGiven, dimsGiven, shardingGiven, recordBytes, axisAt, listRecord, stepRecord, givenKind, givenAt, recordCount, stepsGiven, recordsGiven};
 ghost use Rattle.encode.specs.Putting.{Put, farthest, ShortLists, ShortSharding, ShortGiven, ShortSteps, frontBytes, headerOf, Encodable, Writable, outermostOne, stillAfter};
 use reader::kind_of;
 use rules::Axis;
@@ -20,6 +20,19 @@ use rules::Kind;
 use rules::PlanFile;
 use rules::Sharding;
 use rules::Step;
+
+// A step record, by where it begins in the bytes of the records.
+pub struct StepRecord(pub usize);
+
+impl StepRecord {
+    pub const BYTES: usize = 38;
+
+    pub fn bytes() -> usize
+        ensures { λ r. ⌜ r ≡ recordBytes ⌝ }
+    {
+        StepRecord::BYTES
+    }
+}
 
 // One byte, and where the next one goes.
 fn put_byte(out: &mut [u8], at: usize, byte: u8) -> usize
@@ -214,7 +227,7 @@ pub fn step_record(steps: &[u8], at: usize) -> Step
 }
 
 // The record that begins at a place of the records.
-pub fn put_record(out: &mut [u8], at: usize, steps: &[u8], from: usize, rank: usize) -> usize
+fn put_record(out: &mut [u8], at: usize, steps: &[u8], from: usize, rank: usize) -> usize
     requires { ⌜ (at + 31 ≤ farthest) × (rank ≤ mostDims) × (from + recordBytes ≤ length (now steps)) × ShortGiven (givenAt rank (now steps) from) ⌝ }
     ensures { λ r. ⌜ Put (now (out .entry)) (now (out .exit)) at r (givenBytes (givenAt rank (now (steps .entry)) from)) ⌝ }
 {
@@ -226,15 +239,15 @@ pub fn put_record(out: &mut [u8], at: usize, steps: &[u8], from: usize, rank: us
 }
 
 // All records; bytes after the last whole one count for nothing.
-pub fn put_steps(out: &mut [u8], at: usize, steps: &[u8], rank: usize) -> usize
+fn put_steps(out: &mut [u8], at: usize, steps: &[u8], rank: usize) -> usize
     requires { ⌜ (at + 31 * recordCount (now steps) ≤ farthest) × (rank ≤ mostDims) × ShortSteps rank (now steps) ⌝ }
     ensures { λ r. ⌜ Put (now (out .entry)) (now (out .exit)) at r (stepsBytes (stepsGiven rank (now (steps .entry)))) ⌝ }
 {
-    let count = steps.len() / 38;
+    let count = steps.len() / StepRecord::BYTES;
     let mut place = at;
     let mut i: usize = 0;
     while i < count {
-        place = put_record(out, place, steps, 38 * i, rank);
+        place = put_record(out, place, steps, StepRecord::BYTES * i, rank);
         i += 1;
     }
     place
@@ -275,12 +288,12 @@ fn still_after(still: usize, inner: usize) -> usize
 pub fn outermost_steps(steps: &[u8]) -> usize
     ensures { λ r. ⌜ ((rank : ℕ) → r ≡ outermost (stepsGiven rank (now (steps .entry)))) ⌝ }
 {
-    let count = steps.len() / 38;
+    let count = steps.len() / StepRecord::BYTES;
     let mut outer: usize = 0;
     let mut still: usize = 0;
     let mut i: usize = 0;
     while still < count - i {
-        let inner = inner_at(steps, 38 * i);
+        let inner = inner_at(steps, StepRecord::BYTES * i);
         outer += is_outermost(still);
         still = still_after(still, inner);
         i += 1;

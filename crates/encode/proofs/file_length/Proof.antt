@@ -11,15 +11,27 @@ file-length-spec =
     (tie.spec
     (λ c κs. search needs)
     (λ c. search needs)
-    (λ c κs. let w = c .before .before .before .before .before .before .before .pre in (w .axes, w .devices, w .rank, w .short-start))
+    (λ c κs. let c7 = c .before .before .before .before .before .before .before in
+    let w = c7 .pre in (w .axes, w .devices, w .rank, w .short-start))
     (λ c. search needs)
-    (λ c κs. let s = c .before .before .before .before .before .before .before .before .before .before in
+    (λ c κs. let c4 = c .before .before .before .before in
+    let s = c4 .before .before .before .before .before .before in
     let a = s .args in
+    let m = now (a .mesh) in
+    let o = now (a .order) in
+    let z = now (a .sizes) in
+    let b = now (a .steps) in
     let w = s .pre in
-    (omega (arith, w .records, c .before .before .put-front .ensures .next, front-few (now (a .mesh)) (now (a .order)) (now (a .sizes)) (a .start) (now (a .steps)) w (c .before .before .before .before .edition-of .result)), w .rank, w .short-steps))
-    (λ c. let s = c .before .before .before .before .before .before .before .before .before .before .before .before in
+    let f = front-few m o z (a .start) b w (c4 .edition-of .result) in
+    (omega (arith, w .records, c .before .before .put-front .ensures .next, f), w .rank, w .short-steps))
+    (λ c. let c4 = c .before .before .before .before in
+    let c6 = c4 .before .before in
+    let s = c6 .before .before .before .before .before .before in
     let a = s .args in
-    let w = s .pre in
-    let e = edition-is (now (a .mesh)) (now (a .order)) (now (a .sizes)) (a .start) (now (a .steps)) w (c .before .before .before .before .before .before .edition-of .ensures) in
-    let f = first-is (now (a .mesh)) (now (a .order)) (now (a .sizes)) (a .start) (now (a .steps)) w e (c .before .before .before .before .put-front .ensures .next) in
-    total-is (now (a .mesh)) (now (a .order)) (now (a .sizes)) (a .start) (now (a .steps)) w f (c .before .put-steps .ensures .next)))
+    let m = now (a .mesh) in
+    let o = now (a .order) in
+    let z = now (a .sizes) in
+    let b = now (a .steps) in
+    let e = edition-is m o z (a .start) b (s .pre) (c6 .edition-of .ensures) in
+    let f = first-is m o z (a .start) b (s .pre) e (c4 .put-front .ensures .next) in
+    total-is m o z (a .start) b (s .pre) f (c .before .put-steps .ensures .next)))

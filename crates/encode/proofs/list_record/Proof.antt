@@ -29,9 +29,18 @@ list-record-spec =
     (λ c. search needs)
     (λ c. search needs)
     (λ c. let a = c .before .before .before .before .before .before .before .before .args in omega (arith, c .shared-slice-known2 .given (a .at + 3 + a .list)))
-    (λ c. let a = c .before .before .before .before .before .before .before .before .args in
-    let d3 = c .before .before .before in
+    (λ c. let c3 = c .before .before .before in
+    let c4 = c3 .before in
+    let c5 = c4 .before in
+    let c6 = c5 .before in
+    let a = c6 .before .before .args in
     λ i. record {
       count = getD (now (a .steps)) (a .at + 3 + a .list) 0;
-      axes = d3 .before .before .before .axis-at .ensures i ∷ d3 .before .before .axis-at2 .ensures i ∷ d3 .before .axis-at3 .ensures i ∷ d3 .axis-at4 .ensures i ∷ c .before .before .axis-at5 .ensures i ∷ c .before .axis-at6 .ensures i ∷ [];
+      axes = c6 .axis-at .ensures i
+          ∷ c5 .axis-at2 .ensures i
+          ∷ c4 .axis-at3 .ensures i
+          ∷ c3 .axis-at4 .ensures i
+          ∷ c .before .before .axis-at5 .ensures i
+          ∷ c .before .axis-at6 .ensures i
+          ∷ [];
     }))

@@ -13,28 +13,51 @@ put-file-spec =
     (tie.spec
     (λ c κs. search needs)
     (λ c κs. search needs)
-    (λ c κs. let w = c .before .before .before .before .before .before .before .before .before .pre .encodable in (w .axes, w .devices, w .rank, w .short-start))
-    (λ c κs. let s = c .before .before .before .before .before .before .before .before .before .before .before .before .before in
+    (λ c κs. let c9 = c .before .before .before .before .before .before .before .before .before in
+    let w = c9 .pre .encodable in (w .axes, w .devices, w .rank, w .short-start))
+    (λ c κs. let c3 = c .before .before .before in
+    let c6 = c3 .before .before .before in
+    let s = c6 .before .before .before .before .before .before .before in
     let a = s .args in
+    let m = now (a .mesh) in
+    let o = now (a .order) in
+    let z = now (a .sizes) in
+    let b = now (a .steps) in
     let w = s .pre .encodable in
-    let f = front-few (now (a .mesh)) (now (a .order)) (now (a .sizes)) (a .start) (now (a .steps)) w (c .before .before .before .before .before .before .edition-of .result) in
-    (omega (arith, w .records, c .before .before .before .put-front .ensures .next, f), w .rank, w .short-steps))
-    (λ c κs. let s = c .before .before .before .before .before .before .before .before .before .before .before .before .before .before .before .before .before in
+    let f = front-few m o z (a .start) b w (c6 .edition-of .result) in
+    (omega (arith, w .records, c3 .put-front .ensures .next, f), w .rank, w .short-steps))
+    (λ c κs. let c3 = c .before .before .before in
+    let c7 = c3 .before .before .before .before in
+    let c9 = c7 .before .before in
+    let c10 = c9 .before in
+    let s = c10 .before .before .before .before .before .before .before in
     let a = s .args in
+    let m = now (a .mesh) in
+    let o = now (a .order) in
+    let z = now (a .sizes) in
+    let b = now (a .steps) in
     let w = s .pre .encodable in
-    let d = c .before .before .before .before .before .before .before .before .before .before .edition-of .ensures in
-    let e = edition-is (now (a .mesh)) (now (a .order)) (now (a .sizes)) (a .start) (now (a .steps)) w d in
-    let f = first-is (now (a .mesh)) (now (a .order)) (now (a .sizes)) (a .start) (now (a .steps)) w e (c .before .before .before .before .before .before .before .put-front .ensures .next) in
-    let b = c .before .before .before .put-steps .ensures .next in
-    let t = total-is (now (a .mesh)) (now (a .order)) (now (a .sizes)) (a .start) (now (a .steps)) w f b in
-    let o = c .before .before .before .before .before .before .before .before .before .outermost-steps .ensures (length (now (a .sizes))) in
-    (omega (arith, d, edition-few (now (a .order)) (axesOf (a .start .replicated))), w .axes, w .devices, w .rank, omega (arith, o, s .pre .few), omega (arith, t, b, s .pre .short), omega (arith, t, s .pre .short)))
+    let d = c10 .edition-of .ensures in
+    let k = edition-few o (axesOf (a .start .replicated)) in
+    let f = first-is m o z (a .start) b w (edition-is m o z (a .start) b w d) (c7 .put-front .ensures .next) in
+    let n = c3 .put-steps .ensures .next in
+    let t = total-is m o z (a .start) b w f n in
+    let q = c9 .outermost-steps .ensures (length z) in
+    (omega (arith, d, k), w .axes, w .devices, w .rank, omega (arith, q, s .pre .few), omega (arith, t, n, s .pre .short), omega (arith, t, s .pre .short)))
     (λ c. search needs)
-    (λ c. let s = c .before .before .before .before .before .before .before .before .before .before .before .before .before .before .before .before .before .before .before .before in
+    (λ c. let c6 = c .before .before .before .before .before .before in
+    let c10 = c6 .before .before .before .before in
+    let c12 = c10 .before .before in
+    let c13 = c12 .before in
+    let s = c13 .before .before .before .before .before .before .before in
     let a = s .args in
+    let m = now (a .mesh) in
+    let o = now (a .order) in
+    let z = now (a .sizes) in
+    let b = now (a .steps) in
     let w = s .pre .encodable in
-    let e = edition-is (now (a .mesh)) (now (a .order)) (now (a .sizes)) (a .start) (now (a .steps)) w (c .before .before .before .before .before .before .before .before .before .before .before .before .before .edition-of .ensures) in
-    let f = first-is (now (a .mesh)) (now (a .order)) (now (a .sizes)) (a .start) (now (a .steps)) w e (c .before .before .before .before .before .before .before .before .before .before .put-front .ensures .next) in
-    let t = total-is (now (a .mesh)) (now (a .order)) (now (a .sizes)) (a .start) (now (a .steps)) w f (c .before .before .before .before .before .before .put-steps .ensures .next) in
-    let o = c .before .before .before .before .before .before .before .before .before .before .before .before .outermost-steps .ensures (length (now (a .sizes))) in
-    (t, file-put (now (a .mesh)) (now (a .order)) (now (a .sizes)) (a .start) (now (a .steps)) (now (a .out)) (s .pre) _ _ _ _ e o f t (c .before .before .before .before .before .before .before .before .before .before .put-front .ensures) (c .before .before .before .before .before .before .put-steps .ensures) (c .before .before .put-header .ensures))))
+    let e = edition-is m o z (a .start) b w (c13 .edition-of .ensures) in
+    let f = first-is m o z (a .start) b w e (c10 .put-front .ensures .next) in
+    let t = total-is m o z (a .start) b w f (c6 .put-steps .ensures .next) in
+    let q = c12 .outermost-steps .ensures (length z) in
+    (t, file-put m o z (a .start) b (now (a .out)) (s .pre) _ _ _ _ e q f t (c10 .put-front .ensures) (c6 .put-steps .ensures) (c .before .before .put-header .ensures))))

@@ -11,22 +11,33 @@ put-front-spec =
     tie.close
     (tie.spec
     (λ c κs. search needs)
-    (λ c κs. let s = c .before .before .before .before .before .before .before .before .before in
+    (λ c κs. let c3 = c .before .before .before in
+    let s = c3 .before .before .before .before .before .before in
     let a = s .args in
     let p = s .pre in
-    omega (arith, c .before .before .before .put-u16s .ensures .next, length-u16s (now (a .mesh)), length-u16s (now (a .order))))
-    (λ c κs. let s = c .before .before .before .before .before .before .before .before .before .before .before .before .before in
+    let u = c3 .put-u16s .ensures .next in
+    omega (arith, u, length-u16s (now (a .mesh)), length-u16s (now (a .order))))
+    (λ c κs. let c3 = c .before .before .before in
+    let c7 = c3 .before .before .before .before in
+    let s = c7 .before .before .before .before .before .before in
     let a = s .args in
     let p = s .pre in
-    omega (arith, c .before .before .before .before .before .before .before .put-u16s .ensures .next, c .before .before .before .put-u16s2 .ensures .next, length-u16s (now (a .mesh)), length-u16s (now (a .order))))
-    (λ c κs. let s = c .before .before .before .before .before .before .before .before .before .before .before .before .before .before .before .before .before in
+    let u = c7 .put-u16s .ensures .next in
+    let v = c3 .put-u16s2 .ensures .next in
+    omega (arith, u, v, length-u16s (now (a .mesh)), length-u16s (now (a .order))))
+    (λ c κs. let c3 = c .before .before .before in
+    let c7 = c3 .before .before .before .before in
+    let c11 = c7 .before .before .before .before in
+    let s = c11 .before .before .before .before .before .before in
     let a = s .args in
     let p = s .pre in
-    let u = c .before .before .before .before .before .before .before .before .before .before .before .put-u16s .ensures .next in
-    let v = c .before .before .before .before .before .before .before .put-u16s2 .ensures .next in
-    let w = c .before .before .before .put-u16s3 .ensures .next in
+    let u = c11 .put-u16s .ensures .next in
+    let v = c7 .put-u16s2 .ensures .next in
+    let w = c3 .put-u16s3 .ensures .next in
     (omega (arith, u, v, w, length-u16s (now (a .mesh)), length-u16s (now (a .order)), length-u16s (now (a .sizes))), p .2, p .3))
     (λ c. search needs)
-    (λ c. let d6 = c .before .before .before .before .before .before in
-    let d10 = d6 .before .before .before .before in
-    put-both (d10 .before .before .before .before .put-u16s .ensures) (put-both (d10 .put-u16s2 .ensures) (put-both (d6 .put-u16s3 .ensures) (c .before .before .put-sharding .ensures)))))
+    (λ c. let c6 = c .before .before .before .before .before .before in
+    let c10 = c6 .before .before .before .before in
+    let c14 = c10 .before .before .before .before in
+    put-both (c14 .put-u16s .ensures)
+    (put-both (c10 .put-u16s2 .ensures) (put-both (c6 .put-u16s3 .ensures) (c .before .before .put-sharding .ensures)))))

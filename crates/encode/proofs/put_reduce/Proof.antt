@@ -15,4 +15,6 @@ put-reduce-spec =
     let p = s .pre in
     (omega arith, axes-short (s .args .list) (p .1)))
     (λ c. search needs)
-    (λ c. let s = c .before .before .before .before .before .before .before .before .before in put-both (c .before .before .before .before .before .before .put-byte .ensures) (list-put (s .args .list) (s .pre .1) (c .before .before .put-list .ensures))))
+    (λ c. let c6 = c .before .before .before .before .before .before in
+    let s = c6 .before .before .before in
+    put-both (c6 .put-byte .ensures) (list-put (s .args .list) (s .pre .1) (c .before .before .put-list .ensures))))

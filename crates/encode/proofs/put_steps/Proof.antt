@@ -1,8 +1,7 @@
 use borrow.Author.Needs.{needs}
 use native.Mathlib.Omega.{arith}
-use Prim.Native.Nat.{_-_, _*_, _+_, _≤_}
+use Prim.Native.Nat.{_-_}
 use denote.Ref.{now}
-use Rattle.records.specs.Forms.{recordCount}
 use Rattle.encode.proofs.Puts.{put-length}
 use Rattle.encode.proofs.Given.{Records, record-inside, records-start, records-step, records-done}
 use Rattle.encode.proofs.put_steps.Statement.{statement}
@@ -30,9 +29,11 @@ put-steps-spec =
     (omega arith, p .1, record-inside (now (s .args .steps)) (l .i) h, p .2 (l .i) h))
     (λ c. search needs)
     (λ c. omega arith)
-    (λ c. let s = c .before .before .before .before .before .before .before .before in
-    let l = c .before .before .before .before .before .loop in
-    let h = c .before .before .before .before .loop-test .taken in
+    (λ c. let c4 = c .before .before .before .before in
+    let c5 = c4 .before in
+    let s = c5 .before .before .before in
+    let l = c5 .loop in
+    let h = c4 .loop-test .taken in
     records-step (l .inv) h (s .pre .1) (s .pre .2 (l .i) h) (c .before .before .put-record .ensures))
     (λ c. put-length (records-done (c .before .loop .inv) (omega arith)))
     (λ c. records-done (c .before .loop .inv) (omega arith)))

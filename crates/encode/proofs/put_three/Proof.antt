@@ -11,4 +11,6 @@ put-three-spec =
     (λ c κs. search needs)
     (λ c κs. search needs)
     (λ c. search needs)
-    (λ c. put-both (c .before .before .before .before .before .before .before .before .before .before .put-byte .ensures) (put-both (c .before .before .before .before .before .before .put-byte2 .ensures) (c .before .before .put-byte3 .ensures))))
+    (λ c. let c6 = c .before .before .before .before .before .before in
+    let c10 = c6 .before .before .before .before in
+    put-both (c10 .put-byte .ensures) (put-both (c6 .put-byte2 .ensures) (c .before .before .put-byte3 .ensures))))

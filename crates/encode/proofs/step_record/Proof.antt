@@ -21,12 +21,18 @@ step-record-spec =
     (λ c. search needs)
     (λ c. search needs)
     (λ c. search needs)
-    (λ c. let a = c .before .before .before .before .before .before .before .before .before .before .args in
-    let d3 = c .before .before .before in
+    (λ c. let c3 = c .before .before .before in
+    let c4 = c3 .before in
+    let c5 = c4 .before in
+    let c6 = c5 .before in
+    let c7 = c6 .before in
+    let a = c7 .before .before .before .args in
     λ i. record {
-      kind = d3 .before .before .before .before .kind-of .ensures i;
+      kind = c7 .kind-of .ensures i;
       source = record { 0 = getD (now (a .steps)) (a .at + 1) 0 };
       target = record { 0 = getD (now (a .steps)) (a .at + 2) 0 };
-      lists = record { 0 = d3 .before .before .before .list-record .ensures i ∷ d3 .before .before .list-record2 .ensures i ∷ d3 .before .list-record3 .ensures i ∷ d3 .list-record4 .ensures i ∷ [] };
+      lists = record {
+        0 = c6 .list-record .ensures i ∷ c5 .list-record2 .ensures i ∷ c4 .list-record3 .ensures i ∷ c3 .list-record4 .ensures i ∷ [];
+      };
       list = c .before .before .list-record5 .ensures i;
     }))
