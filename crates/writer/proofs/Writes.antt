@@ -1,0 +1,43 @@
+-- The writer, test by test: what is answered, and what the buffer holds. Assumes nothing.
+use Prim.Native.Nat.{ℕ, _≤_, _<_}
+use mathlib.Core.Path.{_≡_, refl, sym, ap, _∙_}
+use mathlib.Core.List.{List, _++_}
+use borrow.Author.Tests.{le-leb, lt-leb}
+use lib.ListN.{length, drop}
+use Rattle.rules.specs.Limits.{mostBytes}
+use Rattle.rules.specs.Refusals.{Judged, accept, refuse, refusedAs}
+use Rattle.rules.specs.PlanFile.{Plan}
+use Rattle.rules.specs.declared.Refusal.{Refusal}
+use Rattle.records.specs.Records.{Records, fileLength, fileOf}
+use Rattle.records.specs.Writing.{judgeRecords, writeOf, writeOut, writeLeaves}
+
+module _ (r : Records) (out : List ℕ) where
+  -- what the buffer holds after an answer
+  leaves-by : {j : Judged ℕ} → writeOf r out ≡ j → writeLeaves r out ≡ writeOut j r out
+  unfolding writeLeaves
+  leaves-by e = ap (λ (j : Judged ℕ). writeOut j r out) e
+
+  module _ {n k : ℕ} (e : writeOf r out ≡ refuse n k) where
+    pub nothing-written : out ≡ writeLeaves r out
+    nothing-written = sym (leaves-by e)
+
+  pub records-refused : {x : Refusal} → judgeRecords r ≡ refusedAs x → writeOf r out ≡ refusedAs x
+  unfolding writeOf
+  records-refused e = rw e refl
+
+  module _ {p : Plan} (e : judgeRecords r ≡ accept p) {n : ℕ} (l : n ≡ fileLength r) where
+    pub too-long : mostBytes < n → writeOf r out ≡ refuse 2 0
+    unfolding writeOf
+    too-long h = rw (e, sym l, lt-leb n mostBytes h) refl
+
+    module _ (s : n ≤ mostBytes) where
+      pub too-short : length out < n → writeOf r out ≡ refuse 35 0
+      unfolding writeOf
+      too-short h = rw (e, sym l, le-leb n mostBytes s, lt-leb n (length out) h) refl
+
+      pub written : n ≤ length out → writeOf r out ≡ accept n
+      unfolding writeOf
+      written h = rw (e, sym l, le-leb n mostBytes s, le-leb n (length out) h) refl
+
+      pub file-written : n ≤ length out → {out′ : List ℕ} → out′ ≡ fileOf r ++ drop n out → out′ ≡ writeLeaves r out
+      file-written h q = q ∙ sym (leaves-by (written h))

@@ -1,0 +1,2 @@
+-- What the writer's answers stand for.
+pub mod Written
