@@ -6,3 +6,5 @@ pub mod Ends
 pub mod Plain
 pub mod Heads
 pub mod Inside
+pub mod Turns
+pub mod Whole

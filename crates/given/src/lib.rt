@@ -15,10 +15,11 @@ ghost use Rattle.rules.specs.Types.{shardingOf, meshOf, sizesOf};
 ghost use Rattle.start.specs.Start.{meaning};
 ghost use Rattle.blocks.specs.Blocks.{headAt, repeatRead};
 ghost use Rattle.records.specs.Records.{innerOf, outermost};
-ghost use Rattle.records.specs.Writing.{judgeCounts, judgeSharding, judgeOrder, mostRecords};
-ghost use Rattle.records.specs.Forms.{listGiven, dimsGiven, shardingGiven, recordBytes, axisAt, listRecord, stepRecord, givenKind, givenAt, recordCount, stepsGiven};
+ghost use Rattle.records.specs.Writing.{judgeCounts, judgeSharding, judgeOrder, mostRecords, judgeRecords};
+ghost use Rattle.records.specs.Forms.{listGiven, dimsGiven, shardingGiven, recordBytes, axisAt, listRecord, stepRecord, givenKind, givenAt, recordCount, stepsGiven, recordsGiven};
 ghost use Rattle.given.specs.Given.{judgeLimits, Shaped, judgeForm, repeatHere, FewInner, bytesGiven, placeGiven};
 ghost use Rattle.given.specs.Given.{plainGiven, repeatGiven, itemGiven, RecordsTell, Judging, Closing, closed};
+ghost use Rattle.given.specs.Given.{verdictOf, judgeShape, outermostGiven, judgeRest};
 use blocks::RepeatRead;
 use blocks::same_sharding;
 use judge::judge_step;
@@ -504,4 +505,108 @@ pub fn judge_record(
     } else {
         judge_plain(steps, i, mesh, table, sharding)
     }
+}
+
+// So many outermost steps, from the first record on; 43 "after each outermost step for the plan so far".
+fn judge_outermost(
+    steps: &[u8],
+    count: usize,
+    mesh: Mesh,
+    table: Table,
+    start: Sharding,
+) -> Verdict
+    requires { ⌜ Judging (now steps) 0 mesh table start ⌝ }
+    ensures { λ r. ⌜ meaning r ≡ outermostGiven (meshOf mesh) (sizesOf table) (table .rank) (now (steps .entry)) count (shardingOf (table .rank) start) ⌝ }
+{
+    let depth = Step::MOST_DEPTH;
+    let mut after = start;
+    let mut place: usize = 0;
+    let mut ran: usize = 0;
+    let mut n: usize = 0;
+    while n < count {
+        let item = judge_record(steps, place, depth, mesh, table, after);
+        let next = item.next;
+        let Next::At(end) = next else {
+            return Verdict::Refused(next.refusal());
+        };
+        ran = ran + item.runs;
+        if Step::MOST_RUN < ran {
+            return refused(Reason::TooManyRun, (place + 1) as u16);
+        }
+        place = end;
+        after = item.sharding;
+        n += 1;
+    }
+    Verdict::Fine
+}
+
+// The starting sharding, then the records, of which so many stand in no block. A step number has 16 bits: more records get 2.
+fn judge_rest(
+    steps: &[u8],
+    count: usize,
+    mesh: Mesh,
+    table: Table,
+    start: Sharding,
+) -> Verdict
+    requires { ⌜ Shaped mesh table ⌝ }
+    ensures { λ r. ⌜ meaning r ≡ judgeRest (meshOf mesh) (sizesOf table) (table .rank) start (now (steps .entry)) count ⌝ }
+{
+    let sharding = judge_sharding(start, mesh, table);
+    let Verdict::Fine = sharding else {
+        return sharding;
+    };
+    if 65535 < steps.len() / 38 {
+        return refused(Reason::FileTooLong, 0);
+    }
+    judge_outermost(steps, count, mesh, table, start)
+}
+
+// Mesh, order and table, with so many outermost steps: 5, 10, 11, 19, 12, 13.
+pub fn judge_shape<'a>(mesh: &'a [u16], order: &'a [u16], sizes: &'a [u16], steps: usize) -> Verdict
+    ensures { λ r. ⌜ meaning r ≡ judgeShape (now (mesh .entry)) (now (order .entry)) (now (sizes .entry)) steps ⌝ }
+{
+    let limits = judge_limits(mesh.len(), sizes.len(), steps);
+    let Verdict::Fine = limits else {
+        return limits;
+    };
+    let sized = judge_sizes(
+        mesh,
+        Device::MOST,
+        Reason::MeshSizeZero,
+        Reason::TooManyDevices,
+    );
+    let Verdict::Fine = sized else {
+        return sized;
+    };
+    let ordered = judge_order(mesh, order);
+    let Verdict::Fine = ordered else {
+        return ordered;
+    };
+    judge_sizes(
+        sizes,
+        Table::MOST,
+        Reason::TensorSizeZero,
+        Reason::TooManyWords,
+    )
+}
+
+// All arguments of a plan, in the check's order; the plan itself is not made.
+pub fn judge_records<'a>(
+    mesh: &'a [u16],
+    order: &'a [u16],
+    sizes: &'a [u16],
+    start: Sharding,
+    steps: &[u8],
+) -> Verdict
+    ensures { λ r. ⌜ meaning r
+        ≡ verdictOf (judgeRecords (recordsGiven (now (mesh .entry)) (now (order .entry)) (now (sizes .entry)) start (now (steps .entry)))) ⌝ }
+{
+    let count = count_outermost(steps);
+    let shape = judge_shape(mesh, order, sizes, count);
+    let Verdict::Fine = shape else {
+        return shape;
+    };
+    let axes = mesh_of(mesh);
+    let table = table_of(sizes);
+    judge_rest(steps, count, axes, table, start)
 }
