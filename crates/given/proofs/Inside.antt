@@ -79,8 +79,8 @@ module _ (mesh sizes : List ℕ) (gs : List Given) (depth : ℕ) where
   within-start count i₀ s₀ e l h o = record {
     most = blocks.shardWords mesh sizes s₀;
     inner = subst (λ (at : ℕ). Inner mesh sizes (stepsBytes gs) depth count (i₀ + 1 + 1) (placeOf gs i₀ + 1 + 2) (blocks.shardWords mesh sizes s₀) s₀ 0
-    (i₀ + 1 + 1) at 0 (blocks.shardWords mesh sizes s₀) s₀) e
-    (inner-start mesh sizes (stepsBytes gs) depth count (i₀ + 1 + 1) (placeOf gs i₀ + 1 + 2) (blocks.shardWords mesh sizes s₀) s₀ l o (omega arith));
+        (i₀ + 1 + 1) at 0 (blocks.shardWords mesh sizes s₀) s₀) e
+        (inner-start mesh sizes (stepsBytes gs) depth count (i₀ + 1 + 1) (placeOf gs i₀ + 1 + 2) (blocks.shardWords mesh sizes s₀) s₀ l o (omega arith));
     inside = omega arith;
     further = omega arith;
   }

@@ -112,10 +112,10 @@ module _ {bytes : List ℕ} {i still found : ℕ} (c : Counting bytes i still fo
     few = omega (arith, c .few, o, at-most-one (eqb still 0));
     near = omega (arith, o, at-most-one (eqb still 0));
     same = λ rank. (let g : Given = givenAt rank bytes (recordBytes * i) in
-    let rest : List Given = drop (i + 1) (stepsGiven rank bytes) in
-    let a : outermostFrom still (drop i (stepsGiven rank bytes)) ≡ one + outermostFrom (still + one + innerOf g - 1) rest =
-    ap (outermostFrom still) (record-here rank bytes i h) ∙ one-more still g rest one o in
-    let b : outermostFrom (still + one + innerOf g - 1) rest ≡ outermostFrom (still + one + inner - 1) rest =
-    ap (λ (k : ℕ). outermostFrom (still + one + k - 1) rest) (sym (e rank)) in
-    omega (arith, c .same rank, a, b));
+        let rest : List Given = drop (i + 1) (stepsGiven rank bytes) in
+        let a : outermostFrom still (drop i (stepsGiven rank bytes)) ≡ one + outermostFrom (still + one + innerOf g - 1) rest =
+        ap (outermostFrom still) (record-here rank bytes i h) ∙ one-more still g rest one o in
+        let b : outermostFrom (still + one + innerOf g - 1) rest ≡ outermostFrom (still + one + inner - 1) rest =
+        ap (λ (k : ℕ). outermostFrom (still + one + k - 1) rest) (sym (e rank)) in
+        omega (arith, c .same rank, a, b));
   }

@@ -43,6 +43,29 @@ use start::judge_start;
 use start::refusal_of;
 use start::refused;
 
+// Step records, by their number.
+pub struct StepRecords(pub usize);
+
+impl StepRecords {
+    // The bytes of a record: kind, source, target, the counts of five lists, and six places for each.
+    pub const BYTES: usize = 38;
+
+    // The most records; a step number has 16 bits.
+    pub const MOST: usize = 65535;
+
+    pub fn bytes() -> usize
+        ensures { λ r. ⌜ r ≡ recordBytes ⌝ }
+    {
+        StepRecords::BYTES
+    }
+
+    pub fn most() -> usize
+        ensures { λ r. ⌜ r ≡ mostRecords ⌝ }
+    {
+        StepRecords::MOST
+    }
+}
+
 // 5: "n, rank or step count outside its limits"; the steps that count are the outermost ones.
 pub fn judge_limits(n: usize, rank: usize, steps: usize) -> Verdict
     ensures { λ r. ⌜ meaning r ≡ judgeLimits n rank steps ⌝ }
@@ -247,7 +270,7 @@ pub fn step_record(steps: &[u8], i: usize) -> Step
     requires { ⌜ i < recordCount (now steps) ⌝ }
     ensures { λ r. ⌜ r ≡ stepRecord (now (steps .entry)) (recordBytes * i) ⌝ }
 {
-    let at = 38 * i;
+    let at = StepRecords::BYTES * i;
     let kind = record_kind(steps[at]);
     let lists = [
         list_record(steps, at, 0),
@@ -270,7 +293,7 @@ fn inner_of(steps: &[u8], i: usize) -> usize
     requires { ⌜ i < recordCount (now steps) ⌝ }
     ensures { λ r. ⌜ (((rank : ℕ) → r ≡ innerOf (givenAt rank (now (steps .entry)) (recordBytes * i)))) × (r ≤ 255) ⌝ }
 {
-    let at = 38 * i;
+    let at = StepRecords::BYTES * i;
     if steps[at] == 9 {
         steps[at + 2] as usize
     } else {
@@ -289,7 +312,7 @@ fn one_if_none(still: usize) -> usize
 pub fn count_outermost(steps: &[u8]) -> usize
     ensures { λ r. ⌜ ((rank : ℕ) → r ≡ outermost (stepsGiven rank (now (steps .entry)))) ⌝ }
 {
-    let count = steps.len() / 38;
+    let count = steps.len() / StepRecords::BYTES;
     let mut still: usize = 0;
     let mut found: usize = 0;
     let mut i: usize = 0;
@@ -307,13 +330,13 @@ pub fn count_outermost(steps: &[u8]) -> usize
 }
 
 // Whether record i is there and is a repeat.
-fn is_repeat(steps: &[u8], i: usize) -> bool
+pub fn is_repeat(steps: &[u8], i: usize) -> bool
     ensures { λ r. ⌜ r ≡ repeatHere (now (steps .entry)) i ⌝ }
 {
-    if steps.len() / 38 <= i {
+    if steps.len() / StepRecords::BYTES <= i {
         return false;
     }
-    steps[38 * i] == 9
+    steps[StepRecords::BYTES * i] == 9
 }
 
 // A record of a plain step before its step is judged: 20, then 8 over its lists.
@@ -363,7 +386,7 @@ fn judge_plain(
     ensures { λ r. ⌜ RecordsTell (table .rank) (shardingOf (table .rank) sharding)
         (plainGiven (meshOf mesh) (sizesOf table) (table .rank) (now (steps .entry)) i (shardingOf (table .rank) sharding)) r ⌝ }
 {
-    if steps.len() / 38 <= i {
+    if steps.len() / StepRecords::BYTES <= i {
         let past = Refusal {
             reason: Reason::SectionPastEnd,
             step: 0,
@@ -396,7 +419,7 @@ fn read_head(steps: &[u8], i: usize, depth: usize) -> RepeatRead
         ≡ headAt depth (i + 1) (bytesGiven rank (now (steps .entry))) (placeGiven rank (now (steps .entry)) i + 1)) ⌝ }
     ensures { λ r. ⌜ FewInner r ⌝ }
 {
-    let at = 38 * i;
+    let at = StepRecords::BYTES * i;
     let step = (i + 1) as u16;
     let count = steps[at + 1];
     let number = steps[at + 2];
@@ -416,7 +439,13 @@ fn read_head(steps: &[u8], i: usize, depth: usize) -> RepeatRead
 }
 
 // The end of the block with number k: the sharding is the one before it, and so many rounds are not too many steps.
-fn close_repeat(k: u16, count: u8, block: RecordsJudged, before: Sharding, rank: usize) -> RecordsJudged
+fn close_repeat(
+    k: u16,
+    count: u8,
+    block: RecordsJudged,
+    before: Sharding,
+    rank: usize,
+) -> RecordsJudged
     requires { ⌜ Closing block rank ⌝ }
     ensures { λ r. ⌜ RecordsTell rank (shardingOf rank before) (closed k count rank before block) r ⌝ }
 {
@@ -508,13 +537,7 @@ pub fn judge_record(
 }
 
 // So many outermost steps, from the first record on; 43 "after each outermost step for the plan so far".
-fn judge_outermost(
-    steps: &[u8],
-    count: usize,
-    mesh: Mesh,
-    table: Table,
-    start: Sharding,
-) -> Verdict
+fn judge_outermost(steps: &[u8], count: usize, mesh: Mesh, table: Table, start: Sharding) -> Verdict
     requires { ⌜ Judging (now steps) 0 mesh table start ⌝ }
     ensures { λ r. ⌜ meaning r ≡ outermostGiven (meshOf mesh) (sizesOf table) (table .rank) (now (steps .entry)) count (shardingOf (table .rank) start) ⌝ }
 {
@@ -541,13 +564,7 @@ fn judge_outermost(
 }
 
 // The starting sharding, then the records, of which so many stand in no block. A step number has 16 bits: more records get 2.
-fn judge_rest(
-    steps: &[u8],
-    count: usize,
-    mesh: Mesh,
-    table: Table,
-    start: Sharding,
-) -> Verdict
+fn judge_rest(steps: &[u8], count: usize, mesh: Mesh, table: Table, start: Sharding) -> Verdict
     requires { ⌜ Shaped mesh table ⌝ }
     ensures { λ r. ⌜ meaning r ≡ judgeRest (meshOf mesh) (sizesOf table) (table .rank) start (now (steps .entry)) count ⌝ }
 {
@@ -555,7 +572,7 @@ fn judge_rest(
     let Verdict::Fine = sharding else {
         return sharding;
     };
-    if 65535 < steps.len() / 38 {
+    if StepRecords::MOST < steps.len() / StepRecords::BYTES {
         return refused(Reason::FileTooLong, 0);
     }
     judge_outermost(steps, count, mesh, table, start)

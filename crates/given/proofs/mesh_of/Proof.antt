@@ -22,6 +22,6 @@ mesh-of-spec =
     let s = p .before .before .before .before in
     let m = now (s .args .sizes) in (
       ap {A = List ℕ} (take (length m)) (λ i. p .before .before .size-or-one .ensures i ∷ p .before .size-or-one2 .ensures i ∷ p .size-or-one3 .ensures i
-      ∷ c .before .before .size-or-one4 .ensures i ∷ c .before .size-or-one5 .ensures i ∷ c .size-or-one6 .ensures i ∷ []) ∙ six-places m (s .pre),
+          ∷ c .before .before .size-or-one4 .ensures i ∷ c .before .size-or-one5 .ensures i ∷ c .size-or-one6 .ensures i ∷ []) ∙ six-places m (s .pre),
       refl,
     )))

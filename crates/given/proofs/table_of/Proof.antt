@@ -20,6 +20,6 @@ table-of-spec =
     let s = p .before .before in
     let m = now (s .args .sizes) in (
       ap {A = List ℕ} (take (length m)) (λ i. p .size-or-one .ensures i ∷ c .before .before .size-or-one2 .ensures i ∷ c .before .size-or-one3 .ensures i
-      ∷ c .size-or-one4 .ensures i ∷ []) ∙ four-places m (s .pre),
+          ∷ c .size-or-one4 .ensures i ∷ []) ∙ four-places m (s .pre),
       refl,
     )))
