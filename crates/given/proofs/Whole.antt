@@ -1,5 +1,5 @@
 -- The whole judgement in its parts (`in-parts`), and what the parts that passed give to the later ones. Assumes nothing.
-use Prim.Native.Nat.{ℕ, _+_, _≤_, _<_}
+use Prim.Native.Nat.{ℕ, _≤_, _<_}
 use mathlib.Core.Path.{_≡_, refl, sym, ap, _∙_, subst}
 use mathlib.Core.Bool.{Bool, true}
 use mathlib.Core.List.{List, [], _∷_}
@@ -7,23 +7,23 @@ use native.Mathlib.Omega.{arith}
 use borrow.Author.Tests.{le-leb, lt-leb}
 use lib.ListN.{length}
 use lib.Dec.{leb, leb→le}
-use Rattle.rules.specs.Lists.{product}
 use Rattle.rules.specs.Limits.{mostAxes, mostDims, mostDevices, mostWords, mostSteps}
 use Rattle.rules.specs.Mesh.{devices, OnMesh}
 use Rattle.rules.specs.Refusals.{Judged, accept, refuse, _>>=_, _>>_, need}
 use Rattle.rules.specs.Sharding.{Sharding, IsSharding}
-use Rattle.rules.specs.PlanFile.{axesAllowed, rankAllowed, judgeSizes, judgeStart, Outermost, outermostAt, Plan}
-use Rattle.rules.specs.Types.{Sized, shardingOf, meshOf, sizesOf, WithinPlaces}
+use Rattle.rules.specs.PlanFile.{axesAllowed, rankAllowed, judgeSizes, judgeStart, outermostAt}
+use Rattle.rules.specs.Types.{Sized, shardingOf, meshOf, sizesOf}
 use Rattle.rules.specs.declared.Mesh.{Mesh}
 use Rattle.rules.specs.declared.Sharding as code
 use Rattle.rules.specs.declared.Table.{Table}
 use Rattle.rules.proofs.Lists.{T-and}
-use Rattle.rules.proofs.Judging.{need-inv, need-true, then-inv}
+use Rattle.rules.proofs.Judging.{need-inv, then-inv}
 use Rattle.rules.proofs.Accepted.{SizesFacts, sizes-facts, start-sharding}
-use Rattle.records.specs.Records.{Records, outermost, stepsBytes}
-use Rattle.records.specs.Writing.{judgeCounts, judgeSharding, judgeOrder, judgeOpening, mostRecords, orderOf, judgeRecords}
+use Rattle.records.specs.Records.{outermost, stepsBytes}
+use Rattle.records.specs.Writing.{judgeCounts, judgeSharding, judgeOrder, judgeOpening, mostRecords, judgeRecords}
 use Rattle.records.specs.Forms.{listGiven, dimsGiven, shardingGiven, recordCount, stepsGiven, recordsGiven}
-use Rattle.given.specs.Given.{judgeLimits, Shaped, verdictOf, judgeShape, outermostGiven, judgeRest}
+use Rattle.given.specs.Given.{judgeLimits, meshFrom, tableFrom, Shaped, verdictOf, judgeShape, outermostGiven, judgeRest}
+use Rattle.given.proofs.Sizes.{mesh-is, table-is}
 use Rattle.given.proofs.Outside.{given-count}
 use Rattle.given.proofs.Counts.{sharding-fits}
 
@@ -54,20 +54,22 @@ module _ (mesh : List ℕ) (rank steps : ℕ) (l : judgeLimits (length mesh) ran
       record { least = f .each-pos; most = f .each-few }
 
 module _ (mesh order sizes : List ℕ) (steps : ℕ) (e : judgeShape mesh order sizes steps ≡ accept tt) where
-  pub axes-few : length mesh ≤ mostAxes
+  axes-few : length mesh ≤ mostAxes
   axes-few =
       let a = then-inv (judgeLimits (length mesh) (length sizes) steps) _ tt e in
       let b = then-inv (judgeSizes mostDevices 10 11 1 mesh) _ tt (a .1) in
       on-mesh mesh (length sizes) steps (a .0 .1) (b .0 .1) .axes-few
 
-  pub dims-few : length sizes ≤ mostDims
+  dims-few : length sizes ≤ mostDims
   dims-few =
       let a = then-inv (judgeLimits (length mesh) (length sizes) steps) _ tt e in
       let b = then-inv (judgeSizes mostDevices 10 11 1 mesh) _ tt (a .1) in
       rank-few mesh (length sizes) steps (a .0 .1) (b .0 .1)
 
-  pub shaped : (m : Mesh) (t : Table) → (meshOf m ≡ mesh) × (m .n ≡ length mesh) → (sizesOf t ≡ sizes) × (t .rank ≡ length sizes) → Shaped m t
-  shaped m t p q =
+  pub shaped : (m : Mesh) (t : Table) → m ≡ meshFrom mesh → t ≡ tableFrom sizes → Shaped m t
+  shaped m t m-is t-is =
+      let p = mesh-is mesh axes-few m-is in
+      let q = table-is sizes dims-few t-is in
       let a = then-inv (judgeLimits (length mesh) (length sizes) steps) _ tt e in
       let b = then-inv (judgeSizes mostDevices 10 11 1 mesh) _ tt (a .1) in
       record {
@@ -140,6 +142,9 @@ module _ (mesh order sizes : List ℕ) (start : code.Sharding) (steps : List ℕ
       (outermostGiven mesh sizes (length sizes) steps (sym c i) (shardingGiven (length sizes) start)))))
 
   -- the rest, of the code's mesh and table
-  pub rest-of : (m : Mesh) (t : Table) → (meshOf m ≡ mesh) × (m .n ≡ length mesh) → (sizesOf t ≡ sizes) × (t .rank ≡ length sizes)
+  pub rest-of : judgeShape mesh order sizes count ≡ accept tt → (m : Mesh) (t : Table) → m ≡ meshFrom mesh → t ≡ tableFrom sizes
       → judgeRest (meshOf m) (sizesOf t) (t .rank) start steps count ≡ judgeRest mesh sizes (length sizes) start steps count
-  rest-of m t p q = λ i. judgeRest (p .0 i) (q .0 i) (q .1 i) start steps count
+  rest-of e m t m-is t-is =
+      let p = mesh-is mesh (axes-few mesh order sizes count e) m-is in
+      let q = table-is sizes (dims-few mesh order sizes count e) t-is in
+      λ i. judgeRest (p .0 i) (q .0 i) (q .1 i) start steps count

@@ -8,7 +8,7 @@ use lib.ListN.{length, getD, take}
 use lib.Dec.{ltb, leb, eqb}
 use Rattle.rules.specs.Limits.{mostDims, mostDevices, mostWords, mostSteps, mostRun}
 use Rattle.rules.specs.Mesh.{devices}
-use Rattle.rules.specs.Refusals.{Judged, accept, refuse, _>>=_, _>>_, need, needAt}
+use Rattle.rules.specs.Refusals.{Judged, accept, refuse, _>>_, need, needAt}
 use Rattle.rules.specs.Sharding.{Sharding, IsSharding}
 use Rattle.rules.specs.Collectives as rules
 use Rattle.rules.specs.PlanFile.{axesAllowed, rankAllowed, judgeSizes, Read, plain, repeat, StepsRead, plainAt, sameSharding, repeatAt, itemAt, outermostAt}
@@ -34,6 +34,13 @@ judgeLimits n rank steps = do
   need (axesAllowed n) 5
   need (rankAllowed rank) 5
   need (leb steps mostSteps) 5
+
+-- the mesh and the table of so many sizes; a place past the last holds 1
+abbrev pub meshFrom : List ℕ → Mesh
+meshFrom l = record { n = length l; sizes = getD l 0 1 ∷ getD l 1 1 ∷ getD l 2 1 ∷ getD l 3 1 ∷ getD l 4 1 ∷ getD l 5 1 ∷ [] }
+
+abbrev pub tableFrom : List ℕ → Table
+tableFrom l = record { rank = length l; sizes = getD l 0 1 ∷ getD l 1 1 ∷ getD l 2 1 ∷ getD l 3 1 ∷ [] }
 
 -- a mesh and a table within their places, with as many sizes as they say
 pub record Shaped (mesh : Mesh) (table : Table) : Type 0 where

@@ -7,7 +7,7 @@ ghost use Prim.Native.Nat.{ℕ, _+_, _*_, _≤_, _<_};
 ghost use lib.ListN.{length, getD};
 ghost use lib.Dec.{leb, eqb};
 ghost use Rattle.rules.specs.Lists.{pick};
-ghost use Rattle.rules.specs.Limits.{mostAxes, mostDevices, mostDims, mostWords};
+ghost use Rattle.rules.specs.Limits.{mostAxes, mostDims, mostWords};
 ghost use Rattle.rules.specs.Mesh.{devices as devicesOf, OnMesh};
 ghost use Rattle.rules.specs.Refusals.{need, numberOf, refusedAs};
 ghost use Rattle.rules.specs.PlanFile.{kindOf, judgeSizes};
@@ -17,7 +17,7 @@ ghost use Rattle.blocks.specs.Blocks.{headAt, repeatRead};
 ghost use Rattle.records.specs.Records.{innerOf, outermost};
 ghost use Rattle.records.specs.Writing.{judgeCounts, judgeSharding, judgeOrder, mostRecords, judgeRecords};
 ghost use Rattle.records.specs.Forms.{listGiven, dimsGiven, shardingGiven, recordBytes, axisAt, listRecord, stepRecord, givenKind, givenAt, recordCount, stepsGiven, recordsGiven};
-ghost use Rattle.given.specs.Given.{judgeLimits, Shaped, judgeForm, repeatHere, FewInner, bytesGiven, placeGiven};
+ghost use Rattle.given.specs.Given.{judgeLimits, meshFrom, tableFrom, Shaped, judgeForm, repeatHere, FewInner, bytesGiven, placeGiven};
 ghost use Rattle.given.specs.Given.{plainGiven, repeatGiven, itemGiven, RecordsTell, Judging, Closing, closed};
 ghost use Rattle.given.specs.Given.{verdictOf, judgeShape, outermostGiven, judgeRest};
 use blocks::RepeatRead;
@@ -133,8 +133,7 @@ fn size_or_one(sizes: &[u16], i: usize) -> u16
 
 // The mesh of these sizes.
 pub fn mesh_of(sizes: &[u16]) -> Mesh
-    requires { ⌜ length (now sizes) ≤ mostAxes ⌝ }
-    ensures { λ r. ⌜ (meshOf r ≡ now (sizes .entry)) × (r .n ≡ length (now (sizes .entry))) ⌝ }
+    ensures { λ r. ⌜ r ≡ meshFrom (now (sizes .entry)) ⌝ }
 {
     let n = sizes.len();
     let places = [
@@ -150,8 +149,7 @@ pub fn mesh_of(sizes: &[u16]) -> Mesh
 
 // The table of these sizes.
 pub fn table_of(sizes: &[u16]) -> Table
-    requires { ⌜ length (now sizes) ≤ mostDims ⌝ }
-    ensures { λ r. ⌜ (sizesOf r ≡ now (sizes .entry)) × (r .rank ≡ length (now (sizes .entry))) ⌝ }
+    ensures { λ r. ⌜ r ≡ tableFrom (now (sizes .entry)) ⌝ }
 {
     let rank = sizes.len();
     let places = [
