@@ -19,7 +19,7 @@ use Rattle.rules.specs.declared.DimLists.{DimLists}
 use Rattle.rules.specs.declared.Refusal.{Refusal}
 use Rattle.rules.specs.declared.Sharding as code
 use Rattle.rules.proofs.Lists.{T?}
-use Rattle.rules.proofs.Judging.{need-inv, then-inv}
+use Rattle.rules.proofs.Judging.{need-inv}
 use Rattle.rules.proofs.Types.{axes-length}
 use Rattle.axes.proofs.Going.{Going, ahead, onward, finish}
 use Rattle.start.specs.Start.{meaning}

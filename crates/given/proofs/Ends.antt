@@ -5,10 +5,9 @@ use mathlib.Core.Bool.{Bool, true, false}
 use mathlib.Core.List.{List, [], _∷_, _++_}
 use native.Mathlib.Omega.{arith}
 use lib.ListN.{length, drop, length-drop, length-append}
-use Rattle.rules.specs.Refusals.{Judged, accept, refuse, _>>=_, _>>_}
+use Rattle.rules.specs.Refusals.{accept}
 use Rattle.rules.specs.Sharding.{Sharding}
-use Rattle.rules.specs.Collectives.{Step}
-use Rattle.rules.specs.PlanFile.{judgeStep, plain, repeat, StepsRead, JudgesStep, JudgesSteps, stepsAt, plainAt, repeatAt, isRepeat, tooDeep, itemAt}
+use Rattle.rules.specs.PlanFile.{judgeStep, plain, repeat, StepsRead, JudgesStep, JudgesSteps, stepsAt, plainAt, repeatAt, isRepeat, itemAt}
 use Rattle.rules.proofs.Judging.{never, accept-inj, then-inv, bind-inv}
 use Rattle.rules.proofs.Repeats.{IsRepeat, repeat-inv}
 use Rattle.blocks.specs.Blocks.{innerAt}

@@ -10,7 +10,7 @@ use lib.Dec.{leb}
 use Rattle.rules.specs.Lists.{flat}
 use Rattle.rules.specs.Limits.{mostRun}
 use Rattle.rules.specs.Sharding.{Sharding, IsSharding}
-use Rattle.rules.specs.Refusals.{Judged, accept, refuse, _>>=_, _>>_, needAt}
+use Rattle.rules.specs.Refusals.{Judged, accept, refuse, _>>_, needAt}
 use Rattle.rules.specs.PlanFile.{Read, repeat, StepsRead, stepsAt, sameSharding, repeatAt, itemAt}
 use Rattle.rules.specs.Types.{shardingOf}
 use Rattle.rules.specs.declared.Sharding as code
@@ -22,7 +22,7 @@ use Rattle.reader.specs.declared.Next.the-variants as next
 use Rattle.blocks.specs.Blocks as blocks
 use Rattle.blocks.proofs.Plain as blocks-plain
 use Rattle.blocks.proofs.Inner.{Inner, inner-start, inner-stops, inner-done, inner-step, runs-few}
-use Rattle.blocks.proofs.Items.{ended, innerSteps, by-inner, head-halts, inner-halts}
+use Rattle.blocks.proofs.Items.{innerSteps, by-inner, head-halts, inner-halts}
 use Rattle.records.specs.Records.{Given, stepsBytes}
 use Rattle.records.specs.RoundTrip.{AllRanked}
 use Rattle.given.specs.Given.{placeOf, Summary, summaryOf, summarized, RecordsTell, Closing, closed}

@@ -2,8 +2,9 @@
 pub mod Sizes
 pub mod Counts
 pub mod Outside
-pub mod Shapes
 pub mod Ends
 pub mod Plain
 pub mod Heads
 pub mod Inside
+pub mod Turns
+pub mod Whole

@@ -7,7 +7,7 @@ use native.Mathlib.Omega.{arith}
 use borrow.Author.Tests.{ne-eqb}
 use lib.ListN.{length, getD, drop, length-drop, drop-of-length-le}
 use lib.Dec.{eqb}
-use Rattle.rules.specs.Lists.{tab, pick}
+use Rattle.rules.specs.Lists.{pick}
 use Rattle.rules.specs.PlanFile.{kindOf}
 use Rattle.rules.specs.declared.Kind.{Kind}
 use Rattle.rules.specs.declared.Kind.the-variants.{AllSlice, AllGather, AllReduce, AllToAll, Unknown}

@@ -1,33 +1,31 @@
 -- A record by itself: what it gives, repeat or plain step, and a plain one judged (`form-stops`, `step-stops`, `plain-is`). Assumes nothing.
 use Prim.Native.Nat.{ℕ, zero, suc, _+_, _*_, _≤_, _<_}
 use mathlib.Core.Path.{_≡_, refl, sym, ap, _∙_, subst}
-use mathlib.Core.Bool.{Bool, true, false, _&&_}
+use mathlib.Core.Bool.{Bool, true, false}
 use mathlib.Core.List.{List, [], _∷_, _++_}
 use native.Mathlib.Omega.{arith}
 use native.Mathlib.Decide.{decLt}
 use borrow.Author.Tests.{lt-ltb, le-ltb}
-use lib.ListN.{length, getD, take, drop}
-use lib.Dec.{T, ltb, leb, eqb, ltb→lt}
+use lib.ListN.{length, getD, drop}
+use lib.Dec.{T, ltb, eqb, ltb→lt}
 use Rattle.rules.specs.Lists.{tab, pick}
 use Rattle.rules.specs.Limits.{mostAxes, mostDims}
-use Rattle.rules.specs.Refusals.{Judged, accept, refuse, _>>=_, _>>_, need}
+use Rattle.rules.specs.Refusals.{Judged, accept, refuse, _>>=_, _>>_}
 use Rattle.rules.specs.Sharding.{Sharding}
 use Rattle.rules.specs.Collectives as rules
 use Rattle.rules.specs.PlanFile.{kindOf, plain, repeat, StepsRead, judgeStep, plainAt, isRepeat}
-use Rattle.rules.specs.Types.{axesOf, dimsOf, ofKind, stepOf}
+use Rattle.rules.specs.Types.{ofKind, stepOf}
 use Rattle.rules.specs.declared.Kind.{Kind}
 use Rattle.rules.specs.declared.Kind.the-variants.{AllSlice, AllGather, AllReduce, AllToAll, Unknown}
 use Rattle.rules.specs.declared.Step.{Step}
-use Rattle.rules.proofs.Lists.{T→true, T-and}
-use Rattle.rules.proofs.Judging.{never}
-use Rattle.records.specs.Records.{Given, known, unknown, stepsBytes}
-use Rattle.records.specs.Writing.{judgeCounts}
+use Rattle.rules.proofs.Lists.{T-and}
+use Rattle.records.specs.Records.{Given, known, stepsBytes}
 use Rattle.records.specs.Forms.{listGiven, dimsGiven, recordBytes, recordCount, stepRecord, givenKind, givenAt, stepsGiven}
-use Rattle.records.specs.RoundTrip.{RankedStep, Ranked, AllRanked}
-use Rattle.records.proofs.Records.{read-none, read-plain, read-unknown, read-repeat}
-use Rattle.given.specs.Given.{listsIn, judgeForm, repeatHere, placeOf, Summary, summarized}
-use Rattle.given.proofs.Counts.{list-fits, lists-fit, counts-inv, counts-one, dims-length}
-use Rattle.given.proofs.Outside.{given-count, record-here, record-none}
+use Rattle.records.specs.RoundTrip.{Ranked, AllRanked}
+use Rattle.records.proofs.Records.{read-none, read-plain, read-unknown}
+use Rattle.given.specs.Given.{judgeForm, repeatHere, placeOf, summarized}
+use Rattle.given.proofs.Counts.{list-fits, lists-fit, counts-inv, dims-length}
+use Rattle.given.proofs.Outside.{record-here, record-none}
 
 -- ---- what a record gives
 
@@ -114,9 +112,6 @@ step-fits n k rank AllToAll t h e =
     let p = counts-inv n (listGiven (t .list)) [] e in
     ap (λ (l : List ℕ). rules.allToAll (t .source .0) (t .target .0) l) (list-fits (t .list) (omega (arith, p .0)))
 step-fits n k rank Unknown t h e = refl
-
-pub form-one : (n k : ℕ) (L : List ℕ) → judgeForm n k (known (plain (rules.allReduce L))) ≡ need (leb (length L) n) 8
-form-one n k L = counts-one n L
 
 module _ (mesh sizes : List ℕ) (rank : ℕ) (rank-is : length sizes ≡ rank) (few : rank ≤ mostDims) (steps : List ℕ) (i : ℕ) where
   abbrev gs : List Given

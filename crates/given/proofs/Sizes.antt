@@ -10,8 +10,12 @@ use borrow.Author.Tests.{lt-ltb, le-ltb, le-leb, lt-leb}
 use lib.ListN.{length, getD, take, drop, drop-of-length-le}
 use Rattle.rules.specs.Refusals.{accept, refuse, need}
 use Rattle.rules.specs.PlanFile.{judgeSizes, orderAllowed}
+use Rattle.rules.specs.Types.{meshOf, sizesOf}
+use Rattle.rules.specs.declared.Mesh.{Mesh}
+use Rattle.rules.specs.declared.Table.{Table}
 use Rattle.axes.proofs.Going.{drop-at}
 use Rattle.records.specs.Writing.{judgeOrder}
+use Rattle.given.specs.Given.{meshFrom, tableFrom}
 
 pub record Sizing (most zero over : ℕ) (sizes : List ℕ) (product i : ℕ) : Type 0 where
   pub small : product ≤ most
@@ -40,7 +44,7 @@ sizes-pass {sizes} {i = i} g h = g .same ∙ rw (drop-of-length-le sizes {i = i}
 
 -- ---- sizes in the places of an array
 
-pub six-places : (l : List ℕ) → length l ≤ 6
+six-places : (l : List ℕ) → length l ≤ 6
     → take (length l) (getD l 0 1 ∷ getD l 1 1 ∷ getD l 2 1 ∷ getD l 3 1 ∷ getD l 4 1 ∷ getD l 5 1 ∷ []) ≡ l
 six-places [] h = refl
 six-places (a ∷ []) h = refl
@@ -51,13 +55,19 @@ six-places (a ∷ b ∷ c ∷ d ∷ e ∷ []) h = refl
 six-places (a ∷ b ∷ c ∷ d ∷ e ∷ f ∷ []) h = refl
 six-places (a ∷ b ∷ c ∷ d ∷ e ∷ f ∷ g ∷ l) h = absurd (omega arith)
 
-pub four-places : (l : List ℕ) → length l ≤ 4 → take (length l) (getD l 0 1 ∷ getD l 1 1 ∷ getD l 2 1 ∷ getD l 3 1 ∷ []) ≡ l
+four-places : (l : List ℕ) → length l ≤ 4 → take (length l) (getD l 0 1 ∷ getD l 1 1 ∷ getD l 2 1 ∷ getD l 3 1 ∷ []) ≡ l
 four-places [] h = refl
 four-places (a ∷ []) h = refl
 four-places (a ∷ b ∷ []) h = refl
 four-places (a ∷ b ∷ c ∷ []) h = refl
 four-places (a ∷ b ∷ c ∷ d ∷ []) h = refl
 four-places (a ∷ b ∷ c ∷ d ∷ e ∷ l) h = absurd (omega arith)
+
+pub mesh-is : {m : Mesh} (l : List ℕ) → length l ≤ 6 → m ≡ meshFrom l → (meshOf m ≡ l) × (m .n ≡ length l)
+mesh-is l h e = (ap meshOf e ∙ six-places l h, ap (λ (m : Mesh). m .n) e)
+
+pub table-is : {t : Table} (l : List ℕ) → length l ≤ 4 → t ≡ tableFrom l → (sizesOf t ≡ l) × (t .rank ≡ length l)
+table-is l h e = (ap sizesOf e ∙ four-places l h, ap (λ (t : Table). t .rank) e)
 
 -- ---- an order
 

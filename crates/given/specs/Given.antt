@@ -6,12 +6,12 @@ use mathlib.Core.Bool.{Bool, true, _&&_}
 use mathlib.Core.List.{List, [], _∷_}
 use lib.ListN.{length, getD, take}
 use lib.Dec.{ltb, leb, eqb}
+use Rattle.rules.specs.Limits.{mostDims, mostDevices, mostWords, mostSteps, mostRun}
 use Rattle.rules.specs.Mesh.{devices}
-use Rattle.rules.specs.Limits.{mostDevices, mostDims, mostWords, mostSteps, mostRun}
-use Rattle.rules.specs.Refusals.{Judged, accept, refuse, _>>=_, _>>_, need, needAt}
+use Rattle.rules.specs.Refusals.{Judged, accept, refuse, _>>_, need, needAt}
 use Rattle.rules.specs.Sharding.{Sharding, IsSharding}
 use Rattle.rules.specs.Collectives as rules
-use Rattle.rules.specs.PlanFile.{axesAllowed, rankAllowed, judgeSizes, Read, plain, repeat, StepsRead, plainAt, sameSharding, repeatAt, itemAt}
+use Rattle.rules.specs.PlanFile.{axesAllowed, rankAllowed, judgeSizes, Read, plain, repeat, StepsRead, plainAt, sameSharding, repeatAt, itemAt, outermostAt}
 use Rattle.rules.specs.Types.{shardingOf, meshOf, sizesOf, WithinPlaces}
 use Rattle.rules.specs.declared.Mesh.{Mesh}
 use Rattle.rules.specs.declared.Sharding as code
@@ -22,8 +22,8 @@ use Rattle.blocks.specs.Blocks.{innerAt}
 use Rattle.blocks.specs.declared.RepeatRead.{RepeatRead}
 use Rattle.blocks.specs.declared.RepeatRead.the-variants as read
 use Rattle.records.specs.Records.{Given, known, unknown, stepsBytes}
-use Rattle.records.specs.Writing.{judgeCounts, judgeOrder, mostRecords}
-use Rattle.records.specs.Forms.{recordBytes, recordCount, stepsGiven}
+use Rattle.records.specs.Writing.{judgeCounts, judgeSharding, judgeOrder, mostRecords}
+use Rattle.records.specs.Forms.{shardingGiven, recordBytes, recordCount, stepsGiven}
 use Rattle.given.specs.declared.RecordsJudged.{RecordsJudged}
 
 -- ---- what stands before the steps
@@ -35,14 +35,12 @@ judgeLimits n rank steps = do
   need (rankAllowed rank) 5
   need (leb steps mostSteps) 5
 
--- 5, 10, 11, 19, 12, 13: what stands before the shardings
-unfoldable pub judgeShape : (mesh order sizes : List ℕ) → (outermost : ℕ) → Judged (Unit {0})
-unfolding judgeSizes judgeOrder
-judgeShape mesh order sizes outermost = do
-  judgeLimits (length mesh) (length sizes) outermost
-  judgeSizes mostDevices 10 11 1 mesh
-  judgeOrder (devices mesh) order
-  judgeSizes mostWords 12 13 1 sizes
+-- the mesh and the table of so many sizes; a place past the last holds 1
+abbrev pub meshFrom : List ℕ → Mesh
+meshFrom l = record { n = length l; sizes = getD l 0 1 ∷ getD l 1 1 ∷ getD l 2 1 ∷ getD l 3 1 ∷ getD l 4 1 ∷ getD l 5 1 ∷ [] }
+
+abbrev pub tableFrom : List ℕ → Table
+tableFrom l = record { rank = length l; sizes = getD l 0 1 ∷ getD l 1 1 ∷ getD l 2 1 ∷ getD l 3 1 ∷ [] }
 
 -- a mesh and a table within their places, with as many sizes as they say
 pub record Shaped (mesh : Mesh) (table : Table) : Type 0 where
@@ -138,3 +136,29 @@ closed k count rank before block = do
   needAt k (sameSharding (shardingOf rank (block .sharding)) (shardingOf rank before)) 41
   needAt k (leb (count * block .runs) mostRun) 43
   reading (block .next) (record { runs = count * block .runs; sharding = shardingOf rank (block .sharding) })
+
+-- ---- the whole
+
+-- the verdict alone
+abbrev pub verdictOf : {A : Type 0} → Judged A → Judged (Unit {0})
+verdictOf (accept a) = accept tt
+verdictOf (refuse n k) = refuse n k
+
+-- mesh, order and table, with so many outermost steps: 5, 10, 11, 19, 12, 13
+abbrev pub judgeShape : (mesh order sizes : List ℕ) → (steps : ℕ) → Judged (Unit {0})
+judgeShape mesh order sizes steps = do
+  judgeLimits (length mesh) (length sizes) steps
+  judgeSizes mostDevices 10 11 1 mesh
+  judgeOrder (devices mesh) order
+  judgeSizes mostWords 12 13 1 sizes
+
+-- so many outermost steps, from the first record on
+abbrev pub outermostGiven : (mesh sizes : List ℕ) → (rank : ℕ) → List ℕ → (count : ℕ) → Sharding → Judged (Unit {0})
+outermostGiven mesh sizes rank steps count s = verdictOf (outermostAt true mesh sizes (bytesGiven rank steps) 0 count 1 0 s)
+
+-- the sharding, then the records
+abbrev pub judgeRest : (mesh sizes : List ℕ) → (rank : ℕ) → code.Sharding → List ℕ → (count : ℕ) → Judged (Unit {0})
+judgeRest mesh sizes rank start steps count = do
+  judgeSharding mesh sizes (shardingGiven rank start)
+  need (leb (recordCount steps) mostRecords) 2
+  outermostGiven mesh sizes rank steps count (shardingGiven rank start)

@@ -7,7 +7,7 @@ ghost use Prim.Native.Nat.{ℕ, _+_, _*_, _≤_, _<_};
 ghost use lib.ListN.{length, getD};
 ghost use lib.Dec.{leb, eqb};
 ghost use Rattle.rules.specs.Lists.{pick};
-ghost use Rattle.rules.specs.Limits.{mostAxes, mostDevices, mostDims, mostWords};
+ghost use Rattle.rules.specs.Limits.{mostAxes, mostDims, mostWords};
 ghost use Rattle.rules.specs.Mesh.{devices as devicesOf, OnMesh};
 ghost use Rattle.rules.specs.Refusals.{need, numberOf, refusedAs};
 ghost use Rattle.rules.specs.PlanFile.{kindOf, judgeSizes};
@@ -15,10 +15,11 @@ ghost use Rattle.rules.specs.Types.{shardingOf, meshOf, sizesOf};
 ghost use Rattle.start.specs.Start.{meaning};
 ghost use Rattle.blocks.specs.Blocks.{headAt, repeatRead};
 ghost use Rattle.records.specs.Records.{innerOf, outermost};
-ghost use Rattle.records.specs.Writing.{judgeCounts, judgeSharding, judgeOrder, mostRecords};
-ghost use Rattle.records.specs.Forms.{listGiven, dimsGiven, shardingGiven, recordBytes, axisAt, listRecord, stepRecord, givenKind, givenAt, recordCount, stepsGiven};
-ghost use Rattle.given.specs.Given.{judgeLimits, judgeShape, Shaped, judgeForm, repeatHere, FewInner, bytesGiven, placeGiven};
+ghost use Rattle.records.specs.Writing.{judgeCounts, judgeSharding, judgeOrder, mostRecords, judgeRecords};
+ghost use Rattle.records.specs.Forms.{listGiven, dimsGiven, shardingGiven, recordBytes, axisAt, listRecord, stepRecord, givenKind, givenAt, recordCount, stepsGiven, recordsGiven};
+ghost use Rattle.given.specs.Given.{judgeLimits, meshFrom, tableFrom, Shaped, judgeForm, repeatHere, FewInner, bytesGiven, placeGiven};
 ghost use Rattle.given.specs.Given.{plainGiven, repeatGiven, itemGiven, RecordsTell, Judging, Closing, closed};
+ghost use Rattle.given.specs.Given.{verdictOf, judgeShape, outermostGiven, judgeRest};
 use blocks::RepeatRead;
 use blocks::same_sharding;
 use judge::judge_step;
@@ -41,6 +42,29 @@ use start::Verdict;
 use start::judge_start;
 use start::refusal_of;
 use start::refused;
+
+// Step records, by their number.
+pub struct StepRecords(pub usize);
+
+impl StepRecords {
+    // The bytes of a record: kind, source, target, the counts of five lists, and six places for each.
+    pub const BYTES: usize = 38;
+
+    // The most records; a step number has 16 bits.
+    pub const MOST: usize = 65535;
+
+    pub fn bytes() -> usize
+        ensures { λ r. ⌜ r ≡ recordBytes ⌝ }
+    {
+        StepRecords::BYTES
+    }
+
+    pub fn most() -> usize
+        ensures { λ r. ⌜ r ≡ mostRecords ⌝ }
+    {
+        StepRecords::MOST
+    }
+}
 
 // 5: "n, rank or step count outside its limits"; the steps that count are the outermost ones.
 pub fn judge_limits(n: usize, rank: usize, steps: usize) -> Verdict
@@ -100,40 +124,6 @@ pub fn judge_order(mesh: &[u16], order: &[u16]) -> Verdict
     Verdict::Fine
 }
 
-// What stands before the shardings: 5, 10, 11, 19, 12, 13.
-pub fn judge_shape<'a>(
-    mesh: &'a [u16],
-    order: &'a [u16],
-    table: &'a [u16],
-    outermost: usize,
-) -> Verdict
-    ensures { λ r. ⌜ meaning r ≡ judgeShape (now (mesh .entry)) (now (order .entry)) (now (table .entry)) outermost ⌝ }
-{
-    let limits = judge_limits(mesh.len(), table.len(), outermost);
-    let Verdict::Fine = limits else {
-        return limits;
-    };
-    let sizes = judge_sizes(
-        mesh,
-        Device::MOST,
-        Reason::MeshSizeZero,
-        Reason::TooManyDevices,
-    );
-    let Verdict::Fine = sizes else {
-        return sizes;
-    };
-    let ordered = judge_order(mesh, order);
-    let Verdict::Fine = ordered else {
-        return ordered;
-    };
-    judge_sizes(
-        table,
-        Table::MOST,
-        Reason::TensorSizeZero,
-        Reason::TooManyWords,
-    )
-}
-
 // The size at a place, 1 past the last.
 fn size_or_one(sizes: &[u16], i: usize) -> u16
     ensures { λ r. ⌜ r ≡ getD (now (sizes .entry)) i 1 ⌝ }
@@ -143,8 +133,7 @@ fn size_or_one(sizes: &[u16], i: usize) -> u16
 
 // The mesh of these sizes.
 pub fn mesh_of(sizes: &[u16]) -> Mesh
-    requires { ⌜ length (now sizes) ≤ mostAxes ⌝ }
-    ensures { λ r. ⌜ (meshOf r ≡ now (sizes .entry)) × (r .n ≡ length (now (sizes .entry))) ⌝ }
+    ensures { λ r. ⌜ r ≡ meshFrom (now (sizes .entry)) ⌝ }
 {
     let n = sizes.len();
     let places = [
@@ -160,8 +149,7 @@ pub fn mesh_of(sizes: &[u16]) -> Mesh
 
 // The table of these sizes.
 pub fn table_of(sizes: &[u16]) -> Table
-    requires { ⌜ length (now sizes) ≤ mostDims ⌝ }
-    ensures { λ r. ⌜ (sizesOf r ≡ now (sizes .entry)) × (r .rank ≡ length (now (sizes .entry))) ⌝ }
+    ensures { λ r. ⌜ r ≡ tableFrom (now (sizes .entry)) ⌝ }
 {
     let rank = sizes.len();
     let places = [
@@ -280,7 +268,7 @@ pub fn step_record(steps: &[u8], i: usize) -> Step
     requires { ⌜ i < recordCount (now steps) ⌝ }
     ensures { λ r. ⌜ r ≡ stepRecord (now (steps .entry)) (recordBytes * i) ⌝ }
 {
-    let at = 38 * i;
+    let at = StepRecords::BYTES * i;
     let kind = record_kind(steps[at]);
     let lists = [
         list_record(steps, at, 0),
@@ -303,7 +291,7 @@ fn inner_of(steps: &[u8], i: usize) -> usize
     requires { ⌜ i < recordCount (now steps) ⌝ }
     ensures { λ r. ⌜ (((rank : ℕ) → r ≡ innerOf (givenAt rank (now (steps .entry)) (recordBytes * i)))) × (r ≤ 255) ⌝ }
 {
-    let at = 38 * i;
+    let at = StepRecords::BYTES * i;
     if steps[at] == 9 {
         steps[at + 2] as usize
     } else {
@@ -322,7 +310,7 @@ fn one_if_none(still: usize) -> usize
 pub fn count_outermost(steps: &[u8]) -> usize
     ensures { λ r. ⌜ ((rank : ℕ) → r ≡ outermost (stepsGiven rank (now (steps .entry)))) ⌝ }
 {
-    let count = steps.len() / 38;
+    let count = steps.len() / StepRecords::BYTES;
     let mut still: usize = 0;
     let mut found: usize = 0;
     let mut i: usize = 0;
@@ -340,13 +328,13 @@ pub fn count_outermost(steps: &[u8]) -> usize
 }
 
 // Whether record i is there and is a repeat.
-fn is_repeat(steps: &[u8], i: usize) -> bool
+pub fn is_repeat(steps: &[u8], i: usize) -> bool
     ensures { λ r. ⌜ r ≡ repeatHere (now (steps .entry)) i ⌝ }
 {
-    if steps.len() / 38 <= i {
+    if steps.len() / StepRecords::BYTES <= i {
         return false;
     }
-    steps[38 * i] == 9
+    steps[StepRecords::BYTES * i] == 9
 }
 
 // A record of a plain step before its step is judged: 20, then 8 over its lists.
@@ -396,7 +384,7 @@ fn judge_plain(
     ensures { λ r. ⌜ RecordsTell (table .rank) (shardingOf (table .rank) sharding)
         (plainGiven (meshOf mesh) (sizesOf table) (table .rank) (now (steps .entry)) i (shardingOf (table .rank) sharding)) r ⌝ }
 {
-    if steps.len() / 38 <= i {
+    if steps.len() / StepRecords::BYTES <= i {
         let past = Refusal {
             reason: Reason::SectionPastEnd,
             step: 0,
@@ -429,7 +417,7 @@ fn read_head(steps: &[u8], i: usize, depth: usize) -> RepeatRead
         ≡ headAt depth (i + 1) (bytesGiven rank (now (steps .entry))) (placeGiven rank (now (steps .entry)) i + 1)) ⌝ }
     ensures { λ r. ⌜ FewInner r ⌝ }
 {
-    let at = 38 * i;
+    let at = StepRecords::BYTES * i;
     let step = (i + 1) as u16;
     let count = steps[at + 1];
     let number = steps[at + 2];
@@ -544,4 +532,96 @@ pub fn judge_record(
     } else {
         judge_plain(steps, i, mesh, table, sharding)
     }
+}
+
+// So many outermost steps, from the first record on; 43 "after each outermost step for the plan so far".
+fn judge_outermost(steps: &[u8], count: usize, mesh: Mesh, table: Table, start: Sharding) -> Verdict
+    requires { ⌜ Judging (now steps) 0 mesh table start ⌝ }
+    ensures { λ r. ⌜ meaning r ≡ outermostGiven (meshOf mesh) (sizesOf table) (table .rank) (now (steps .entry)) count (shardingOf (table .rank) start) ⌝ }
+{
+    let depth = Step::MOST_DEPTH;
+    let mut after = start;
+    let mut place: usize = 0;
+    let mut ran: usize = 0;
+    let mut n: usize = 0;
+    while n < count {
+        let item = judge_record(steps, place, depth, mesh, table, after);
+        let next = item.next;
+        let Next::At(end) = next else {
+            return Verdict::Refused(next.refusal());
+        };
+        ran = ran + item.runs;
+        if Step::MOST_RUN < ran {
+            return refused(Reason::TooManyRun, (place + 1) as u16);
+        }
+        place = end;
+        after = item.sharding;
+        n += 1;
+    }
+    Verdict::Fine
+}
+
+// The starting sharding, then the records, of which so many stand in no block. A step number has 16 bits: more records get 2.
+fn judge_rest(steps: &[u8], count: usize, mesh: Mesh, table: Table, start: Sharding) -> Verdict
+    requires { ⌜ Shaped mesh table ⌝ }
+    ensures { λ r. ⌜ meaning r ≡ judgeRest (meshOf mesh) (sizesOf table) (table .rank) start (now (steps .entry)) count ⌝ }
+{
+    let sharding = judge_sharding(start, mesh, table);
+    let Verdict::Fine = sharding else {
+        return sharding;
+    };
+    if StepRecords::MOST < steps.len() / StepRecords::BYTES {
+        return refused(Reason::FileTooLong, 0);
+    }
+    judge_outermost(steps, count, mesh, table, start)
+}
+
+// Mesh, order and table, with so many outermost steps: 5, 10, 11, 19, 12, 13.
+pub fn judge_shape<'a>(mesh: &'a [u16], order: &'a [u16], sizes: &'a [u16], steps: usize) -> Verdict
+    ensures { λ r. ⌜ meaning r ≡ judgeShape (now (mesh .entry)) (now (order .entry)) (now (sizes .entry)) steps ⌝ }
+{
+    let limits = judge_limits(mesh.len(), sizes.len(), steps);
+    let Verdict::Fine = limits else {
+        return limits;
+    };
+    let sized = judge_sizes(
+        mesh,
+        Device::MOST,
+        Reason::MeshSizeZero,
+        Reason::TooManyDevices,
+    );
+    let Verdict::Fine = sized else {
+        return sized;
+    };
+    let ordered = judge_order(mesh, order);
+    let Verdict::Fine = ordered else {
+        return ordered;
+    };
+    judge_sizes(
+        sizes,
+        Table::MOST,
+        Reason::TensorSizeZero,
+        Reason::TooManyWords,
+    )
+}
+
+// All arguments of a plan, in the check's order; the plan itself is not made.
+pub fn judge_records<'a>(
+    mesh: &'a [u16],
+    order: &'a [u16],
+    sizes: &'a [u16],
+    start: Sharding,
+    steps: &[u8],
+) -> Verdict
+    ensures { λ r. ⌜ meaning r
+        ≡ verdictOf (judgeRecords (recordsGiven (now (mesh .entry)) (now (order .entry)) (now (sizes .entry)) start (now (steps .entry)))) ⌝ }
+{
+    let count = count_outermost(steps);
+    let shape = judge_shape(mesh, order, sizes, count);
+    let Verdict::Fine = shape else {
+        return shape;
+    };
+    let axes = mesh_of(mesh);
+    let table = table_of(sizes);
+    judge_rest(steps, count, axes, table, start)
 }

@@ -4,7 +4,7 @@ use mathlib.Core.Path.{_≡_, refl, sym, ap, _∙_, subst}
 use mathlib.Core.Bool.{Bool, true, false, _&&_}
 use mathlib.Core.List.{List, [], _∷_}
 use lib.ListN.{length}
-use Rattle.rules.specs.Limits.{mostAxes}
+use Rattle.rules.specs.Limits.{mostAxes, mostDims}
 use Rattle.rules.specs.Sharding.{Sharding}
 use Rattle.rules.specs.Collectives.{Step}
 use Rattle.rules.specs.Refusals.{Judged, accept, refuse, _>>_, need, refusedAs, numberOf, refusalOf}
@@ -23,8 +23,9 @@ use Rattle.start.specs.declared.Verdict.the-variants as verdict
 use Rattle.records.specs.Writing.{judgeCounts, judgeSharding}
 use Rattle.records.specs.Forms.{shardingGiven}
 use Rattle.records.specs.Planning.{planSteps, reachable, planOf}
-use Rattle.given.specs.Given.{judgeShape}
-use Rattle.given.proofs.Shapes.{halts, ShapeFacts, shape-facts}
+use Rattle.given.specs.Given.{judgeShape, meshFrom, tableFrom}
+use Rattle.given.proofs.Sizes.{mesh-is, table-is}
+use Rattle.given.proofs.Whole.{axes-few, dims-few}
 use Rattle.given.proofs.Counts.{sharding-fits}
 use Rattle.planner.specs.declared.Planned.{Planned}
 use Rattle.planner.specs.declared.Steps.{Steps}
@@ -47,11 +48,17 @@ pub in-reach : (s g : Sharding) {b c : Bool} → b ≡ allIn (g .unreduced) (s .
 unfolding reachable
 in-reach s g e f h k = rw (sym e ∙ f, sym h ∙ k) refl
 
--- a sharding judged for a mesh and a table that have these sizes
-pub sharding-judged : (mesh sizes : List ℕ) (m : Mesh) (t : Table) (s : code.Sharding) → (meshOf m ≡ mesh) × (m .n ≡ length mesh)
-    → (sizesOf t ≡ sizes) × (t .rank ≡ length sizes) → (v : Verdict) → meaning v ≡ judgeSharding (meshOf m) (sizesOf t) (shardingGiven (t .rank) s)
-    → meaning v ≡ judgeSharding mesh sizes (shardingGiven (length sizes) s)
-sharding-judged mesh sizes m t s a b v e = e ∙ (λ i. judgeSharding (a .0 i) (b .0 i) (shardingGiven (b .1 i) s))
+-- a refusal stays one, whatever follows
+halts : {j : Judged (Unit {0})} (rest : Judged (Unit {0})) {v : Verdict} {x : Refusal} → meaning v ≡ j → v ≡ verdict.Refused x → meaning v ≡ _>>_ j rest
+halts {j} rest {v} {x} e f = ap meaning f ∙ ap (λ (i : Judged (Unit {0})). _>>_ i rest) (ap meaning (sym f) ∙ e)
+
+-- a sharding judged for the mesh and the table of sizes that passed
+pub sharding-judged : (mesh order sizes : List ℕ) → judgeShape mesh order sizes 0 ≡ accept tt → (m : Mesh) (t : Table) (s : code.Sharding) → m ≡ meshFrom mesh → t ≡ tableFrom sizes
+    → (v : Verdict) → meaning v ≡ judgeSharding (meshOf m) (sizesOf t) (shardingGiven (t .rank) s) → meaning v ≡ judgeSharding mesh sizes (shardingGiven (length sizes) s)
+sharding-judged mesh order sizes h m t s a b v e =
+    let p = mesh-is mesh (axes-few mesh order sizes 0 h) a in
+    let q = table-is sizes (dims-few mesh order sizes 0 h) b in
+    e ∙ (λ i. judgeSharding (p .0 i) (q .0 i) (shardingGiven (q .1 i) s))
 
 -- ---- the tests in turn
 
@@ -92,7 +99,7 @@ module _ (mesh order sizes : List ℕ) (start goal : code.Sharding) where
 
   -- the definition makes the same tests
   planned-is : stepsPlanned mesh order sizes start goal ≡ _>>_ (judgeRoute mesh order sizes start goal) (accept (planSteps S G))
-  unfolding planOf judgeShape
+  unfolding planOf
   planned-is = simp then-assoc refl
 
   pub plan-refused : (v : Verdict) (x : Refusal) {t : Refusal} → meaning v ≡ judgeRoute mesh order sizes start goal → v ≡ verdict.Refused x → t ≡ verdicts.refusalOf v
@@ -103,15 +110,15 @@ module _ (mesh order sizes : List ℕ) (start goal : code.Sharding) where
       (λ i. record { outcome = outcome.Refused (w i); plan = n i })
       ∙ sym (ap plannedOf (planned-is ∙ ap (λ (i : Judged (Unit {0})). _>>_ i (accept (planSteps S G))) j))
 
-  pub route-facts : judgeRoute mesh order sizes start goal ≡ accept tt → ShapeFacts mesh order sizes 0
-  route-facts e = shape-facts mesh order sizes 0 (then-inv (judgeShape mesh order sizes 0) _ tt e .0 .1)
+  pub route-rank : judgeRoute mesh order sizes start goal ≡ accept tt → length sizes ≤ mostDims
+  route-rank e = dims-few mesh order sizes 0 (then-inv (judgeShape mesh order sizes 0) _ tt e .0 .1)
 
   pub plan-made : judgeRoute mesh order sizes start goal ≡ accept tt → {made : Steps}
       → made ≡ stepsFrom (planSteps (shardingOf (length sizes) start) (shardingOf (length sizes) goal))
       → record { outcome = outcome.Made; plan = made } ≡ plannedOf (stepsPlanned mesh order sizes start goal)
   plan-made e {made} q =
-      let n : length mesh ≤ mostAxes = route-facts e .on .axes-few in
       let s = then-inv (judgeShape mesh order sizes 0) _ tt e in
+      let n : length mesh ≤ mostAxes = axes-few mesh order sizes 0 (s .0 .1) in
       let o = then-inv (judgeSharding mesh sizes S) _ tt (s .1) in
       let g = then-inv (judgeSharding mesh sizes G) _ tt (o .1) in
       ap (λ (z : Steps). record { outcome = outcome.Made; plan = z }) (q ∙ (λ i. stepsFrom (planSteps (sym (fits start n (o .0 .1)) i) (sym (fits goal n (g .0 .1)) i))))

@@ -1,5 +1,4 @@
 use borrow.Author.Needs.{needs}
-use borrow.Author.Tests.{eq-eqb, ne-eqb}
 use native.Mathlib.Omega.{arith}
 use Rattle.given.proofs.Plain.{past-all, by-kind}
 use Rattle.given.proofs.is_repeat.Statement.{statement}

@@ -1,10 +1,7 @@
 use borrow.Author.Needs.{needs}
-use Prim.Native.Nat.{ℕ}
-use mathlib.Core.List.{List, [], _∷_}
-use mathlib.Core.Path.{refl, ap, _∙_}
+use mathlib.Core.List.{[], _∷_}
 use denote.Ref.{now}
-use lib.ListN.{length, take}
-use Rattle.given.proofs.Sizes.{six-places}
+use lib.ListN.{length}
 use Rattle.given.proofs.mesh_of.Statement.{statement}
 use Rattle.given.proofs.mesh_of.Tie as tie
 
@@ -19,9 +16,8 @@ mesh-of-spec =
     (λ c κs. search needs)
     (λ c κs. search needs)
     (λ c. let p = c .before .before .before in
-    let s = p .before .before .before .before in
-    let m = now (s .args .sizes) in (
-      ap {A = List ℕ} (take (length m)) (λ i. p .before .before .size-or-one .ensures i ∷ p .before .size-or-one2 .ensures i ∷ p .size-or-one3 .ensures i
-          ∷ c .before .before .size-or-one4 .ensures i ∷ c .before .size-or-one5 .ensures i ∷ c .size-or-one6 .ensures i ∷ []) ∙ six-places m (s .pre),
-      refl,
-    )))
+    let s = p .before .before .before .before in λ i. record {
+      n = length (now (s .args .sizes));
+      sizes = p .before .before .size-or-one .ensures i ∷ p .before .size-or-one2 .ensures i ∷ p .size-or-one3 .ensures i
+          ∷ c .before .before .size-or-one4 .ensures i ∷ c .before .size-or-one5 .ensures i ∷ c .size-or-one6 .ensures i ∷ [];
+    }))

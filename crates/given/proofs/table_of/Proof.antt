@@ -1,10 +1,7 @@
 use borrow.Author.Needs.{needs}
-use Prim.Native.Nat.{ℕ}
-use mathlib.Core.List.{List, [], _∷_}
-use mathlib.Core.Path.{refl, ap, _∙_}
+use mathlib.Core.List.{[], _∷_}
 use denote.Ref.{now}
-use lib.ListN.{length, take}
-use Rattle.given.proofs.Sizes.{four-places}
+use lib.ListN.{length}
 use Rattle.given.proofs.table_of.Statement.{statement}
 use Rattle.given.proofs.table_of.Tie as tie
 
@@ -17,9 +14,7 @@ table-of-spec =
     (λ c κs. search needs)
     (λ c κs. search needs)
     (λ c. let p = c .before .before .before in
-    let s = p .before .before in
-    let m = now (s .args .sizes) in (
-      ap {A = List ℕ} (take (length m)) (λ i. p .size-or-one .ensures i ∷ c .before .before .size-or-one2 .ensures i ∷ c .before .size-or-one3 .ensures i
-          ∷ c .size-or-one4 .ensures i ∷ []) ∙ four-places m (s .pre),
-      refl,
-    )))
+    let s = p .before .before in λ i. record {
+      rank = length (now (s .args .sizes));
+      sizes = p .size-or-one .ensures i ∷ c .before .before .size-or-one2 .ensures i ∷ c .before .size-or-one3 .ensures i ∷ c .size-or-one4 .ensures i ∷ [];
+    }))

@@ -1,7 +1,7 @@
 use borrow.Author.Needs.{needs}
 use denote.Ref.{now}
 use Rattle.start.proofs.Verdicts.{passed}
-use Rattle.planner.proofs.Routes.{route-facts, plan-refused, plan-made}
+use Rattle.planner.proofs.Routes.{route-rank, plan-refused, plan-made}
 use Rattle.planner.proofs.plan.Statement.{statement}
 use Rattle.planner.proofs.plan.Tie as tie
 
@@ -27,7 +27,7 @@ plan-spec =
     (c .before .refusal-of .ensures) (c .none .ensures))
     (λ c κs. let j = c .before .before in
     let a = j .before .before .before .before .args in
-    route-facts (now (a .mesh)) (now (a .order)) (now (a .table)) (a .start) (a .goal) (passed (j .judge-route .ensures) (c .enum-told .given .1)) .rank-few)
+    route-rank (now (a .mesh)) (now (a .order)) (now (a .table)) (a .start) (a .goal) (passed (j .judge-route .ensures) (c .enum-told .given .1)))
     (λ c. let e = c .before in
     let j = e .before .before in
     let a = j .before .before .before .before .args in
