@@ -66,11 +66,15 @@ module _ (k count rank : ℕ) (before : code.Sharding) (block : RecordsJudged) w
 -- ---- the loop
 
 module _ (mesh sizes : List ℕ) (gs : List Given) (depth : ℕ) where
+  -- as the bytes of the records are read
+  abbrev pub Turn : (count i₀ : ℕ) → Sharding → (n k at runs most : ℕ) → Sharding → Type 0
+  Turn count i₀ s₀ n k at runs most s =
+      Inner mesh sizes (stepsBytes gs) depth count (i₀ + 1 + 1) (placeOf gs i₀ + 1 + 2) (blocks.shardWords mesh sizes s₀) s₀ n k at runs most s
+
   -- n of the steps inside record i₀ are judged
   pub record Within (count i₀ : ℕ) (s₀ : Sharding) (n place runs : ℕ) (s : Sharding) : Type 0 where
     pub most : ℕ
-    pub inner : Inner mesh sizes (stepsBytes gs) depth count (i₀ + 1 + 1) (placeOf gs i₀ + 1 + 2) (blocks.shardWords mesh sizes s₀) s₀ n (place + 1)
-        (placeOf gs place) runs most s
+    pub inner : Turn count i₀ s₀ n (place + 1) (placeOf gs place) runs most s
     pub inside : place ≤ length gs
     pub further : i₀ < place
 
@@ -78,8 +82,7 @@ module _ (mesh sizes : List ℕ) (gs : List Given) (depth : ℕ) where
       → i₀ < length gs → IsSharding mesh sizes s₀ → Within count i₀ s₀ 0 (i₀ + 1) 0 s₀
   within-start count i₀ s₀ e l h o = record {
     most = blocks.shardWords mesh sizes s₀;
-    inner = subst (λ (at : ℕ). Inner mesh sizes (stepsBytes gs) depth count (i₀ + 1 + 1) (placeOf gs i₀ + 1 + 2) (blocks.shardWords mesh sizes s₀) s₀ 0
-        (i₀ + 1 + 1) at 0 (blocks.shardWords mesh sizes s₀) s₀) e
+    inner = subst (λ (at : ℕ). Turn count i₀ s₀ 0 (i₀ + 1 + 1) at 0 (blocks.shardWords mesh sizes s₀) s₀) e
         (inner-start mesh sizes (stepsBytes gs) depth count (i₀ + 1 + 1) (placeOf gs i₀ + 1 + 2) (blocks.shardWords mesh sizes s₀) s₀ l o (omega arith));
     inside = omega arith;
     further = omega arith;
@@ -126,13 +129,13 @@ module _ (mesh sizes : List ℕ) (gs : List Given) (depth : ℕ) where
           }
         where
           moved : {k k′ at at′ r r′ m : ℕ} {o o′ : Sharding} → k ≡ k′ → at ≡ at′ → r ≡ r′ → o ≡ o′
-              → Inner mesh sizes (stepsBytes gs) depth count (i₀ + 1 + 1) (placeOf gs i₀ + 1 + 2) (blocks.shardWords mesh sizes s₀) s₀ (n + 1) k at (runs + r) m o
-              → Inner mesh sizes (stepsBytes gs) depth count (i₀ + 1 + 1) (placeOf gs i₀ + 1 + 2) (blocks.shardWords mesh sizes s₀) s₀ (n + 1) k′ at′ (runs + r′) m o′
+              → Turn count i₀ s₀ (n + 1) k at (runs + r) m o
+              → Turn count i₀ s₀ (n + 1) k′ at′ (runs + r′) m o′
           moved {k} {k′} {at} {at′} {r} {r′} {m} {o} {o′} p q u v y =
-              subst (λ (o : Sharding). Inner mesh sizes (stepsBytes gs) depth count (i₀ + 1 + 1) (placeOf gs i₀ + 1 + 2) (blocks.shardWords mesh sizes s₀) s₀ (n + 1) k′ at′ (runs + r′) m o) v
-              (subst (λ (r : ℕ). Inner mesh sizes (stepsBytes gs) depth count (i₀ + 1 + 1) (placeOf gs i₀ + 1 + 2) (blocks.shardWords mesh sizes s₀) s₀ (n + 1) k′ at′ (runs + r) m o) u
-              (subst (λ (at : ℕ). Inner mesh sizes (stepsBytes gs) depth count (i₀ + 1 + 1) (placeOf gs i₀ + 1 + 2) (blocks.shardWords mesh sizes s₀) s₀ (n + 1) k′ at (runs + r) m o) q
-              (subst (λ (k : ℕ). Inner mesh sizes (stepsBytes gs) depth count (i₀ + 1 + 1) (placeOf gs i₀ + 1 + 2) (blocks.shardWords mesh sizes s₀) s₀ (n + 1) k at (runs + r) m o) p y)))
+              subst (λ (o : Sharding). Turn count i₀ s₀ (n + 1) k′ at′ (runs + r′) m o) v
+              (subst (λ (r : ℕ). Turn count i₀ s₀ (n + 1) k′ at′ (runs + r) m o) u
+              (subst (λ (at : ℕ). Turn count i₀ s₀ (n + 1) k′ at (runs + r) m o) q
+              (subst (λ (k : ℕ). Turn count i₀ s₀ (n + 1) k at (runs + r) m o) p y)))
 
 -- ---- a repeat
 
