@@ -13,7 +13,7 @@ use Rattle.rules.specs.Refusals.{Judged, accept, refuse, _>>=_, _>>_, needAt}
 use Rattle.rules.specs.PlanFile.{Read, StepsRead, itemAt, Outermost, outermostAt}
 use Rattle.rules.proofs.Repeats.{Told, item-tells}
 use Rattle.rules.proofs.Bytes.{Takes, item-takes}
-use Rattle.blocks.proofs.Plain.{fine-sound}
+use Rattle.rules.proofs.Turns.{steps-sharding}
 use Rattle.records.specs.Records.{Given, stepsBytes}
 use Rattle.records.specs.RoundTrip.{AllRanked}
 use Rattle.given.specs.Given.{placeOf, Summary, summarized, verdictOf}
@@ -139,7 +139,7 @@ module _ (mesh sizes : List ℕ) (gs : List Given) where
           record {
             few = omega arith;
             inside = t .inside;
-            sound = subst (IsSharding mesh sizes) (u .ends ∙ t .sharding-is) (fine-sound mesh sizes pos s (t .item .steps) (g .sound) (u .fine));
+            sound = subst (IsSharding mesh sizes) (u .ends ∙ t .sharding-is) (steps-sharding mesh sizes pos s (t .item .steps) (g .sound) (u .fine));
             ran-few = o;
             same = then-others
                 ∙ ap (λ (b : Bool). _>>_ (needAt (place + 1) b 43) (turns (ran + runs′) (count - (n + 1)) (place′ + 1) (placeOf gs place′) s′)) (le-leb _ _ o);
