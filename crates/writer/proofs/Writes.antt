@@ -1,6 +1,6 @@
 -- The writer, test by test: what is answered, and what the buffer holds. Assumes nothing.
 use Prim.Native.Nat.{ℕ, _≤_, _<_}
-use mathlib.Core.Path.{_≡_, refl, sym, ap, _∙_}
+use mathlib.Core.Path.{_≡_, refl, sym, ap, ap₂, _∙_}
 use mathlib.Core.List.{List, _++_}
 use borrow.Author.Tests.{le-leb, lt-leb}
 use lib.ListN.{length, drop}
@@ -8,8 +8,28 @@ use Rattle.rules.specs.Limits.{mostBytes}
 use Rattle.rules.specs.Refusals.{Judged, accept, refuse, refusedAs}
 use Rattle.rules.specs.PlanFile.{Plan}
 use Rattle.rules.specs.declared.Refusal.{Refusal}
+use Rattle.rules.proofs.Judging.{never}
+use Rattle.start.specs.Start.{meaning}
+use Rattle.start.specs.declared.Verdict.{Verdict}
+use Rattle.start.specs.declared.Verdict.the-variants as verdict
+use Rattle.given.specs.Given.{verdictOf}
 use Rattle.records.specs.Records.{Records, fileLength, fileOf}
 use Rattle.records.specs.Writing.{judgeRecords, writeOf, writeOut, writeLeaves}
+
+-- what the judgement of records answered
+pub judged-fine : (j : Judged Plan) (v : Verdict) → meaning v ≡ verdictOf j → v ≡ verdict.Fine → (p : Plan) × (j ≡ accept p)
+judged-fine (accept p) v e f = (p, refl)
+judged-fine (refuse n k) v e f = absurd (never (sym e ∙ ap meaning f))
+
+judged-refused : (j : Judged Plan) (v : Verdict) (x : Refusal) → meaning v ≡ verdictOf j → v ≡ verdict.Refused x → j ≡ refusedAs x
+judged-refused (accept p) v x e f = absurd (never (ap meaning (sym f) ∙ e))
+judged-refused (refuse n k) v x e f = ap₂ refuse (first (sym e ∙ ap meaning f)) (second (sym e ∙ ap meaning f))
+  where
+    first : {A : Type 0} {a b c d : ℕ} → _≡_ {A = Judged A} (refuse a b) (refuse c d) → a ≡ c
+    first q = cc
+
+    second : {A : Type 0} {a b c d : ℕ} → _≡_ {A = Judged A} (refuse a b) (refuse c d) → b ≡ d
+    second q = cc
 
 module _ (r : Records) (out : List ℕ) where
   -- what the buffer holds after an answer
@@ -21,9 +41,9 @@ module _ (r : Records) (out : List ℕ) where
     pub nothing-written : out ≡ writeLeaves r out
     nothing-written = sym (leaves-by e)
 
-  pub records-refused : {x : Refusal} → judgeRecords r ≡ refusedAs x → writeOf r out ≡ refusedAs x
+  pub records-refused : (v : Verdict) (x : Refusal) → meaning v ≡ verdictOf (judgeRecords r) → v ≡ verdict.Refused x → writeOf r out ≡ refusedAs x
   unfolding writeOf
-  records-refused e = rw e refl
+  records-refused v x e f = rw (judged-refused (judgeRecords r) v x e f) refl
 
   module _ {p : Plan} (e : judgeRecords r ≡ accept p) {n : ℕ} (l : n ≡ fileLength r) where
     pub too-long : mostBytes < n → writeOf r out ≡ refuse 2 0
