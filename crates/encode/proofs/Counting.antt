@@ -1,15 +1,14 @@
 -- Laws of counting outermost steps, record by record. Assumes nothing.
 use Prim.Native.Nat.{ℕ, zero, suc, _+_, _*_, _-_, _≤_, _<_}
-use mathlib.Core.Path.{_≡_, refl, sym, ap, _∙_, subst}
+use mathlib.Core.Path.{_≡_, refl, sym, ap, _∙_}
 use mathlib.Core.List.{List, [], _∷_}
 use native.Mathlib.Omega.{arith}
-use native.Mathlib.Numerals.{add-one}
-use lib.ListN.{length, getD, drop, length-drop}
-use lib.Seq.{drop-cons}
+use lib.ListN.{length, getD, drop, length-drop, drop-of-length-le}
 use Rattle.rules.specs.declared.Kind.{Kind}
 use Rattle.rules.specs.declared.Kind.the-variants.{AllSlice, AllGather, AllReduce, AllToAll, Unknown}
 use Rattle.rules.specs.declared.Step.{Step}
 use Rattle.rules.proofs.Lists.{length-tab, getD-tab}
+use Rattle.axes.proofs.Going.{drop-at}
 use Rattle.records.specs.Records.{Given, unknown, innerOf, outermostFrom, outermost}
 use Rattle.records.specs.Forms.{recordBytes, stepRecord, givenKind, givenAt, recordCount, stepsGiven}
 use Rattle.encode.specs.Putting.{outermostOne, stillAfter}
@@ -50,6 +49,23 @@ pub still-some : (still inner : ℕ) → (still ≡ 0 → ⊥) → still - 1 + i
 still-some zero inner h = absurd (h refl)
 still-some (suc n) inner h = omega arith
 
+-- ---- records in turn
+
+module _ (rank : ℕ) (bytes : List ℕ) where
+  pub given-length : length (stepsGiven rank bytes) ≡ recordCount bytes
+  unfolding stepsGiven
+  given-length = length-tab (recordCount bytes) (λ i. givenAt rank bytes (recordBytes * i))
+
+  pub record-here : (i : ℕ) → i < recordCount bytes
+      → drop i (stepsGiven rank bytes) ≡ givenAt rank bytes (recordBytes * i) ∷ drop (i + 1) (stepsGiven rank bytes)
+  unfolding stepsGiven
+  record-here i h =
+      drop-at (stepsGiven rank bytes) i (givenAt rank bytes (recordBytes * i)) unknown (omega (arith, given-length))
+      (sym (getD-tab (recordCount bytes) i (λ j. givenAt rank bytes (recordBytes * j)) unknown h))
+
+  pub record-none : (i : ℕ) → recordCount bytes ≤ i → drop i (stepsGiven rank bytes) ≡ []
+  record-none i h = drop-of-length-le (stepsGiven rank bytes) {i = i} (omega (arith, given-length))
+
 -- ---- all of them
 
 from-cons : (still : ℕ) (g : Given) (gs : List Given) → outermostFrom still (g ∷ gs) ≡ outermostOne still + outermostFrom (stillAfter still (innerOf g)) gs
@@ -71,17 +87,6 @@ pub record Counting (bytes : List ℕ) (outer still i : ℕ) : Type 0 where
 pub counting-start : (bytes : List ℕ) → Counting bytes 0 0 0
 counting-start bytes = record { few = omega arith; outer-few = omega arith; counted = λ rank. omega arith }
 
-pub given-length : (rank : ℕ) (bytes : List ℕ) → length (stepsGiven rank bytes) ≡ recordCount bytes
-unfolding stepsGiven
-given-length rank bytes = length-tab (recordCount bytes) (λ i. givenAt rank bytes (recordBytes * i))
-
-given-cons : (rank : ℕ) (bytes : List ℕ) (i : ℕ) → i < recordCount bytes
-    → drop i (stepsGiven rank bytes) ≡ givenAt rank bytes (recordBytes * i) ∷ drop (suc i) (stepsGiven rank bytes)
-unfolding stepsGiven
-given-cons rank bytes i h =
-    drop-cons (stepsGiven rank bytes) i unknown (subst (λ (k : ℕ). i < k) (sym (given-length rank bytes)) h)
-    ∙ ap (λ (g : Given). g ∷ drop (suc i) (stepsGiven rank bytes)) (getD-tab (recordCount bytes) i (λ j. givenAt rank bytes (recordBytes * j)) unknown h)
-
 pub counting-step : {bytes : List ℕ} {outer still i inner one next : ℕ} → Counting bytes outer still i → i < recordCount bytes
     → ((rank : ℕ) → inner ≡ innerOf (givenAt rank bytes (recordBytes * i))) → one ≡ outermostOne still → next ≡ stillAfter still inner
     → Counting bytes (outer + one) next (i + 1)
@@ -93,9 +98,8 @@ counting-step {bytes} {outer} {still} {i} {inner} {one} {next} s h e o n = recor
       let g : Given = givenAt rank bytes (recordBytes * i) in
       let z : stillAfter still (innerOf g) ≡ next = sym (n ∙ ap (stillAfter still) (e rank)) in
       let d : outermostFrom still (drop i all) ≡ outermostOne still + outermostFrom next (drop (i + 1) all) =
-      ap (outermostFrom still) (given-cons rank bytes i h) ∙ from-cons still g (drop (suc i) all)
-      ∙ ap (λ (k : ℕ). outermostOne still + outermostFrom k (drop (suc i) all)) z
-      ∙ ap (λ (k : ℕ). outermostOne still + outermostFrom next (drop k all)) (sym (add-one i)) in
+      ap (outermostFrom still) (record-here rank bytes i h) ∙ from-cons still g (drop (i + 1) all)
+      ∙ ap (λ (k : ℕ). outermostOne still + outermostFrom k (drop (i + 1) all)) z in
       omega (arith, s .counted rank, d, o);
 }
 

@@ -1,7 +1,6 @@
 -- Laws of the judgement of arguments, from below.
 pub mod Sizes
 pub mod Counts
-pub mod Outside
 pub mod Ends
 pub mod Plain
 pub mod Heads

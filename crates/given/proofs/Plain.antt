@@ -25,7 +25,7 @@ use Rattle.records.specs.RoundTrip.{Ranked, AllRanked}
 use Rattle.records.proofs.Records.{read-none, read-plain, read-unknown}
 use Rattle.given.specs.Given.{judgeForm, repeatHere, placeOf, summarized}
 use Rattle.given.proofs.Counts.{list-fits, lists-fit, counts-inv, dims-length}
-use Rattle.given.proofs.Outside.{record-here, record-none}
+use Rattle.encode.proofs.Counting.{record-here, record-none}
 
 -- ---- what a record gives
 

@@ -24,7 +24,7 @@ use Rattle.records.specs.Writing.{judgeCounts, judgeSharding, judgeOrder, judge
 use Rattle.records.specs.Forms.{listGiven, dimsGiven, shardingGiven, recordCount, stepsGiven, recordsGiven}
 use Rattle.given.specs.Given.{judgeLimits, meshFrom, tableFrom, Shaped, verdictOf, judgeShape, outermostGiven, judgeRest}
 use Rattle.given.proofs.Sizes.{mesh-is, table-is}
-use Rattle.given.proofs.Outside.{given-count}
+use Rattle.encode.proofs.Counting.{given-length}
 use Rattle.given.proofs.Counts.{sharding-fits}
 
 -- ---- what passed
@@ -138,7 +138,7 @@ module _ (mesh order sizes : List ℕ) (start : code.Sharding) (steps : List ℕ
       (outermostAt true mesh sizes (stepsBytes (stepsGiven (length sizes) steps)) 0 (outermost (stepsGiven (length sizes) steps)) 1 0 (shardingGiven (length sizes) start))
       _
       ∙ (λ i. _>>_ (judgeShape mesh order sizes (sym c i)) (_>>_ (judgeSharding mesh sizes (shardingGiven (length sizes) start))
-      (_>>_ (need (leb (given-count (length sizes) steps i) mostRecords) 2)
+      (_>>_ (need (leb (given-length (length sizes) steps i) mostRecords) 2)
       (outermostGiven mesh sizes (length sizes) steps (sym c i) (shardingGiven (length sizes) start)))))
 
   -- the rest, of the code's mesh and table

@@ -6,23 +6,23 @@ ghost use mathlib.Core.List.{[], _∷_};
 ghost use Prim.Native.Nat.{ℕ, _+_, _*_, _≤_, _<_};
 ghost use lib.ListN.{length, getD};
 ghost use lib.Dec.{leb, eqb};
-ghost use Rattle.rules.specs.Lists.{pick};
 ghost use Rattle.rules.specs.Limits.{mostAxes, mostDims, mostWords};
 ghost use Rattle.rules.specs.Mesh.{devices as devicesOf, OnMesh};
 ghost use Rattle.rules.specs.Refusals.{need, numberOf, refusedAs};
-ghost use Rattle.rules.specs.PlanFile.{kindOf, judgeSizes};
+ghost use Rattle.rules.specs.PlanFile.{judgeSizes};
 ghost use Rattle.rules.specs.Types.{shardingOf, meshOf, sizesOf};
 ghost use Rattle.start.specs.Start.{meaning};
 ghost use Rattle.blocks.specs.Blocks.{headAt, repeatRead};
-ghost use Rattle.records.specs.Records.{innerOf, outermost};
 ghost use Rattle.records.specs.Writing.{judgeCounts, judgeSharding, judgeOrder, mostRecords, judgeRecords};
-ghost use Rattle.records.specs.Forms.{listGiven, dimsGiven, shardingGiven, recordBytes, axisAt, listRecord, stepRecord};
-ghost use Rattle.records.specs.Forms.{givenKind, givenAt, recordCount, stepsGiven, recordsGiven};
+ghost use Rattle.records.specs.Forms.{listGiven, dimsGiven, shardingGiven, givenKind, recordCount, recordsGiven};
 ghost use Rattle.given.specs.Given.{judgeLimits, meshFrom, tableFrom, Shaped, judgeForm, repeatHere, FewInner, bytesGiven, placeGiven};
 ghost use Rattle.given.specs.Given.{plainGiven, repeatGiven, itemGiven, RecordsTell, Judging, Closing, closed};
 ghost use Rattle.given.specs.Given.{verdictOf, judgeShape, outermostGiven, judgeRest};
 use blocks::RepeatRead;
 use blocks::same_sharding;
+use encode::StepRecord;
+use encode::outermost_steps;
+use encode::step_record;
 use judge::judge_step;
 use mesh::product_from;
 use order::order_allowed;
@@ -43,29 +43,6 @@ use start::Verdict;
 use start::judge_start;
 use start::refusal_of;
 use start::refused;
-
-// Step records, by their number.
-pub struct StepRecords(pub usize);
-
-impl StepRecords {
-    // The bytes of a record: kind, source, target, the counts of five lists, and six places for each.
-    pub const BYTES: usize = 38;
-
-    // The most records; a step number has 16 bits.
-    pub const MOST: usize = 65535;
-
-    pub fn bytes() -> usize
-        ensures { λ r. ⌜ r ≡ recordBytes ⌝ }
-    {
-        StepRecords::BYTES
-    }
-
-    pub fn most() -> usize
-        ensures { λ r. ⌜ r ≡ mostRecords ⌝ }
-    {
-        StepRecords::MOST
-    }
-}
 
 // 5: "n, rank or step count outside its limits"; the steps that count are the outermost ones.
 pub fn judge_limits(n: usize, rank: usize, steps: usize) -> Verdict
@@ -222,120 +199,14 @@ pub fn judge_sharding(sharding: Sharding, mesh: Mesh, table: Table) -> Verdict
     judge_start(sharding, mesh, table)
 }
 
-// "1 all-slice, 2 all-gather .., 3 all-reduce .., 4 all-to-all": what the first byte of a record stands for, where it is no repeat's.
-fn record_kind(byte: u8) -> Kind
-    ensures { λ r. ⌜ r ≡ kindOf byte ⌝ }
-{
-    if byte == 1 {
-        Kind::AllSlice
-    } else if byte == 2 {
-        Kind::AllGather
-    } else if byte == 3 {
-        Kind::AllReduce
-    } else if byte == 4 {
-        Kind::AllToAll
-    } else {
-        Kind::Unknown
-    }
-}
-
-fn axis_record(steps: &[u8], at: usize) -> Axis
-    requires { ⌜ at < length (now steps) ⌝ }
-    ensures { λ r. ⌜ r ≡ axisAt (now (steps .entry)) at ⌝ }
-{
-    Axis(steps[at])
-}
-
-// A list of the record at a byte: its count as it stands there, and all its places.
-fn list_record(steps: &[u8], at: usize, list: usize) -> AxisList
-    requires { ⌜ (at + recordBytes ≤ length (now steps)) × (list < 5) ⌝ }
-    ensures { λ r. ⌜ r ≡ listRecord (now (steps .entry)) at list ⌝ }
-{
-    let count = steps[at + 3 + list] as u16;
-    let first = at + 8 + 6 * list;
-    let axes = [
-        axis_record(steps, first),
-        axis_record(steps, first + 1),
-        axis_record(steps, first + 2),
-        axis_record(steps, first + 3),
-        axis_record(steps, first + 4),
-        axis_record(steps, first + 5),
-    ];
-    AxisList { count, axes }
-}
-
-// The step of record i.
-pub fn step_record(steps: &[u8], i: usize) -> Step
-    requires { ⌜ i < recordCount (now steps) ⌝ }
-    ensures { λ r. ⌜ r ≡ stepRecord (now (steps .entry)) (recordBytes * i) ⌝ }
-{
-    let at = StepRecords::BYTES * i;
-    let kind = record_kind(steps[at]);
-    let lists = [
-        list_record(steps, at, 0),
-        list_record(steps, at, 1),
-        list_record(steps, at, 2),
-        list_record(steps, at, 3),
-    ];
-    let list = list_record(steps, at, 4);
-    Step {
-        kind,
-        source: Dim(steps[at + 1]),
-        target: Dim(steps[at + 2]),
-        lists: DimLists(lists),
-        list,
-    }
-}
-
-// How many steps record i says to stand right inside it.
-fn inner_of(steps: &[u8], i: usize) -> usize
-    requires { ⌜ i < recordCount (now steps) ⌝ }
-    ensures { λ r. ⌜ (((rank : ℕ) → r ≡ innerOf (givenAt rank (now (steps .entry)) (recordBytes * i)))) × (r ≤ 255) ⌝ }
-{
-    let at = StepRecords::BYTES * i;
-    if steps[at] == 9 {
-        steps[at + 2] as usize
-    } else {
-        0
-    }
-}
-
-fn one_if_none(still: usize) -> usize
-    ensures { λ r. ⌜ r ≡ pick (eqb still 0) 1 0 ⌝ }
-{
-    if still == 0 { 1 } else { 0 }
-}
-
-// The records that stand in no block. Where at least as many steps are still to come as there are records, all of these stand in blocks, so no number
-// grows past the records by more than a byte.
-pub fn count_outermost(steps: &[u8]) -> usize
-    ensures { λ r. ⌜ ((rank : ℕ) → r ≡ outermost (stepsGiven rank (now (steps .entry)))) ⌝ }
-{
-    let count = steps.len() / StepRecords::BYTES;
-    let mut still: usize = 0;
-    let mut found: usize = 0;
-    let mut i: usize = 0;
-    while i < count {
-        if count - i <= still {
-            return found;
-        }
-        let inner = inner_of(steps, i);
-        let one = one_if_none(still);
-        found = found + one;
-        still = still + one + inner - 1;
-        i += 1;
-    }
-    found
-}
-
 // Whether record i is there and is a repeat.
 pub fn is_repeat(steps: &[u8], i: usize) -> bool
     ensures { λ r. ⌜ r ≡ repeatHere (now (steps .entry)) i ⌝ }
 {
-    if steps.len() / StepRecords::BYTES <= i {
+    if steps.len() / StepRecord::BYTES <= i {
         return false;
     }
-    steps[StepRecords::BYTES * i] == 9
+    steps[StepRecord::BYTES * i] == 9
 }
 
 // A record of a plain step before its step is judged: 20, then 8 over its lists.
@@ -385,7 +256,7 @@ fn judge_plain(
     ensures { λ r. ⌜ RecordsTell (table .rank) (shardingOf (table .rank) sharding)
         (plainGiven (meshOf mesh) (sizesOf table) (table .rank) (now (steps .entry)) i (shardingOf (table .rank) sharding)) r ⌝ }
 {
-    if steps.len() / StepRecords::BYTES <= i {
+    if steps.len() / StepRecord::BYTES <= i {
         let past = Refusal {
             reason: Reason::SectionPastEnd,
             step: 0,
@@ -393,7 +264,7 @@ fn judge_plain(
         return RecordsJudged::refused(past, sharding);
     }
     let k = (i + 1) as u16;
-    let step = step_record(steps, i);
+    let step = step_record(steps, StepRecord::BYTES * i);
     let form = judge_form(step, k, table.rank, mesh.n);
     let Verdict::Fine = form else {
         return RecordsJudged::refused(refusal_of(form), sharding);
@@ -418,7 +289,7 @@ fn read_head(steps: &[u8], i: usize, depth: usize) -> RepeatRead
         ≡ headAt depth (i + 1) (bytesGiven rank (now (steps .entry))) (placeGiven rank (now (steps .entry)) i + 1)) ⌝ }
     ensures { λ r. ⌜ FewInner r ⌝ }
 {
-    let at = StepRecords::BYTES * i;
+    let at = StepRecord::BYTES * i;
     let step = (i + 1) as u16;
     let count = steps[at + 1];
     let number = steps[at + 2];
@@ -571,7 +442,7 @@ fn judge_rest(steps: &[u8], count: usize, mesh: Mesh, table: Table, start: Shard
     let Verdict::Fine = sharding else {
         return sharding;
     };
-    if StepRecords::MOST < steps.len() / StepRecords::BYTES {
+    if StepRecord::MOST < steps.len() / StepRecord::BYTES {
         return refused(Reason::FileTooLong, 0);
     }
     judge_outermost(steps, count, mesh, table, start)
@@ -617,7 +488,7 @@ pub fn judge_records<'a>(
     ensures { λ r. ⌜ meaning r
         ≡ verdictOf (judgeRecords (recordsGiven (now (mesh .entry)) (now (order .entry)) (now (sizes .entry)) start (now (steps .entry)))) ⌝ }
 {
-    let count = count_outermost(steps);
+    let count = outermost_steps(steps);
     let shape = judge_shape(mesh, order, sizes, count);
     let Verdict::Fine = shape else {
         return shape;

@@ -12,7 +12,7 @@ use Rattle.blocks.proofs.Items.{item-repeat, item-plain}
 use Rattle.blocks.proofs.RepeatRead.refusal.Reads as RepeatRead-refusal-reads
 use Rattle.records.specs.Forms.{recordCount, stepsGiven}
 use Rattle.given.specs.Given.{bytesGiven, placeGiven, summarized}
-use Rattle.given.proofs.Outside.{given-count}
+use Rattle.encode.proofs.Counting.{given-length}
 use Rattle.given.proofs.Plain.{repeat-inside, is-ranked, no-repeat}
 use Rattle.given.proofs.Heads.{few-inner, repeat-there, repeat-next}
 use Rattle.given.proofs.Inside.{Within, within-start, within-stops, within-done, within-step, ran-few, repeat-halts, inside-halts, closes}
@@ -124,12 +124,12 @@ pub +judge-record+judge-repeat-spec : {M : Type 1} → statement M
     let r = head-on (h .read-head .ensures .0 (a .table .rank)) (c .before .head .given .1) in
     let f = head-facts (a .depth) (a .i + 1) (bytesGiven (a .table .rank) (a .steps .now)) (placeGiven (a .table .rank) (a .steps .now) (a .i) + 1) r in
     within-start (meshOf (a .mesh)) (sizesOf (a .table)) (stepsGiven (a .table .rank) (a .steps .now)) (a .depth - 1) _ (a .i) (shardingOf (a .table .rank) (a .sharding)) (repeat-next (a .steps .now) (a .i) (s .pre .1 .1) (a .table .rank) (a .depth)) (f .inside)
-    (omega (arith, repeat-inside (a .steps .now) (a .i) (s .pre .1 .1), given-count (a .table .rank) (a .steps .now))) (s .pre .1 .0 .sound))
+    (omega (arith, repeat-inside (a .steps .now) (a .i) (s .pre .1 .1), given-length (a .table .rank) (a .steps .now))) (s .pre .1 .0 .sound))
     (λ c κs. let s = c .before .before .before .before .before .before .before in
     let a = s .args in
     let p = s .pre .1 .0 in
     let g = c .before .loop .inv in
-    let n = given-count (a .table .rank) (a .steps .now) in (
+    let n = given-length (a .table .rank) (a .steps .now) in (
       omega (arith, g .inside, g .further, n, s .pre .0, repeat-inside (a .steps .now) (a .i) (s .pre .1 .1)),
       record {
         shaped = p .shaped;

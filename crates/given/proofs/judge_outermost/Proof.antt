@@ -5,7 +5,7 @@ use mathlib.Core.Path.{sym, _∙_}
 use Rattle.rules.specs.Types.{shardingOf, meshOf, sizesOf}
 use Rattle.reader.proofs.Answers.{read-on, read-stopped}
 use Rattle.records.specs.Forms.{stepsGiven}
-use Rattle.given.proofs.Outside.{given-count}
+use Rattle.encode.proofs.Counting.{given-length}
 use Rattle.given.proofs.Plain.{is-ranked}
 use Rattle.given.proofs.Turns.{Turning, turns-start, turns-done, turn-stops, turned, turn-over, turn-step}
 use Rattle.given.proofs.judge_outermost.Statement.{statement}
@@ -33,7 +33,7 @@ judge-outermost-spec =
     record {
       shaped = s .pre .shaped;
       sound = g .sound;
-      inside = omega (arith, g .inside, given-count (a .table .rank) (a .steps .now));
+      inside = omega (arith, g .inside, given-length (a .table .rank) (a .steps .now));
       few = s .pre .few;
     })
     (λ c. search needs)
@@ -56,7 +56,7 @@ judge-outermost-spec =
     (λ c. let l = c .before .before .before .before .before .before .before in
     let s = l .before .before in
     let a = s .args in
-    omega (arith, l .loop .inv .inside, given-count (a .table .rank) (a .steps .now), s .pre .few))
+    omega (arith, l .loop .inv .inside, given-length (a .table .rank) (a .steps .now), s .pre .few))
     (λ c. let j = c .before .before .before .before .before in
     let l = j .before .before in
     let s = l .before .before in
@@ -65,7 +65,7 @@ judge-outermost-spec =
     let k = is-ranked (meshOf (a .mesh)) (sizesOf (a .table)) (a .table .rank) (p .rank-is) (p .fits .rank) (a .steps .now) 0 in
     let m = read-on _ (j .judge-record .ensures .reads) (c .before .before .before .next .given .1) in
     let t = turned (meshOf (a .mesh)) (sizesOf (a .table)) (stepsGiven (a .table .rank) (a .steps .now)) (l .loop .inv) k (p .fits .sized .least) (j .before .loop-test .taken) m in
-    omega (arith, t .inside, t .further, given-count (a .table .rank) (a .steps .now), s .pre .few))
+    omega (arith, t .inside, t .further, given-length (a .table .rank) (a .steps .now), s .pre .few))
     (λ c κs. search needs)
     (λ c. let j = c .before .before .before .before .before .before in
     let l = j .before .before in

@@ -22,6 +22,7 @@ judge-plain-spec =
     retold (c .refused .ensures (a .table .rank)) (past-last (meshOf (a .mesh)) (sizesOf (a .table)) (a .table .rank) (p .rank-is) (p .fits .rank) (a .steps .now) (a .i) (shardingOf (a .table .rank) (a .sharding)) (c .before .if1 .taken)))
     (λ c. search needs)
     (λ c. let p = c .before .before .pre .0 in omega (arith, p .inside, p .few))
+    (λ c. search needs)
     (λ c κs. search needs)
     (λ c κs. let p = c .before .before .before .pre .0 .shaped .fits in (p .rank, p .axes))
     (λ c. search needs)

@@ -18,7 +18,7 @@ judge-records-spec =
     (λ c. let v = c .before .before in
     let o = v .before in
     let a = o .before .before .before .before .before .args in
-    let n = o .count-outermost .ensures (length (now (a .sizes))) in
+    let n = o .outermost-steps .ensures (length (now (a .sizes))) in
     stops _ _ _ (v .judge-shape .ensures) _ (c .enum-told2 .given .1) ∙ sym (in-parts (now (a .mesh)) (now (a .order)) (now (a .sizes)) (a .start) (now (a .steps)) n))
     (λ c κs. search needs)
     (λ c κs. search needs)
@@ -26,12 +26,12 @@ judge-records-spec =
     let v = t .before .before in
     let a = v .before .before .before .before .before .before .args in
     let e = passed (v .judge-shape .ensures) (t .enum-told .given .1) in
-    shaped (now (a .mesh)) (now (a .order)) (now (a .sizes)) (v .before .count-outermost .result) e _ _ (c .before .mesh-of .ensures) (c .table-of .ensures))
+    shaped (now (a .mesh)) (now (a .order)) (now (a .sizes)) (v .before .outermost-steps .result) e _ _ (c .before .mesh-of .ensures) (c .table-of .ensures))
     (λ c. let t = c .before .before .before in
     let v = t .before .before in
     let o = v .before in
     let a = o .before .before .before .before .before .args in
-    let n = o .count-outermost .ensures (length (now (a .sizes))) in
+    let n = o .outermost-steps .ensures (length (now (a .sizes))) in
     let e = passed (v .judge-shape .ensures) (t .enum-told .given .1) in
     c .judge-rest .ensures
     ∙ rest-of (now (a .mesh)) (now (a .order)) (now (a .sizes)) (a .start) (now (a .steps)) n e _ _ (c .before .before .mesh-of .ensures) (c .before .table-of .ensures)
