@@ -373,6 +373,17 @@ fn tail(random: &mut Random, list: &[Axis], least: usize) -> Vec<Axis> {
     list[list.len() - random.between(least, list.len())..].to_vec()
 }
 
+/// A plan of few words that is accepted, so that many steps can be run.
+pub fn small(random: &mut Random) -> Draft {
+    let scale = Scale {
+        devices: 16,
+        words: 64,
+        steps: random.between(1, 16),
+        run: 64,
+    };
+    accepted(random, scale)
+}
+
 /// A plan that is accepted.
 pub fn accepted(random: &mut Random, scale: Scale) -> Draft {
     let mesh = random_mesh(random, scale.devices);

@@ -24,9 +24,37 @@ pub struct Judged {
     pub shards: Vec<Sizes>,
 }
 
+/// The limits that document 02, Ask 12, raised.
+#[derive(Clone, Copy)]
+pub struct Limits {
+    pub bytes: usize,
+    pub devices: usize,
+    pub words: usize,
+}
+
+impl Limits {
+    pub const PRESENT: Limits = Limits {
+        bytes: MOST_BYTES,
+        devices: MOST_DEVICES,
+        words: MOST_WORDS,
+    };
+
+    /// Those of document 01.
+    pub const ORIGINAL: Limits = Limits {
+        bytes: 4096,
+        devices: 256,
+        words: 4096,
+    };
+}
+
 /// Judges a plan file.
 pub fn check(file: &[u8]) -> Result<Judged, Refusal> {
-    let plan = Plan::judge(file)?;
+    check_within(file, Limits::PRESENT)
+}
+
+/// Judges a plan file as the reader with these limits does.
+pub fn check_within(file: &[u8], limits: Limits) -> Result<Judged, Refusal> {
+    let plan = Plan::judge_within(file, limits)?;
     let last = plan.last();
     let checked = Checked {
         room: plan.room() as u32,
@@ -84,7 +112,7 @@ fn given_mesh(sizes: &[u16]) -> Result<Mesh, Refusal> {
     if !(1..=MOST_AXES).contains(&sizes.len()) {
         return Err(Refusal::whole(5));
     }
-    Mesh::judge(sizes.iter().copied().collect())
+    Mesh::judge(sizes.iter().copied().collect(), MOST_DEVICES)
 }
 
 fn list_groups(
@@ -137,17 +165,21 @@ struct Plan {
 
 impl Plan {
     fn judge(file: &[u8]) -> Result<Plan, Refusal> {
-        let header = Header::judge(file)?;
+        Plan::judge_within(file, Limits::PRESENT)
+    }
+
+    fn judge_within(file: &[u8], limits: Limits) -> Result<Plan, Refusal> {
+        let header = Header::judge(file, limits.bytes)?;
         let mut reader = Reader { file, at: 18 };
         reader.expect_at(header.mesh_at)?;
-        let mesh = Mesh::judge(reader.sizes(header.axes)?)?;
+        let mesh = Mesh::judge(reader.sizes(header.axes)?, limits.devices)?;
         let order = match header.edition {
             3 => Order::judge(reader.devices(mesh.devices)?, mesh.devices)?,
             _ => Order::PLAIN,
         };
         reader.expect_at(header.table_at)?;
         let table: Sizes = reader.sizes(header.rank)?;
-        product_within(&table, 12, MOST_WORDS, 13)?;
+        product_within(&table, 12, limits.words, 13)?;
         reader.expect_at(header.start_at)?;
         let start = reader.sharding(&header)?;
         reader.expect_at(header.steps_at)?;
@@ -372,11 +404,11 @@ struct Header {
 }
 
 impl Header {
-    fn judge(file: &[u8]) -> Result<Header, Refusal> {
+    fn judge(file: &[u8], most: usize) -> Result<Header, Refusal> {
         if file.len() < LEAST_BYTES {
             return Err(Refusal::whole(1));
         }
-        if file.len() > MOST_BYTES {
+        if file.len() > most {
             return Err(Refusal::whole(2));
         }
         let entry = |index: usize| usize::from(number_at(file, 2 * index));
@@ -535,8 +567,8 @@ struct Mesh {
 }
 
 impl Mesh {
-    fn judge(sizes: Short<u16, MOST_AXES>) -> Result<Mesh, Refusal> {
-        let devices = product_within(&sizes, 10, MOST_DEVICES, 11)?;
+    fn judge(sizes: Short<u16, MOST_AXES>, most: usize) -> Result<Mesh, Refusal> {
+        let devices = product_within(&sizes, 10, most, 11)?;
         let mut left = devices;
         let stride = |&size: &u16| {
             left /= usize::from(size);

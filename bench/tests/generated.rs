@@ -3,7 +3,7 @@
 
 use bench::answers::{Device, Refusal};
 use bench::plans::{
-    accepted, broken, damaged, filling, random_scale, scale_at_a_limit, Draft, Scale, Step,
+    accepted, broken, damaged, filling, random_scale, scale_at_a_limit, small, Draft, Scale, Step,
     FILE_REFUSALS,
 };
 use bench::random::Random;
@@ -28,17 +28,6 @@ fn accepted_plans_are_accepted() {
         of_edition[1..].iter().all(|&plans| plans > 700),
         "{of_edition:?}"
     );
-}
-
-/// A plan of few words, so that many steps can be run.
-fn small(random: &mut Random) -> Draft {
-    let scale = Scale {
-        devices: 16,
-        words: 64,
-        steps: random.between(1, 16),
-        run: 64,
-    };
-    accepted(random, scale)
 }
 
 #[test]

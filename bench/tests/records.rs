@@ -2,7 +2,7 @@
 //! what is left of the buffer, and the steps from one sharding to another.
 
 use bench::answers::{Axis, Dim, Refusal, Sharding, MOST_BYTES};
-use bench::plans::{accepted, axes, devices, lists, random_scale, Draft, Scale, Step};
+use bench::plans::{self, accepted, axes, devices, lists, random_scale, Draft, Step};
 use bench::random::Random;
 use bench::records::{MeshAndTable, Records, ShardingRecord, StepRecord};
 use bench::{blocks, hex, implementations, Implementation};
@@ -143,17 +143,6 @@ fn accepted_plans_are_written_as_their_files() {
     assert!(nested > 100, "{nested}");
 }
 
-/// A plan of few words and steps.
-fn small_draft(random: &mut Random) -> Draft {
-    let scale = Scale {
-        devices: 16,
-        words: 64,
-        steps: random.between(1, 12),
-        run: 64,
-    };
-    accepted(random, scale)
-}
-
 /// Some list of axes: of the start, or of a step in a block or outside.
 fn random_list<'a>(random: &mut Random, draft: &'a mut Draft) -> Option<&'a mut Vec<Axis>> {
     fn gathered<'a>(step: &'a mut Step, all: &mut Vec<&'a mut Vec<Axis>>) {
@@ -211,7 +200,7 @@ fn spoilt_records_get_the_refusal_of_the_check() {
     let mut random = Random::new(22);
     let mut seen: BTreeMap<u8, usize> = BTreeMap::new();
     for _ in 0..20000 {
-        let mut draft = small_draft(&mut random);
+        let mut draft = plans::small(&mut random);
         for _ in 0..random.between(1, 3) {
             spoil(&mut random, &mut draft);
         }
@@ -272,7 +261,7 @@ fn records_that_end_inside_a_block_get_7() {
     let mut random = Random::new(23);
     let mut inside = 0;
     for _ in 0..300 {
-        let draft = small_draft(&mut random);
+        let draft = plans::small(&mut random);
         let whole = Records::from(&draft);
         // Where each outermost step begins.
         let ends: Vec<usize> = (0..=draft.steps.len())
@@ -322,9 +311,9 @@ fn all_counts_of_the_start_are_judged_before_its_axes() {
 fn a_file_past_the_limit_gets_2_before_35() {
     let mut random = Random::new(24);
     for _ in 0..5 {
-        let longest = blocks::longest(&mut random, small_draft, MOST_BYTES);
+        let longest = blocks::longest(&mut random, plans::small, MOST_BYTES);
         assert_written(&Records::from(&longest), &longest.encode());
-        let longer = blocks::longest(&mut random, small_draft, MOST_BYTES + 1);
+        let longer = blocks::longest(&mut random, plans::small, MOST_BYTES + 1);
         let mut records = Records::from(&longer);
         assert_refused(&records, 2, 0);
         // The refusal of the records themselves comes first.
@@ -441,7 +430,7 @@ fn plans_are_accepted_and_end_at_the_goal() {
     let mut random = Random::new(25);
     let mut of_length = [0; 4];
     for _ in 0..2000 {
-        let draft = small_draft(&mut random);
+        let draft = plans::small(&mut random);
         let Records { on, start, .. } = Records::from(&draft);
         for one in implementations() {
             let goal = one.check(&draft.encode()).expect("accepted").sharding;

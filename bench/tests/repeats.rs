@@ -3,6 +3,7 @@
 
 use bench::answers::{Device, Dim, Refusal};
 use bench::plans::{axes, devices, lists, mend_length, Draft, Step};
+use bench::reference::{self, Limits};
 use bench::{blocks, hex, implementations, Implementation};
 
 fn refusal<T>(number: u8, step: u16) -> Result<T, Refusal> {
@@ -517,6 +518,25 @@ fn of_bytes(bytes: usize, blocks: usize) -> Draft {
         repeat(2, vec![pair.clone(); left / 8 / blocks + more].concat())
     };
     empty.with_steps((0..blocks).map(block).collect())
+}
+
+/// Accepted files of more than 4,096 bytes, which only blocks reach: the reader with document 01's
+/// limits answers 2, and on one of 4,096 bytes what the present one answers.
+#[test]
+fn the_earlier_byte_limit_refuses_longer_files() {
+    for (bytes, blocks) in [(4097, 10), (8192, 15)] {
+        let draft = of_bytes(bytes, blocks);
+        assert_accepted(&draft, blocks as u16);
+        let earlier = reference::check_within(&draft.encode(), Limits::ORIGINAL);
+        assert_eq!(earlier.map(|judged| judged.checked), refusal(2, 0));
+    }
+    let file = of_bytes(4096, 7).encode();
+    let earlier = reference::check_within(&file, Limits::ORIGINAL).map(|judged| judged.checked);
+    assert!(earlier.is_ok());
+    assert_eq!(
+        earlier,
+        reference::check(&file).map(|judged| judged.checked)
+    );
 }
 
 #[test]

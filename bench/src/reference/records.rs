@@ -1,8 +1,8 @@
 //! Document 02, Asks 2 and 10: the writer and the planner.
 
 use super::{
-    product_within, within_limits, Judge, Mesh, Order, Source, State, Step, MOST_BYTES, MOST_WORDS,
-    REPEAT,
+    product_within, within_limits, Judge, Mesh, Order, Source, State, Step, MOST_BYTES,
+    MOST_DEVICES, MOST_WORDS, REPEAT,
 };
 use crate::answers::{Axis, AxisList, DimLists, Refusal, Sharding, Sizes};
 use crate::records::{MeshAndTable, Records, ShardingRecord, StepRecord};
@@ -91,7 +91,7 @@ struct Ground {
 impl Ground {
     fn judge(on: &MeshAndTable, steps: usize) -> Result<Ground, Refusal> {
         within_limits(on.mesh.len(), on.table.len(), steps)?;
-        let mesh = Mesh::judge(on.mesh.iter().copied().collect())?;
+        let mesh = Mesh::judge(on.mesh.iter().copied().collect(), MOST_DEVICES)?;
         if !on.order.is_empty() {
             Order::judge(on.order.clone(), mesh.devices)?;
         }
