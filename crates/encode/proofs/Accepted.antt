@@ -67,7 +67,7 @@ use Rattle.records.specs.RoundTrip.{Ranked, AllRanked}
 use Rattle.records.proofs.Places.{from-all}
 use Rattle.records.proofs.Given.{all-given}
 use Rattle.records.proofs.Readback.{order-passed}
-use Rattle.records.proofs.Planned.{sharding-facts}
+use Rattle.records.proofs.Accepting.{sharding-facts}
 use Rattle.encode.specs.Putting.{ShortLists, ShortStep, ShortGiven, ShortSteps, Encodable}
 use Rattle.encode.proofs.Counting.{given-length}
 

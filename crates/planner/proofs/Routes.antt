@@ -27,10 +27,11 @@ use Rattle.given.specs.Given.{judgeShape, meshFrom, tableFrom}
 use Rattle.given.proofs.Sizes.{mesh-is, table-is}
 use Rattle.given.proofs.Whole.{axes-few, dims-few}
 use Rattle.given.proofs.Counts.{sharding-fits}
-use Rattle.planner.specs.declared.Planned.{Planned}
-use Rattle.planner.specs.declared.Steps.{Steps}
-use Rattle.planner.specs.declared.PlanOutcome.the-variants as outcome
-use Rattle.planner.specs.Planned.{stepsFrom, judgeRoute, stepsPlanned, plannedOf}
+use Rattle.records.specs.declared.Planned.{Planned}
+use Rattle.records.specs.declared.Steps.{Steps}
+use Rattle.records.specs.declared.PlanOutcome.the-variants as outcome
+use Rattle.records.specs.PlanAnswer.{stepsFrom, stepsPlanned, plannedOf}
+use Rattle.planner.specs.Routes.{judgeRoute}
 
 -- ---- 40
 

@@ -13,8 +13,8 @@ use Rattle.rules.specs.Collectives.{Step, allSlice, allGather, allReduce, stepA
 use Rattle.rules.specs.PlanFile.{some}
 use Rattle.rules.specs.declared.Step as code
 use Rattle.records.specs.Planning.{toReduce, toGather, toSlice, ifNaming, planSteps}
-use Rattle.planner.specs.declared.Steps.{Steps}
-use Rattle.planner.specs.Planned.{stepFrom, stepsFrom}
+use Rattle.records.specs.declared.Steps.{Steps}
+use Rattle.records.specs.PlanAnswer.{stepFrom, stepsFrom}
 
 -- one step more in the first place that is free
 pub one-more : (ts : List Step) (t : Step) → length ts < 3

@@ -11,7 +11,8 @@ ghost use Rattle.rules.specs.Collectives as rules;
 ghost use Rattle.rules.specs.Types.{axesOf, dimsOf, shardingOf};
 ghost use Rattle.start.specs.Start.{meaning};
 ghost use Rattle.records.specs.Planning.{common as commonOf, restOfStart, planSteps, reachable};
-ghost use Rattle.planner.specs.Planned.{stepFrom, stepsFrom, judgeRoute, stepsPlanned, plannedOf};
+ghost use Rattle.records.specs.PlanAnswer.{stepFrom, stepsFrom, stepsPlanned, plannedOf};
+ghost use Rattle.planner.specs.Routes.{judgeRoute};
 use axes::all_in;
 use axes::without;
 use blocks::same_list;
@@ -21,12 +22,14 @@ use given::judge_shape;
 use given::judge_sharding;
 use given::mesh_of;
 use given::table_of;
+use records::PlanOutcome;
+use records::Planned;
+use records::Steps;
 use rules::AxisList;
 use rules::Dim;
 use rules::DimLists;
 use rules::Kind;
 use rules::Reason;
-use rules::Refusal;
 use rules::Sharding;
 use rules::Step;
 use start::Verdict;
@@ -131,45 +134,37 @@ fn slice_of(lists: DimLists, rank: usize) -> Step
     }
 }
 
-// At most three steps: the first `count` places; the others hold no step.
-pub struct Steps {
-    pub count: usize,
-    pub steps: [Step; 3],
+// No steps.
+fn no_steps() -> Steps
+    ensures { λ r. ⌜ r ≡ stepsFrom [] ⌝ }
+{
+    let lists = DimLists::empty();
+    let list = AxisList::empty();
+    let step = Step {
+        kind: Kind::Unknown,
+        source: Dim(0),
+        target: Dim(0),
+        lists: dims_within(lists, 0),
+        list: list.cleared(),
+    };
+    Steps {
+        count: 0,
+        steps: [step; 3],
+    }
 }
 
-impl Steps {
-    // No steps.
-    pub fn none() -> Steps
-        ensures { λ r. ⌜ r ≡ stepsFrom [] ⌝ }
-    {
-        let lists = DimLists::empty();
-        let list = AxisList::empty();
-        let step = Step {
-            kind: Kind::Unknown,
-            source: Dim(0),
-            target: Dim(0),
-            lists: dims_within(lists, 0),
-            list: list.cleared(),
-        };
-        Steps {
-            count: 0,
-            steps: [step; 3],
-        }
+// One step more, unless it names no axis.
+fn with_step(steps: Steps, step: Step, naming: bool) -> Steps
+    requires { ⌜ steps .count < 3 ⌝ }
+    ensures { λ r. ⌜ ((ts : List rules.Step) (t : rules.Step) → steps ≡ stepsFrom ts → step ≡ stepFrom t → r ≡ stepsFrom (pick naming (ts ++ t ∷ []) ts)) ⌝ }
+{
+    let mut next = steps;
+    if naming {
+        let at = steps.count;
+        next.steps[at] = step;
+        next.count = at + 1;
     }
-
-    // One step more, unless it names no axis.
-    fn with(self, step: Step, naming: bool) -> Steps
-        requires { ⌜ self .count < 3 ⌝ }
-        ensures { λ r. ⌜ ((ts : List rules.Step) (t : rules.Step) → self ≡ stepsFrom ts → step ≡ stepFrom t → r ≡ stepsFrom (pick naming (ts ++ t ∷ []) ts)) ⌝ }
-    {
-        let mut next = self;
-        if naming {
-            let at = self.count;
-            next.steps[at] = step;
-            next.count = at + 1;
-        }
-        next
-    }
+    next
 }
 
 // The steps from one sharding to another of a table of a rank.
@@ -180,10 +175,10 @@ pub fn plan_steps(start: Sharding, goal: Sharding, rank: usize) -> Steps
     let list = without(start.unreduced, goal.unreduced);
     let off = rests(start.dims, goal.dims, rank);
     let on = rests(goal.dims, start.dims, rank);
-    let none = Steps::none();
-    let one = none.with(reduce_of(list), list.len() != 0);
-    let two = one.with(gather_of(off, rank), names_axis(off, rank));
-    two.with(slice_of(on, rank), names_axis(on, rank))
+    let none = no_steps();
+    let one = with_step(none, reduce_of(list), list.len() != 0);
+    let two = with_step(one, gather_of(off, rank), names_axis(off, rank));
+    with_step(two, slice_of(on, rank), names_axis(on, rank))
 }
 
 // 40: the goal has an unreduced axis that the start lacks, or another replicated list.
@@ -226,17 +221,6 @@ fn judge_route<'a>(
     judge_reach(start, goal)
 }
 
-pub enum PlanOutcome {
-    Made,
-    Refused(Refusal),
-}
-
-// The planner's answer: the steps stand beside the outcome; there are none beside a refusal.
-pub struct Planned {
-    pub outcome: PlanOutcome,
-    pub plan: Steps,
-}
-
 // The plan from one sharding to another.
 pub fn plan<'a>(
     mesh: &'a [u16],
@@ -251,7 +235,7 @@ pub fn plan<'a>(
     let Verdict::Fine = verdict else {
         return Planned {
             outcome: PlanOutcome::Refused(refusal_of(verdict)),
-            plan: Steps::none(),
+            plan: no_steps(),
         };
     };
     Planned {

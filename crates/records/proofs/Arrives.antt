@@ -30,7 +30,7 @@ use Rattle.records.proofs.Places.{from-all}
 use Rattle.records.proofs.Lists.{is-le}
 use Rattle.records.proofs.Written.{file-judged}
 use Rattle.records.proofs.Readback.{order-passed}
-use Rattle.records.proofs.Planned.{Judges, sharding-facts, counts-few, givenOf, Goes, plan-goes, plan-few}
+use Rattle.records.proofs.Accepting.{Judges, sharding-facts, counts-few, givenOf, Goes, plan-goes, plan-few}
 
 -- plain steps are all outermost
 outermost-plain : (ts : List Step) → outermost (givenOf ts) ≡ length ts

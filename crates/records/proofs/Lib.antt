@@ -9,6 +9,6 @@ pub mod Spelled
 pub mod Again
 pub mod Readback
 pub mod Cutting
-pub mod Planned
+pub mod Accepting
 pub mod Arrives
 pub mod Promises

@@ -1,15 +1,15 @@
 -- Document 02, Ask 2: what the arguments of the writer's call stand for. A list counts as many axes as its count says, also where it has fewer places, so
 -- that 8 is given for it; step records are bytes. Assumes nothing.
 use Prim.Native.Nat.{ℕ, _+_, _*_, _/_}
-use mathlib.Core.List.{List, [], _∷_, map}
+use mathlib.Core.List.{List, [], _∷_, _++_, map}
 use lib.ListN.{length, getD, take, replicate}
 use lib.Dec.{leb, eqb}
-use Rattle.rules.specs.Lists.{tab, pick}
+use Rattle.rules.specs.Lists.{tab, pick, flat}
 use Rattle.rules.specs.Limits.{mostAxes}
 use Rattle.rules.specs.Sharding.{Sharding}
 use Rattle.rules.specs.Collectives.{allSlice, allGather, allReduce, allToAll}
-use Rattle.rules.specs.PlanFile.{kindOf, plain, repeat}
-use Rattle.rules.specs.Types.{axesOf}
+use Rattle.rules.specs.PlanFile.{kindOf, Record, plain, repeat}
+use Rattle.rules.specs.Types.{axesOf, fourPlaces}
 use Rattle.rules.specs.declared.Axis.{Axis}
 use Rattle.rules.specs.declared.AxisList.{AxisList}
 use Rattle.rules.specs.declared.DimLists.{DimLists}
@@ -87,3 +87,39 @@ recordsGiven mesh order sizes start steps = record {
   start = shardingGiven (length sizes) start;
   steps = stepsGiven (length sizes) steps;
 }
+
+-- ---- the other way: the bytes of a record, every place of them; those that are not used hold 0
+
+-- kind, source and target
+abbrev pub recordHead : Record → List ℕ
+recordHead (plain (allSlice Ss)) = 1 ∷ 0 ∷ 0 ∷ []
+recordHead (plain (allGather Gs)) = 2 ∷ 0 ∷ 0 ∷ []
+recordHead (plain (allReduce L)) = 3 ∷ 0 ∷ 0 ∷ []
+recordHead (plain (allToAll source target L)) = 4 ∷ source ∷ target ∷ []
+recordHead (repeat count number) = 9 ∷ count ∷ number ∷ []
+
+-- the five lists
+abbrev pub recordLists : Record → List (List ℕ)
+recordLists (plain (allSlice Ss)) = fourPlaces [] Ss ++ [] ∷ []
+recordLists (plain (allGather Gs)) = fourPlaces [] Gs ++ [] ∷ []
+recordLists (plain (allReduce L)) = fourPlaces [] [] ++ L ∷ []
+recordLists (plain (allToAll source target L)) = fourPlaces [] [] ++ L ∷ []
+recordLists (repeat count number) = fourPlaces [] [] ++ [] ∷ []
+
+-- how many axes each has, and the axes, in six places each
+abbrev pub recordCounts : Record → List ℕ
+recordCounts g = map length (recordLists g)
+
+abbrev pub sixPlaces : List ℕ → List ℕ
+sixPlaces l = tab mostAxes (λ i. getD l i 0)
+
+abbrev pub recordAxes : Record → List ℕ
+recordAxes g = flat (map sixPlaces (recordLists g))
+
+unfoldable pub recordOf : Record → List ℕ
+recordOf g = recordHead g ++ (recordCounts g ++ recordAxes g)
+
+unfoldable pub recordsBytes : List Record → List ℕ
+unfolding recordOf
+recordsBytes [] = []
+recordsBytes (g ∷ gs) = recordOf g ++ recordsBytes gs

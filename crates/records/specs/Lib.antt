@@ -3,5 +3,8 @@ pub mod Records
 pub mod Writing
 pub mod Forms
 pub mod RoundTrip
+pub mod Reading
 pub mod Planning
+pub mod PlanAnswer
+pub mod Promises
 pub mod WorkedRecords

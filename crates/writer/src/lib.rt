@@ -3,22 +3,17 @@ ghost use mathlib.Core.Path.{_≡_};
 ghost use Rattle.rules.specs.Refusals.{refuse, numberOf};
 ghost use Rattle.records.specs.Writing.{writeOf, writeLeaves};
 ghost use Rattle.records.specs.Forms.{recordsGiven};
-ghost use Rattle.writer.specs.Written.{writeMeaning};
+ghost use Rattle.records.specs.Promises.{writeMeaning};
 use encode::file_length;
 use encode::put_file;
 use given::judge_records;
+use records::WriteOutcome;
 use rules::PlanFile;
 use rules::Reason;
 use rules::Refusal;
 use rules::Sharding;
 use start::Verdict;
 use start::refusal_of;
-
-// The number of bytes written, or the refusal.
-pub enum WriteOutcome {
-    Written(usize),
-    Refused(Refusal),
-}
 
 // A refusal outside the steps.
 fn refused(reason: Reason) -> WriteOutcome

@@ -24,7 +24,7 @@ plan-spec =
     let j = e .before .before in
     let a = j .before .before .before .before .args in
     plan-refused (now (a .mesh)) (now (a .order)) (now (a .table)) (a .start) (a .goal) (j .judge-route .result) _ (j .judge-route .ensures) (e .enum-told2 .given .1)
-    (c .before .refusal-of .ensures) (c .none .ensures))
+    (c .before .refusal-of .ensures) (c .no-steps .ensures))
     (λ c κs. let j = c .before .before in
     let a = j .before .before .before .before .args in
     route-rank (now (a .mesh)) (now (a .order)) (now (a .table)) (a .start) (a .goal) (passed (j .judge-route .ensures) (c .enum-told .given .1)))

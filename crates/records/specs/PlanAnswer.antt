@@ -1,4 +1,4 @@
--- Steps as the planner answers them: every place is fixed, and those that are not used hold no axes, no step. Assumes nothing.
+-- The planner's answer as the code has it: every place is fixed, and those that are not used hold no axes, no step. Assumes nothing.
 use Prim.Native.Nat.{ℕ}
 use mathlib.Core.List.{List, [], _∷_, map}
 use lib.ListN.{length, getD}
@@ -11,13 +11,11 @@ use Rattle.rules.specs.declared.Kind.the-variants.{AllSlice, AllGather, AllRedu
 use Rattle.rules.specs.declared.Step.{Step}
 use Rattle.rules.specs.Refusals.{Judged, accept, refuse, _>>_, refusalOf}
 use Rattle.rules.specs.declared.Sharding as code
-use Rattle.records.specs.Writing.{judgeSharding}
 use Rattle.records.specs.Forms.{shardingGiven}
-use Rattle.records.specs.Planning.{planSteps, reachable, planOf}
-use Rattle.given.specs.Given.{judgeShape}
-use Rattle.planner.specs.declared.Steps.{Steps}
-use Rattle.planner.specs.declared.Planned.{Planned}
-use Rattle.planner.specs.declared.PlanOutcome.the-variants as outcome
+use Rattle.records.specs.Planning.{planSteps, planOf}
+use Rattle.records.specs.declared.Steps.{Steps}
+use Rattle.records.specs.declared.Planned.{Planned}
+use Rattle.records.specs.declared.PlanOutcome.the-variants as outcome
 
 abbrev pub stepWith : Kind → (source target : ℕ) → List (List ℕ) → List ℕ → Step
 stepWith kind source target lists list = record {
@@ -42,14 +40,6 @@ unfoldable pub stepsFrom : List rules.Step → Steps
 stepsFrom ts = record { count = length ts; steps = tab 3 (λ i. getD (map stepFrom ts) i noStep) }
 
 -- ---- the call
-
--- the tests of `planOf`, in its order
-abbrev pub judgeRoute : (mesh order sizes : List ℕ) → (start goal : code.Sharding) → Judged (Unit {0})
-judgeRoute mesh order sizes start goal = do
-  judgeShape mesh order sizes 0
-  judgeSharding mesh sizes (shardingGiven (length sizes) start)
-  judgeSharding mesh sizes (shardingGiven (length sizes) goal)
-  reachable (shardingGiven (length sizes) start) (shardingGiven (length sizes) goal)
 
 -- the steps of the records that the definition makes of the arguments, or its refusal
 abbrev pub stepsPlanned : (mesh order sizes : List ℕ) → (start goal : code.Sharding) → Judged (List rules.Step)

@@ -2,11 +2,11 @@ use borrow.Author.Needs.{needs}
 use mathlib.Core.Path.{sym, ap, _∙_}
 use native.Mathlib.Omega.{arith}
 use Rattle.planner.proofs.Three.{more, kept}
-use Rattle.planner.proofs.Steps.with.Statement.{statement}
-use Rattle.planner.proofs.Steps.with.Tie as tie
+use Rattle.planner.proofs.with_step.Statement.{statement}
+use Rattle.planner.proofs.with_step.Tie as tie
 
-pub with-spec : {M : Type 1} → statement M
-with-spec =
+pub with-step-spec : {M : Type 1} → statement M
+with-step-spec =
     tie.close
     (tie.spec
     (λ c. search needs)

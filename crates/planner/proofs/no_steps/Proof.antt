@@ -4,13 +4,13 @@ use mathlib.Core.List.{[], _∷_}
 use Rattle.rules.specs.Types.{listFrom, listsFrom}
 use Rattle.rules.specs.declared.Kind.the-variants.{Unknown}
 use Rattle.rules.specs.declared.Step.{Step}
-use Rattle.planner.specs.Planned.{noStep, stepsFrom}
-use Rattle.planner.proofs.Steps.none.Statement.{statement}
-use Rattle.planner.proofs.Steps.none.Tie as tie
+use Rattle.records.specs.PlanAnswer.{noStep, stepsFrom}
+use Rattle.planner.proofs.no_steps.Statement.{statement}
+use Rattle.planner.proofs.no_steps.Tie as tie
 
-pub none-spec : {M : Type 1} → statement M
+pub no-steps-spec : {M : Type 1} → statement M
 unfolding stepsFrom
-none-spec =
+no-steps-spec =
     tie.close
     (tie.spec
     (λ c κs. search needs)

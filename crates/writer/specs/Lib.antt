@@ -1,2 +1,0 @@
--- What the writer's answers stand for.
-pub mod Written
