@@ -9,11 +9,11 @@ ghost use Rattle.rules.specs.Limits.{mostAxes};
 ghost use Rattle.rules.specs.Mesh.{span as spanOf};
 ghost use Rattle.rules.specs.Collectives.{cutTail};
 ghost use Rattle.rules.specs.PlanFile.{allBelow, increasingFrom, allIn, isTail};
-ghost use Rattle.rules.specs.Types.{axesOf, meshOf, Sized};
+ghost use Rattle.types.specs.Types.{axesOf, meshOf, Sized};
 ghost use Rattle.axes.specs.Marks.{marksWith};
-use rules::Axis;
-use rules::AxisList;
-use rules::Mesh;
+use types::Axis;
+use types::AxisList;
+use types::Mesh;
 
 // The product of the sizes of a list's axes.
 pub fn span(list: AxisList, mesh: Mesh) -> usize

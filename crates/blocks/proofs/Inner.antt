@@ -12,11 +12,11 @@ use Rattle.rules.specs.Sharding.{Sharding, IsSharding}
 use Rattle.rules.specs.Collectives.{Step, after}
 use Rattle.rules.specs.Refusals.{Judged, accept, refuse, _>>=_}
 use Rattle.rules.specs.PlanFile.{Read, StepsRead, JudgesSteps, stepsAt, itemAt}
-use Rattle.rules.specs.Demands.{onePass, largestOn}
-use Rattle.rules.proofs.Lists.{in-turn-append}
-use Rattle.rules.proofs.Turns.{steps-sharding, last-largest, largest-append}
-use Rattle.rules.proofs.Repeats.{pass-append, Told, item-tells}
-use Rattle.rules.proofs.Bytes.{Takes, TakesAll, item-takes}
+use Rattle.laws.specs.Demands.{onePass, largestOn}
+use Rattle.laws.proofs.Lists.{in-turn-append}
+use Rattle.laws.proofs.Turns.{steps-sharding, last-largest, largest-append}
+use Rattle.laws.proofs.Repeats.{pass-append, Told, item-tells}
+use Rattle.laws.proofs.Bytes.{Takes, TakesAll, item-takes}
 use Rattle.blocks.specs.Blocks.{Summary, shardWords, summarized}
 use Rattle.blocks.proofs.Plain.{summary-inv}
 

@@ -10,24 +10,11 @@ use Rattle.rules.specs.Lists.{flat}
 use Rattle.rules.specs.Limits.{mostRun}
 use Rattle.rules.specs.Sharding.{Sharding}
 use Rattle.rules.specs.Refusals.{Judged, accept, refuse, _>>=_, _>>_, needAt}
-use Rattle.rules.specs.PlanFile.{
-  Read,
-  repeat,
-  StepsRead,
-  stepsAt,
-  plainAt,
-  positiveAt,
-  sameSharding,
-  repeatAt,
-  isRepeat,
-  itemBy,
-  tooDeep,
-  itemAt,
-}
-use Rattle.rules.specs.Demands.{onePass, largestOn}
-use Rattle.rules.specs.Types.{shardingOf}
-use Rattle.rules.specs.declared.Sharding as code
-use Rattle.rules.proofs.Turns.{length-times}
+use Rattle.rules.specs.PlanFile.{Read, repeat, StepsRead, stepsAt, plainAt, positiveAt, sameSharding, repeatAt, isRepeat, itemBy, tooDeep, itemAt}
+use Rattle.laws.specs.Demands.{onePass, largestOn}
+use Rattle.types.specs.Types.{shardingOf}
+use Rattle.types.specs.declared.Sharding as code
+use Rattle.laws.proofs.Turns.{length-times}
 use Rattle.reader.specs.Reading.{reading, IfRefused, Tells}
 use Rattle.reader.specs.declared.Next.{Next}
 use Rattle.reader.specs.declared.Next.the-variants as next

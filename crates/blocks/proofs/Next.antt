@@ -7,14 +7,14 @@ use native.Mathlib.Omega.{arith}
 use lib.ListN.{length, getD}
 use Rattle.rules.specs.Sharding.{Sharding, IsSharding}
 use Rattle.rules.specs.PlanFile.{Read, StepsRead, itemAt}
-use Rattle.rules.specs.Demands.{onePass, largestOn}
-use Rattle.rules.specs.Types.{shardingOf, meshOf, sizesOf}
-use Rattle.rules.proofs.Turns.{steps-sharding, last-largest}
-use Rattle.rules.proofs.Repeats.{Told, item-tells}
-use Rattle.rules.proofs.Bytes.{Takes, item-takes}
-use Rattle.rules.specs.declared.Mesh.{Mesh}
-use Rattle.rules.specs.declared.Table.{Table}
-use Rattle.rules.specs.declared.Sharding as code
+use Rattle.laws.specs.Demands.{onePass, largestOn}
+use Rattle.types.specs.Types.{shardingOf, meshOf, sizesOf}
+use Rattle.laws.proofs.Turns.{steps-sharding, last-largest}
+use Rattle.laws.proofs.Repeats.{Told, item-tells}
+use Rattle.laws.proofs.Bytes.{Takes, item-takes}
+use Rattle.types.specs.declared.Mesh.{Mesh}
+use Rattle.types.specs.declared.Table.{Table}
+use Rattle.types.specs.declared.Sharding as code
 use Rattle.judge.specs.Step.{Sharded}
 use Rattle.blocks.specs.Blocks.{shardWords, Summary, summaryIn, summarized, StepsTell, Judging}
 use Rattle.blocks.specs.declared.StepsJudged.{StepsJudged}

@@ -10,18 +10,19 @@ use Rattle.rules.specs.Lists.{tab}
 use Rattle.rules.specs.Limits.{mostAxes, mostDims}
 use Rattle.rules.specs.Sharding.{Sharding}
 use Rattle.rules.specs.Refusals.{Judged, accept, refuse}
-use Rattle.rules.specs.Types.{axesOf, dimsOf, shardingOf, fourPlaces, listFrom, listsFrom, shardingFrom}
-use Rattle.rules.specs.Calls.{CheckAnswer, checkOf, checkedOf, PlaceAnswer, placeOf, placedOf}
-use Rattle.rules.specs.Promises.{CheckPromise, PlacePromise}
-use Rattle.rules.specs.declared.Checked.{Checked}
-use Rattle.rules.specs.declared.Placed.{Placed}
-use Rattle.rules.specs.declared.CheckOutcome.{CheckOutcome}
-use Rattle.rules.specs.declared.CheckOutcome.the-variants as check
-use Rattle.rules.specs.declared.PlaceOutcome.{PlaceOutcome}
-use Rattle.rules.specs.declared.PlaceOutcome.the-variants as place
-use Rattle.rules.proofs.Lists.{tab-cong}
-use Rattle.rules.proofs.Types.{list-axes}
-use Rattle.rules.proofs.Answers.{InPlaces, check-in-places, check-listed, place-in-places, place-listed}
+use Rattle.types.specs.Types.{axesOf, dimsOf, shardingOf, fourPlaces, listFrom, listsFrom, shardingFrom}
+use Rattle.rules.specs.Calls.{CheckAnswer, checkOf, PlaceAnswer, placeOf}
+use Rattle.types.specs.Answers.{checkedOf, placedOf}
+use Rattle.types.specs.Promises.{CheckPromise, PlacePromise}
+use Rattle.types.specs.declared.Checked.{Checked}
+use Rattle.types.specs.declared.Placed.{Placed}
+use Rattle.types.specs.declared.CheckOutcome.{CheckOutcome}
+use Rattle.types.specs.declared.CheckOutcome.the-variants as check
+use Rattle.types.specs.declared.PlaceOutcome.{PlaceOutcome}
+use Rattle.types.specs.declared.PlaceOutcome.the-variants as place
+use Rattle.laws.proofs.Lists.{tab-cong}
+use Rattle.types.proofs.Types.{list-axes}
+use Rattle.types.proofs.Answers.{InPlaces, check-in-places, check-listed, place-in-places, place-listed}
 use Rattle.capi.specs.Boundary.{places, listsOf, listOf, axisIn, shardingReply, checkReply, placeReply, checkedReply, placedReply}
 
 -- ---- the six lists

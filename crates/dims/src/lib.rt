@@ -11,7 +11,7 @@ ghost use Rattle.rules.specs.Mesh.{span as spanOf};
 ghost use Rattle.rules.specs.Sharding.{divisible as divisibleOf, shardSizes};
 ghost use Rattle.rules.specs.Collectives.{cutTail};
 ghost use Rattle.rules.specs.PlanFile.{some, allBelow, isTail};
-ghost use Rattle.rules.specs.Types.{axesOf, dimsOf, shardingOf, fourPlaces, listsFrom, shardingFrom, noLists, meshOf, Sized, sizesOf};
+ghost use Rattle.types.specs.Types.{axesOf, dimsOf, shardingOf, fourPlaces, listsFrom, shardingFrom, noLists, meshOf, Sized, sizesOf};
 ghost use Rattle.axes.specs.Marks.{marksWith};
 ghost use Rattle.dims.specs.Dims.{Room};
 use axes::all_below;
@@ -20,12 +20,12 @@ use axes::is_tail;
 use axes::join;
 use axes::mark_list;
 use axes::span;
-use rules::AxisList;
-use rules::Dim;
-use rules::DimLists;
-use rules::Mesh;
-use rules::Sharding;
-use rules::Table;
+use types::AxisList;
+use types::Dim;
+use types::DimLists;
+use types::Mesh;
+use types::Sharding;
+use types::Table;
 
 // Whether the lists name an axis.
 pub fn names_axis(lists: DimLists, rank: usize) -> bool

@@ -41,28 +41,18 @@ use Rattle.rules.specs.PlanFile.{
   Outermost,
   outermostAt,
 }
-use Rattle.rules.specs.declared.DimLists.{DimLists}
-use Rattle.rules.specs.declared.Sharding as code
+use Rattle.types.specs.declared.DimLists.{DimLists}
+use Rattle.types.specs.declared.Sharding as code
 use Rattle.rules.specs.declared.Kind.{Kind}
 use Rattle.rules.specs.declared.Kind.the-variants.{AllSlice, AllGather, AllReduce, AllToAll, Unknown}
-use Rattle.rules.specs.declared.Step as records
-use Rattle.rules.proofs.Lists.{T-and, getD-tab}
-use Rattle.rules.proofs.Judging.{never, accept-inj, need-inv, then-inv, bind-inv}
-use Rattle.rules.proofs.Accepted.{sizes-facts}
-use Rattle.rules.proofs.Repeats.{IsRepeat, repeat-inv, readBy, outermost-steps}
+use Rattle.types.specs.declared.Step as records
+use Rattle.laws.proofs.Lists.{T-and, getD-tab}
+use Rattle.laws.proofs.Judging.{never, accept-inj, need-inv, then-inv, bind-inv}
+use Rattle.laws.proofs.Accepted.{sizes-facts}
+use Rattle.laws.proofs.Repeats.{IsRepeat, repeat-inv, readBy, outermost-steps}
 use Rattle.records.specs.Records.{Given, known, unknown, Records, outermost, stepsBytes}
 use Rattle.records.specs.Writing.{judgeCounts, judgeSharding, judgeOrder, judgeOpening, mostRecords, judgeRecords}
-use Rattle.records.specs.Forms.{
-  listGiven,
-  dimsGiven,
-  recordBytes,
-  stepRecord,
-  givenKind,
-  givenAt,
-  recordCount,
-  stepsGiven,
-  recordsGiven,
-}
+use Rattle.records.specs.Forms.{listGiven, dimsGiven, recordBytes, stepRecord, givenKind, givenAt, recordCount, stepsGiven, recordsGiven}
 use Rattle.records.specs.RoundTrip.{Ranked, AllRanked}
 use Rattle.records.proofs.Places.{from-all}
 use Rattle.records.proofs.Given.{all-given}

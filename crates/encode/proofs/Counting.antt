@@ -6,8 +6,8 @@ use native.Mathlib.Omega.{arith}
 use lib.ListN.{length, getD, drop, length-drop, drop-of-length-le}
 use Rattle.rules.specs.declared.Kind.{Kind}
 use Rattle.rules.specs.declared.Kind.the-variants.{AllSlice, AllGather, AllReduce, AllToAll, Unknown}
-use Rattle.rules.specs.declared.Step.{Step}
-use Rattle.rules.proofs.Lists.{length-tab, getD-tab}
+use Rattle.types.specs.declared.Step.{Step}
+use Rattle.laws.proofs.Lists.{length-tab, getD-tab}
 use Rattle.axes.proofs.Going.{drop-at}
 use Rattle.records.specs.Records.{Given, unknown, innerOf, outermostFrom, outermost}
 use Rattle.records.specs.Forms.{recordBytes, stepRecord, givenKind, givenAt, recordCount, stepsGiven}

@@ -9,7 +9,7 @@ use Rattle.rules.specs.Limits.{mostAxes, mostDevices, mostDims, mostSteps, leas
 use Rattle.rules.specs.Sharding.{Sharding}
 use Rattle.rules.specs.Collectives.{Step, allSlice, allGather, allReduce, allToAll}
 use Rattle.rules.specs.PlanFile.{plain, repeat}
-use Rattle.rules.specs.declared.Sharding as code
+use Rattle.types.specs.declared.Sharding as code
 use Rattle.records.specs.Records.{Given, known, unknown, u16sBytes, shardingBytes, outermost, fileLength}
 use Rattle.records.specs.Writing.{mostRecords}
 use Rattle.records.specs.Forms.{shardingGiven, recordBytes, recordCount, givenAt, stepsGiven, recordsGiven}

@@ -8,8 +8,8 @@ use lib.ListN.{length, drop, length-drop, length-append}
 use Rattle.rules.specs.Refusals.{accept}
 use Rattle.rules.specs.Sharding.{Sharding}
 use Rattle.rules.specs.PlanFile.{judgeStep, plain, repeat, StepsRead, JudgesStep, JudgesSteps, stepsAt, plainAt, repeatAt, isRepeat, itemAt}
-use Rattle.rules.proofs.Judging.{never, accept-inj, then-inv, bind-inv}
-use Rattle.rules.proofs.Repeats.{IsRepeat, repeat-inv}
+use Rattle.laws.proofs.Judging.{never, accept-inj, then-inv, bind-inv}
+use Rattle.laws.proofs.Repeats.{IsRepeat, repeat-inv}
 use Rattle.blocks.specs.Blocks.{innerAt}
 use Rattle.blocks.proofs.Items.{item-repeat, item-plain}
 use Rattle.records.specs.Records.{Given, known, unknown, stepsBytes}

@@ -12,10 +12,10 @@ use Rattle.rules.specs.Limits.{mostRun}
 use Rattle.rules.specs.Sharding.{Sharding, IsSharding}
 use Rattle.rules.specs.Refusals.{Judged, accept, refuse, _>>_, needAt}
 use Rattle.rules.specs.PlanFile.{Read, repeat, StepsRead, stepsAt, sameSharding, repeatAt, itemAt}
-use Rattle.rules.specs.Types.{shardingOf}
-use Rattle.rules.specs.declared.Sharding as code
-use Rattle.rules.proofs.Judging.{never, accept-inj}
-use Rattle.rules.proofs.Turns.{length-times}
+use Rattle.types.specs.Types.{shardingOf}
+use Rattle.types.specs.declared.Sharding as code
+use Rattle.laws.proofs.Judging.{never, accept-inj}
+use Rattle.laws.proofs.Turns.{length-times}
 use Rattle.reader.specs.Reading.{reading, IfRefused, Tells}
 use Rattle.reader.specs.declared.Next.{Next}
 use Rattle.reader.specs.declared.Next.the-variants as next

@@ -14,11 +14,11 @@ use Rattle.rules.specs.Refusals.{Judged, accept, refuse, _>>=_, _>>_}
 use Rattle.rules.specs.Sharding.{Sharding}
 use Rattle.rules.specs.Collectives as rules
 use Rattle.rules.specs.PlanFile.{kindOf, plain, repeat, StepsRead, judgeStep, plainAt, isRepeat}
-use Rattle.rules.specs.Types.{ofKind, stepOf}
+use Rattle.types.specs.Types.{ofKind, stepOf}
 use Rattle.rules.specs.declared.Kind.{Kind}
 use Rattle.rules.specs.declared.Kind.the-variants.{AllSlice, AllGather, AllReduce, AllToAll, Unknown}
-use Rattle.rules.specs.declared.Step.{Step}
-use Rattle.rules.proofs.Lists.{T-and}
+use Rattle.types.specs.declared.Step.{Step}
+use Rattle.laws.proofs.Lists.{T-and}
 use Rattle.records.specs.Records.{Given, known, stepsBytes}
 use Rattle.records.specs.Forms.{listGiven, dimsGiven, recordBytes, recordCount, stepRecord, givenKind, givenAt, stepsGiven}
 use Rattle.records.specs.RoundTrip.{Ranked, AllRanked}

@@ -11,9 +11,9 @@ use Rattle.rules.specs.Limits.{mostRun, mostDepth}
 use Rattle.rules.specs.Sharding.{Sharding, IsSharding}
 use Rattle.rules.specs.Refusals.{Judged, accept, refuse, _>>=_, _>>_, needAt}
 use Rattle.rules.specs.PlanFile.{Read, StepsRead, itemAt, Outermost, outermostAt}
-use Rattle.rules.proofs.Repeats.{Told, item-tells}
-use Rattle.rules.proofs.Bytes.{Takes, item-takes}
-use Rattle.rules.proofs.Turns.{steps-sharding}
+use Rattle.laws.proofs.Repeats.{Told, item-tells}
+use Rattle.laws.proofs.Bytes.{Takes, item-takes}
+use Rattle.laws.proofs.Turns.{steps-sharding}
 use Rattle.records.specs.Records.{Given, stepsBytes}
 use Rattle.records.specs.RoundTrip.{AllRanked}
 use Rattle.given.specs.Given.{placeOf, Summary, summarized, verdictOf}

@@ -12,13 +12,13 @@ use Rattle.rules.specs.Mesh.{devices, OnMesh}
 use Rattle.rules.specs.Refusals.{Judged, accept, refuse, _>>=_, _>>_, need}
 use Rattle.rules.specs.Sharding.{Sharding, IsSharding}
 use Rattle.rules.specs.PlanFile.{axesAllowed, rankAllowed, judgeSizes, judgeStart, outermostAt}
-use Rattle.rules.specs.Types.{Sized, shardingOf, meshOf, sizesOf}
-use Rattle.rules.specs.declared.Mesh.{Mesh}
-use Rattle.rules.specs.declared.Sharding as code
-use Rattle.rules.specs.declared.Table.{Table}
-use Rattle.rules.proofs.Lists.{T-and}
-use Rattle.rules.proofs.Judging.{need-inv, then-inv}
-use Rattle.rules.proofs.Accepted.{SizesFacts, sizes-facts, start-sharding}
+use Rattle.types.specs.Types.{Sized, shardingOf, meshOf, sizesOf}
+use Rattle.types.specs.declared.Mesh.{Mesh}
+use Rattle.types.specs.declared.Sharding as code
+use Rattle.types.specs.declared.Table.{Table}
+use Rattle.laws.proofs.Lists.{T-and}
+use Rattle.laws.proofs.Judging.{need-inv, then-inv}
+use Rattle.laws.proofs.Accepted.{SizesFacts, sizes-facts, start-sharding}
 use Rattle.records.specs.Records.{outermost, stepsBytes}
 use Rattle.records.specs.Writing.{judgeCounts, judgeSharding, judgeOrder, judgeOpening, mostRecords, judgeRecords}
 use Rattle.records.specs.Forms.{listGiven, dimsGiven, shardingGiven, recordCount, stepsGiven, recordsGiven}

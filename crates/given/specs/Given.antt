@@ -12,10 +12,10 @@ use Rattle.rules.specs.Refusals.{Judged, accept, refuse, _>>_, need, needAt}
 use Rattle.rules.specs.Sharding.{Sharding, IsSharding}
 use Rattle.rules.specs.Collectives as rules
 use Rattle.rules.specs.PlanFile.{axesAllowed, rankAllowed, judgeSizes, Read, plain, repeat, StepsRead, plainAt, sameSharding, repeatAt, itemAt, outermostAt}
-use Rattle.rules.specs.Types.{shardingOf, meshOf, sizesOf, WithinPlaces}
-use Rattle.rules.specs.declared.Mesh.{Mesh}
-use Rattle.rules.specs.declared.Sharding as code
-use Rattle.rules.specs.declared.Table.{Table}
+use Rattle.types.specs.Types.{shardingOf, meshOf, sizesOf, WithinPlaces}
+use Rattle.types.specs.declared.Mesh.{Mesh}
+use Rattle.types.specs.declared.Sharding as code
+use Rattle.types.specs.declared.Table.{Table}
 use Rattle.reader.specs.Reading.{reading, Tells}
 use Rattle.reader.specs.declared.Next.the-variants as next
 use Rattle.blocks.specs.Blocks.{innerAt}

@@ -1,21 +1,21 @@
 // The library as its users see it: the calls, and the types of what they take and answer.
-// No call asks anything of its input; what each promises is in rules/specs/Promises.antt.
-ghost use Rattle.rules.specs.Promises.{CheckPromise, PlacePromise, GroupsPromise, GroupsOrderedPromise, RunPromise};
-pub use rules::Axis;
-pub use rules::AxisList;
-pub use rules::CheckOutcome;
-pub use rules::Checked;
-pub use rules::Device;
-pub use rules::Dim;
-pub use rules::DimLists;
-pub use rules::GroupsOutcome;
-pub use rules::PlaceOutcome;
-pub use rules::Placed;
-pub use rules::Reason;
-pub use rules::Refusal;
-pub use rules::RunOutcome;
-pub use rules::Sharding;
-pub use rules::Totals;
+// No call asks anything of its input; what each promises is in types/specs/Promises.antt.
+ghost use Rattle.types.specs.Promises.{CheckPromise, PlacePromise, GroupsPromise, GroupsOrderedPromise, RunPromise};
+pub use types::Axis;
+pub use types::AxisList;
+pub use types::CheckOutcome;
+pub use types::Checked;
+pub use types::Device;
+pub use types::Dim;
+pub use types::DimLists;
+pub use types::GroupsOutcome;
+pub use types::PlaceOutcome;
+pub use types::Placed;
+pub use types::Reason;
+pub use types::Refusal;
+pub use types::RunOutcome;
+pub use types::Sharding;
+pub use types::Totals;
 
 // Judges a plan file: the room, D, the number of steps, the rank, the final sharding and its shard sizes, or the refusal.
 pub fn check(file: &[u8]) -> Checked

@@ -12,9 +12,9 @@ use Rattle.rules.specs.Limits.{mostAxes}
 use Rattle.rules.specs.Sharding.{Sharding, IsSharding, varying, named}
 use Rattle.rules.specs.Collectives.{only, cutTail, gathered}
 use Rattle.rules.specs.PlanFile.{allBelow, fresh, isTail}
-use Rattle.rules.proofs.Lists.{in-left, in-append, at-flat, distinct-split, distinct-append, distinct-at, few-distinct, Apart}
-use Rattle.rules.proofs.Judging.{allBelow-lt, fresh-distinct}
-use Rattle.rules.proofs.Steps.{flat-only, varies, Gathered, gather-sharding}
+use Rattle.laws.proofs.Lists.{in-left, in-append, at-flat, distinct-split, distinct-append, distinct-at, few-distinct, Apart}
+use Rattle.laws.proofs.Judging.{allBelow-lt, fresh-distinct}
+use Rattle.laws.proofs.Steps.{flat-only, varies, Gathered, gather-sharding}
 use Rattle.dims.specs.Dims.{Room}
 
 room : (n : ℕ) (ds Ss : List (List ℕ)) → n ≤ mostAxes → Apart ds Ss → ((a : ℕ) → In a (flat ds) → a < n) → ((a : ℕ) → In a (flat Ss) → a < n)

@@ -11,11 +11,11 @@ use Rattle.rules.specs.Sharding.{Sharding, shardSizes}
 use Rattle.rules.specs.Limits.{mostAxes, mostDevices, mostWords, mostDims, mostSteps, leastBytes, mostBytes}
 use Rattle.rules.specs.Refusals.{Judged, accept, _>>=_}
 use Rattle.rules.specs.PlanFile.{Read, outermostAt, judgeFront, Plan, judge, announced, largestShard, room, StateAnswer, stepsRun, stateOf}
-use Rattle.rules.specs.Types.{dimsOf, shardingOf, meshOf, sizesOf, WithinPlaces}
+use Rattle.types.specs.Types.{dimsOf, shardingOf, meshOf, sizesOf, WithinPlaces}
 use Rattle.rules.specs.Calls.{CheckAnswer}
-use Rattle.rules.specs.declared.Mesh.{Mesh}
-use Rattle.rules.specs.declared.Sharding as code
-use Rattle.rules.specs.declared.Table.{Table}
+use Rattle.types.specs.declared.Mesh.{Mesh}
+use Rattle.types.specs.declared.Sharding as code
+use Rattle.types.specs.declared.Table.{Table}
 use Rattle.reader.specs.Reading.{reading, Tells, orderIn, noLists, Counted}
 use Rattle.judge.specs.Step.{Sharded}
 use Rattle.plan.specs.declared.Walk.{Walk}

@@ -7,15 +7,16 @@ use lib.ListN.{length}
 use Rattle.rules.specs.Limits.{mostAxes, mostDims}
 use Rattle.rules.specs.Sharding.{Sharding}
 use Rattle.rules.specs.Collectives.{Step}
-use Rattle.rules.specs.Refusals.{Judged, accept, refuse, _>>_, need, refusedAs, numberOf, refusalOf}
+use Rattle.rules.specs.Refusals.{Judged, accept, refuse, _>>_, need}
+use Rattle.types.specs.Answers.{refusedAs, numberOf, refusalOf}
 use Rattle.rules.specs.PlanFile.{allIn, same}
-use Rattle.rules.specs.Types.{axesOf, shardingOf, meshOf, sizesOf}
-use Rattle.rules.specs.declared.Mesh.{Mesh}
-use Rattle.rules.specs.declared.Table.{Table}
-use Rattle.rules.specs.declared.Refusal.{Refusal}
-use Rattle.rules.specs.declared.Sharding as code
-use Rattle.rules.proofs.Judging.{then-inv, then-assoc}
-use Rattle.rules.proofs.Refusals.{refusal-told}
+use Rattle.types.specs.Types.{axesOf, shardingOf, meshOf, sizesOf}
+use Rattle.types.specs.declared.Mesh.{Mesh}
+use Rattle.types.specs.declared.Table.{Table}
+use Rattle.types.specs.declared.Refusal.{Refusal}
+use Rattle.types.specs.declared.Sharding as code
+use Rattle.laws.proofs.Judging.{then-inv, then-assoc}
+use Rattle.types.proofs.Refusals.{refusal-told}
 use Rattle.start.specs.Start.{meaning}
 use Rattle.start.specs.Start as verdicts
 use Rattle.start.specs.declared.Verdict.{Verdict}

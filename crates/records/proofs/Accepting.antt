@@ -42,7 +42,7 @@ use Rattle.rules.specs.PlanFile.{
   Outermost,
   outermostAt,
 }
-use Rattle.rules.proofs.Lists.{
+use Rattle.laws.proofs.Lists.{
   T?,
   T→true,
   nT→false,
@@ -61,10 +61,10 @@ use Rattle.rules.proofs.Lists.{
   of-without,
   without-none,
 }
-use Rattle.rules.proofs.Judging.{accept-inj, need-inv, need-true, then-inv, bind-inv, allIn-in, same-eq}
-use Rattle.rules.proofs.Shapes.{Cut}
-use Rattle.rules.proofs.Sizes.{cut-divisible, cut-is, cut-grown}
-use Rattle.rules.proofs.Accepted.{SizesFacts, sizes-facts, start-sharding}
+use Rattle.laws.proofs.Judging.{accept-inj, need-inv, need-true, then-inv, bind-inv, allIn-in, same-eq}
+use Rattle.laws.proofs.Shapes.{Cut}
+use Rattle.laws.proofs.Sizes.{cut-divisible, cut-is, cut-grown}
+use Rattle.laws.proofs.Accepted.{SizesFacts, sizes-facts, start-sharding}
 use Rattle.records.specs.Records.{Given, known, listsBytes, stepBytes, givenBytes, stepsBytes}
 use Rattle.records.specs.Writing.{judgeCounts, judgeSharding}
 use Rattle.records.specs.RoundTrip.{RankedStep, AllRanked}

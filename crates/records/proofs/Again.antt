@@ -60,13 +60,13 @@ use Rattle.rules.specs.PlanFile.{
   judge,
   judgeBy,
 }
-use Rattle.rules.specs.Demands.{onePass}
-use Rattle.rules.proofs.Lists.{T?, T-and, nT→false, T→true, length-tab, getD-tab, both-length, length-each}
-use Rattle.rules.proofs.Judging.{accept-inj, need-inv, then-inv, bind-inv}
-use Rattle.rules.proofs.Steps.{AcceptedStep, after-sharding}
-use Rattle.rules.proofs.Turns.{Fine}
-use Rattle.rules.proofs.Repeats.{readBy, outermost-steps}
-use Rattle.rules.proofs.Accepted.{AcceptedPlan, accepted}
+use Rattle.laws.specs.Demands.{onePass}
+use Rattle.laws.proofs.Lists.{T?, T-and, nT→false, T→true, length-tab, getD-tab, both-length, length-each}
+use Rattle.laws.proofs.Judging.{accept-inj, need-inv, then-inv, bind-inv}
+use Rattle.laws.proofs.Steps.{AcceptedStep, after-sharding}
+use Rattle.laws.proofs.Turns.{Fine}
+use Rattle.laws.proofs.Repeats.{readBy, outermost-steps}
+use Rattle.laws.proofs.Accepted.{AcceptedPlan, accepted}
 use Rattle.records.specs.Records.{
   Given,
   known,

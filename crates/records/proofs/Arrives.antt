@@ -17,11 +17,11 @@ use Rattle.rules.specs.Limits.{mostAxes, mostDims, mostDevices, mostWords, most
 use Rattle.rules.specs.Refusals.{Judged, accept, _>>=_, _>>_}
 use Rattle.rules.specs.PlanFile.{axesAllowed, rankAllowed, judgeSizes, same, some, allIn, plain, outermostAt, Plan, judge, announced, announcedShape}
 use Rattle.rules.specs.Calls.{shardsAfter, runOf}
-use Rattle.rules.specs.Demands.{Words, SpreadAt, returned, Demand3, Fits as RoomIn}
-use Rattle.rules.proofs.Lists.{T-and, T→true, both-length}
-use Rattle.rules.proofs.Judging.{accept-inj, need-inv, need-true, then-inv, allIn-in, same-eq}
-use Rattle.rules.proofs.Accepted.{SizesFacts, sizes-facts}
-use Rattle.rules.proofs.Whole.{whole-plan}
+use Rattle.laws.specs.Demands.{Words, SpreadAt, returned, Demand3, Fits as RoomIn}
+use Rattle.laws.proofs.Lists.{T-and, T→true, both-length}
+use Rattle.laws.proofs.Judging.{accept-inj, need-inv, need-true, then-inv, allIn-in, same-eq}
+use Rattle.laws.proofs.Accepted.{SizesFacts, sizes-facts}
+use Rattle.laws.proofs.Whole.{whole-plan}
 use Rattle.records.specs.Records.{known, Records, outermost, outermostFrom, u16sBytes, listBytes, listsBytes, editionOf, replicatedBytes, shardingBytes, stepsBytes, stepsStart, fileLength, fileOf}
 use Rattle.records.specs.Writing.{judgeCounts, judgeSharding, judgeOrder, orderOf, judgeOpening, mostRecords, judgeRecords}
 use Rattle.records.specs.RoundTrip.{Shorts, Fits}

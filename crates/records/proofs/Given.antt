@@ -34,9 +34,9 @@ use Rattle.rules.specs.PlanFile.{
   outermostAt,
 }
 use Rattle.rules.specs.declared.Kind.the-variants.{Unknown}
-use Rattle.rules.proofs.Lists.{T-and, T→true}
-use Rattle.rules.proofs.Judging.{never, accept-inj, need-inv, then-inv, bind-inv}
-use Rattle.rules.proofs.Repeats.{IsRepeat, repeat-inv, positive-inv, readBy, outermost-steps}
+use Rattle.laws.proofs.Lists.{T-and, T→true}
+use Rattle.laws.proofs.Judging.{never, accept-inj, need-inv, then-inv, bind-inv}
+use Rattle.laws.proofs.Repeats.{IsRepeat, repeat-inv, positive-inv, readBy, outermost-steps}
 use Rattle.records.specs.Records.{Given, known, unknown, outermostFrom, outermost, stepBytes, givenBytes, stepsBytes}
 use Rattle.records.specs.Writing.{judgeCounts}
 use Rattle.records.specs.RoundTrip.{AllRanked}

@@ -10,8 +10,8 @@ use lib.Dec.{T, ltb, leb, eqb, le→leb, lt→ltb, eqb-refl}
 use Rattle.rules.specs.Collectives.{Step, allSlice, allGather, allReduce, allToAll}
 use Rattle.rules.specs.Refusals.{Judged, accept, refuse, _>>=_, _>>_, need}
 use Rattle.rules.specs.PlanFile.{Read, listAt, listsAt, listsOf, stepAt}
-use Rattle.rules.proofs.Lists.{T→true}
-use Rattle.rules.proofs.Judging.{then-assoc}
+use Rattle.laws.proofs.Lists.{T→true}
+use Rattle.laws.proofs.Judging.{then-assoc}
 use Rattle.records.specs.Records.{listBytes, listsBytes, stepBytes}
 use Rattle.records.specs.Writing.{judgeCounts}
 use Rattle.records.specs.RoundTrip.{RankedStep}

@@ -10,7 +10,7 @@ use Rattle.rules.specs.Mesh.{devices, plainOrder}
 use Rattle.rules.specs.Limits.{mostDevices, mostWords, mostSteps, mostBytes}
 use Rattle.rules.specs.Refusals.{Judged, accept, _>>=_, _>>_}
 use Rattle.rules.specs.PlanFile.{axesAllowed, rankAllowed, judgeSizes, orderAllowed, same, some, Outermost, outermostAt, Plan, judge}
-use Rattle.rules.proofs.Judging.{accept-inj, need-inv, need-true, then-inv, bind-inv}
+use Rattle.laws.proofs.Judging.{accept-inj, need-inv, need-true, then-inv, bind-inv}
 use Rattle.records.specs.Records.{Given, known, Records, recordsOf, outermost, stepsBytes, fileLength, fileOf}
 use Rattle.records.specs.Writing.{judgeOrder, orderOf, judgeOpening, mostRecords, judgeRecords, writeOf}
 use Rattle.records.specs.RoundTrip.{Proper, Fits, ReadsBack}

@@ -31,7 +31,7 @@ use Rattle.rules.specs.PlanFile.{
   tooDeep,
   itemAt,
 }
-use Rattle.rules.proofs.Lists.{T→true, nT→false}
+use Rattle.laws.proofs.Lists.{T→true, nT→false}
 use Rattle.records.specs.Records.{Given, known, unknown, stepBytes, givenBytes, stepsBytes}
 use Rattle.records.specs.Writing.{judgeCounts}
 use Rattle.records.specs.RoundTrip.{RankedStep}

@@ -44,9 +44,9 @@ use Rattle.rules.specs.PlanFile.{
 }
 use Rattle.rules.specs.declared.Kind.{Kind}
 use Rattle.rules.specs.declared.Kind.the-variants.{AllSlice, AllGather, AllReduce, AllToAll, Unknown}
-use Rattle.rules.proofs.Lists.{T?, T-and}
-use Rattle.rules.proofs.Judging.{never, accept-inj, need-inv, bind-inv}
-use Rattle.rules.proofs.Repeats.{IsRepeat, repeat-inv, positive-inv}
+use Rattle.laws.proofs.Lists.{T?, T-and}
+use Rattle.laws.proofs.Judging.{never, accept-inj, need-inv, bind-inv}
+use Rattle.laws.proofs.Repeats.{IsRepeat, repeat-inv, positive-inv}
 use Rattle.records.specs.Records.{
   Given,
   known,

@@ -47,8 +47,8 @@ use Rattle.rules.specs.PlanFile.{
   judge,
   judgeBy,
 }
-use Rattle.rules.proofs.Lists.{T→true, tab-cong}
-use Rattle.rules.proofs.Fronts.{whole-tab}
+use Rattle.laws.proofs.Lists.{T→true, tab-cong}
+use Rattle.laws.proofs.Fronts.{whole-tab}
 use Rattle.records.specs.Records.{
   Given,
   known,

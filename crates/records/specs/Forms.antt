@@ -9,14 +9,14 @@ use Rattle.rules.specs.Limits.{mostAxes}
 use Rattle.rules.specs.Sharding.{Sharding}
 use Rattle.rules.specs.Collectives.{allSlice, allGather, allReduce, allToAll}
 use Rattle.rules.specs.PlanFile.{kindOf, Record, plain, repeat}
-use Rattle.rules.specs.Types.{axesOf, fourPlaces}
-use Rattle.rules.specs.declared.Axis.{Axis}
-use Rattle.rules.specs.declared.AxisList.{AxisList}
-use Rattle.rules.specs.declared.DimLists.{DimLists}
-use Rattle.rules.specs.declared.Sharding as code
+use Rattle.types.specs.Types.{axesOf, fourPlaces}
+use Rattle.types.specs.declared.Axis.{Axis}
+use Rattle.types.specs.declared.AxisList.{AxisList}
+use Rattle.types.specs.declared.DimLists.{DimLists}
+use Rattle.types.specs.declared.Sharding as code
 use Rattle.rules.specs.declared.Kind.{Kind}
 use Rattle.rules.specs.declared.Kind.the-variants.{AllSlice, AllGather, AllReduce, AllToAll, Unknown}
-use Rattle.rules.specs.declared.Step.{Step}
+use Rattle.types.specs.declared.Step.{Step}
 use Rattle.records.specs.Records.{Given, known, unknown, Records}
 
 -- ---- lists and shardings

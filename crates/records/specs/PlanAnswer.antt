@@ -5,12 +5,13 @@ use lib.ListN.{length, getD}
 use Rattle.rules.specs.Lists.{tab}
 use Rattle.rules.specs.Collectives.{allSlice, allGather, allReduce, allToAll}
 use Rattle.rules.specs.Collectives as rules
-use Rattle.rules.specs.Types.{listFrom, listsFrom}
+use Rattle.types.specs.Types.{listFrom, listsFrom}
 use Rattle.rules.specs.declared.Kind.{Kind}
 use Rattle.rules.specs.declared.Kind.the-variants.{AllSlice, AllGather, AllReduce, AllToAll, Unknown}
-use Rattle.rules.specs.declared.Step.{Step}
-use Rattle.rules.specs.Refusals.{Judged, accept, refuse, _>>_, refusalOf}
-use Rattle.rules.specs.declared.Sharding as code
+use Rattle.types.specs.declared.Step.{Step}
+use Rattle.rules.specs.Refusals.{Judged, accept, refuse, _>>_}
+use Rattle.types.specs.Answers.{refusalOf}
+use Rattle.types.specs.declared.Sharding as code
 use Rattle.records.specs.Forms.{shardingGiven}
 use Rattle.records.specs.Planning.{planSteps, planOf}
 use Rattle.records.specs.declared.Steps.{Steps}

@@ -14,7 +14,7 @@ use Rattle.rules.specs.Limits.{mostDevices, mostWords}
 use Rattle.rules.specs.Refusals.{Judged, accept, _>>=_, _>>_, need}
 use Rattle.rules.specs.PlanFile.{axesAllowed, rankAllowed, judgeSizes, same, some, allIn, plain, Plan, judge, announced}
 use Rattle.rules.specs.Calls.{runOf}
-use Rattle.rules.specs.Demands.{Words, Fits as RoomIn}
+use Rattle.laws.specs.Demands.{Words, Fits as RoomIn}
 use Rattle.records.specs.Records.{known, Records, fileOf}
 use Rattle.records.specs.Writing.{judgeSharding, judgeOrder, orderOf, judgeRecords}
 use Rattle.records.specs.RoundTrip.{Shorts}

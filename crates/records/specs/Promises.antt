@@ -4,9 +4,10 @@ use Prim.Native.Nat.{ℕ, _≤_}
 use mathlib.Core.Path.{_≡_}
 use mathlib.Core.List.{List, [], _∷_, map}
 use lib.ListN.{length, take, drop}
-use Rattle.rules.specs.Refusals.{Judged, accept, refuse, refusedAs}
+use Rattle.rules.specs.Refusals.{Judged, accept, refuse}
+use Rattle.types.specs.Answers.{refusedAs}
 use Rattle.rules.specs.PlanFile.{plain, Plan, judge}
-use Rattle.rules.specs.declared.Sharding as code
+use Rattle.types.specs.declared.Sharding as code
 use Rattle.records.specs.Records.{Records, recordsOf, fileOf}
 use Rattle.records.specs.Writing.{writeOf, writeLeaves}
 use Rattle.records.specs.Forms.{shardingGiven, recordsGiven, recordsBytes}

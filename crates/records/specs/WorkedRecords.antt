@@ -10,9 +10,9 @@ use Rattle.rules.specs.Collectives.{Step, allSlice, allGather, allReduce, allTo
 use Rattle.rules.specs.Refusals.{Judged, accept, refuse}
 use Rattle.rules.specs.PlanFile.{plain, repeat, Plan}
 use Rattle.rules.specs.Ledger.{w1, nines}
-use Rattle.rules.specs.declared.Axis.{Axis}
-use Rattle.rules.specs.declared.AxisList.{AxisList}
-use Rattle.rules.specs.declared.Sharding as code
+use Rattle.types.specs.declared.Axis.{Axis}
+use Rattle.types.specs.declared.AxisList.{AxisList}
+use Rattle.types.specs.declared.Sharding as code
 use Rattle.records.specs.Records.{Given, known, unknown, Records, fileLength}
 use Rattle.records.specs.Writing.{judgeRecords, writeOf, writeLeaves}
 use Rattle.records.specs.Forms.{stepsGiven, recordsGiven}

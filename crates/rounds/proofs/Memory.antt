@@ -7,12 +7,12 @@ use mathlib.Core.List.{List, [], _∷_, _++_}
 use Rattle.rules.specs.Lists.{pick, inTurn}
 use Rattle.rules.specs.Spread.{addWords}
 use Rattle.rules.specs.Collectives.{Step, Shards, stepped, Stands, withShards}
-use Rattle.rules.specs.Types.{ofKind, stepOf}
+use Rattle.types.specs.Types.{ofKind, stepOf}
 use Rattle.rules.specs.declared.Kind.{Kind}
 use Rattle.rules.specs.declared.Kind.the-variants.{AllSlice, AllGather, AllReduce, AllToAll, Unknown}
-use Rattle.rules.specs.declared.Step as code
-use Rattle.rules.proofs.Lists.{in-turn-append}
-use Rattle.rules.proofs.Stands.{with-stands}
+use Rattle.types.specs.declared.Step as code
+use Rattle.laws.proofs.Lists.{in-turn-append}
+use Rattle.laws.proofs.Stands.{with-stands}
 use Rattle.step.specs.Stepping.{inPlace}
 use Rattle.rounds.specs.Rounds.{standsAfter, Memory, putIn, staysIn, memoryAfter, Leaves}
 

@@ -15,13 +15,13 @@ use Rattle.rules.specs.Spread.{addWords}
 use Rattle.rules.specs.Collectives.{Step, after, Shards, stepped}
 use Rattle.rules.specs.Refusals.{accept}
 use Rattle.rules.specs.PlanFile.{StepsRead, JudgesSteps, stepsAt, plainAt, isRepeat, itemBy, tooDeep, itemAt}
-use Rattle.rules.specs.Demands.{largestOn}
-use Rattle.rules.specs.Types.{meshOf, sizesOf}
-use Rattle.rules.specs.declared.Mesh.{Mesh}
-use Rattle.rules.specs.declared.Table.{Table}
-use Rattle.rules.proofs.Judging.{never, accept-inj}
-use Rattle.rules.proofs.Turns.{in-turn-times, fine-times, steps-shape, largest-times}
-use Rattle.rules.proofs.Repeats.{Told, steps-tell, item-tells, positive-inv, IsRepeat, repeat-inv}
+use Rattle.laws.specs.Demands.{largestOn}
+use Rattle.types.specs.Types.{meshOf, sizesOf}
+use Rattle.types.specs.declared.Mesh.{Mesh}
+use Rattle.types.specs.declared.Table.{Table}
+use Rattle.laws.proofs.Judging.{never, accept-inj}
+use Rattle.laws.proofs.Turns.{in-turn-times, fine-times, steps-shape, largest-times}
+use Rattle.laws.proofs.Repeats.{Told, steps-tell, item-tells, positive-inv, IsRepeat, repeat-inv}
 use Rattle.rounds.specs.Rounds.{shapeOf, Leaves, blockAt, shardingOn, judgedFrom, CanRun, HasTaken, HasRun}
 use Rattle.rounds.specs.declared.Progress.{Progress}
 use Rattle.rounds.proofs.Memory.{leaves-append}

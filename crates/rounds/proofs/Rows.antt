@@ -12,15 +12,15 @@ use Rattle.rules.specs.Spread.{addWords}
 use Rattle.rules.specs.Collectives.{Step, Shards, stepped}
 use Rattle.rules.specs.Refusals.{accept}
 use Rattle.rules.specs.PlanFile.{StepsRead, JudgesStep, stepsAt, itemAt}
-use Rattle.rules.specs.Demands.{largestOn}
-use Rattle.rules.specs.Types.{meshOf, sizesOf}
-use Rattle.rules.specs.declared.Mesh.{Mesh}
-use Rattle.rules.specs.declared.Table.{Table}
-use Rattle.rules.proofs.Lists.{in-turn-append}
-use Rattle.rules.proofs.Judging.{accept-inj, bind-inv}
-use Rattle.rules.proofs.Turns.{steps-sharding, steps-shape, largest-append}
-use Rattle.rules.proofs.Repeats.{Told, item-tells}
-use Rattle.rules.proofs.Bytes.{Takes, item-takes}
+use Rattle.laws.specs.Demands.{largestOn}
+use Rattle.types.specs.Types.{meshOf, sizesOf}
+use Rattle.types.specs.declared.Mesh.{Mesh}
+use Rattle.types.specs.declared.Table.{Table}
+use Rattle.laws.proofs.Lists.{in-turn-append}
+use Rattle.laws.proofs.Judging.{accept-inj, bind-inv}
+use Rattle.laws.proofs.Turns.{steps-sharding, steps-shape, largest-append}
+use Rattle.laws.proofs.Repeats.{Told, item-tells}
+use Rattle.laws.proofs.Bytes.{Takes, item-takes}
 use Rattle.rounds.specs.Rounds.{shapeOf, shardingOn, judgedFrom, CanRun, HasTaken, HasRun}
 use Rattle.rounds.specs.declared.Progress.{Progress}
 use Rattle.rounds.proofs.Memory.{leaves-append}

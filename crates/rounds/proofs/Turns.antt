@@ -11,14 +11,14 @@ use Rattle.rules.specs.Spread.{addWords}
 use Rattle.rules.specs.Collectives.{stepped, withShards}
 use Rattle.rules.specs.Refusals.{accept}
 use Rattle.rules.specs.PlanFile.{Read}
-use Rattle.rules.specs.Types.{shardingOf, stepOf, meshOf, sizesOf}
-use Rattle.rules.specs.declared.Sharding as code
-use Rattle.rules.specs.declared.Table.{Table}
-use Rattle.rules.proofs.Judging.{never, accept-inj}
+use Rattle.types.specs.Types.{shardingOf, stepOf, meshOf, sizesOf}
+use Rattle.types.specs.declared.Sharding as code
+use Rattle.types.specs.declared.Table.{Table}
+use Rattle.laws.proofs.Judging.{never, accept-inj}
 use Rattle.reader.specs.Reading.{reading}
 use Rattle.reader.specs.declared.Next.{Next}
 use Rattle.reader.specs.declared.Next.the-variants as next
-use Rattle.rules.specs.declared.Mesh.{Mesh}
+use Rattle.types.specs.declared.Mesh.{Mesh}
 use Rattle.taking.specs.Taking.{StepTaken, takeStep, takenRead}
 use Rattle.taking.specs.declared.Taken.{Taken}
 use Rattle.step.specs.Stepping.{Stepping, steppedBuffer, inPlace}

@@ -13,12 +13,12 @@ use Rattle.rules.specs.Collectives.{Step, allSlice, allGather, allReduce, allTo
 use Rattle.rules.specs.Limits.{mostDims, mostWords, mostBytes}
 use Rattle.rules.specs.Refusals.{Judged, accept}
 use Rattle.rules.specs.PlanFile.{Read, StepsRead, JudgesStep, stepsAt, repeatAt, itemAt}
-use Rattle.rules.specs.Demands.{largestOn}
-use Rattle.rules.specs.Types.{dimsOf, shardingOf, stepOf, meshOf, sizesOf}
+use Rattle.laws.specs.Demands.{largestOn}
+use Rattle.types.specs.Types.{dimsOf, shardingOf, stepOf, meshOf, sizesOf}
 use Rattle.rules.specs.declared.Kind.{Kind}
-use Rattle.rules.specs.declared.Sharding as code
-use Rattle.rules.specs.declared.Table.{Table}
-use Rattle.rules.specs.declared.Mesh.{Mesh}
+use Rattle.types.specs.declared.Sharding as code
+use Rattle.types.specs.declared.Table.{Table}
+use Rattle.types.specs.declared.Mesh.{Mesh}
 use Rattle.judge.specs.Step.{Sharded}
 use Rattle.taking.specs.Taking.{StepTaken, takeStep, takenRead}
 use Rattle.taking.specs.declared.Taken.{Taken}
@@ -83,7 +83,7 @@ unfoldable pub memoryAfter : (mesh : List ℕ) → Step → Memory → Memory
 memoryAfter mesh t m = putIn mesh (stepped addWords mesh t (m .shards)) (pick (staysIn t) (m .in-work) (not (m .in-work))) m
 
 -- What steps leave of two buffers, of any shards of a shape that stood in the one that is named; the words that it holds are such shards (`held-stands`,
--- rules/proofs/Stands). So every word of both buffers is fixed, and in which of them the shards after the steps stand.
+-- laws/proofs/Stands). So every word of both buffers is fixed, and in which of them the shards after the steps stand.
 abbrev pub Leaves : (mesh shape : List ℕ) → List Step → (in-work : Bool) → (work spare : List ℕ) → (in-work′ : Bool) → (work′ spare′ : List ℕ) → Type 0
 Leaves mesh shape ts in-work work spare in-work′ work′ spare′ =
     (v : Shards ℕ) → v .shape ≡ shape → Stands mesh v (pick in-work work spare)

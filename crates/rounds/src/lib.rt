@@ -5,7 +5,7 @@ ghost use mathlib.Core.Path.{_≡_};
 ghost use mathlib.Core.Bool.{true};
 ghost use lib.ListN.{length};
 ghost use Rattle.rules.specs.Lists.{pick};
-ghost use Rattle.rules.specs.Types.{meshOf, sizesOf};
+ghost use Rattle.types.specs.Types.{meshOf, sizesOf};
 ghost use Rattle.rules.specs.PlanFile.{stepsAt, plainAt, itemAt};
 ghost use Rattle.rounds.specs.Rounds.{Turning, Turned, standsAfter, blockAt, CanRun, HasRun};
 use blocks::is_repeat;
@@ -13,13 +13,13 @@ use dims::shard_of;
 use dims::words;
 use reader::Next;
 use rules::Kind;
-use rules::Mesh;
-use rules::Sharding;
-use rules::Table;
 use step::in_place;
 use step::step_from;
 use taking::Taken;
 use taking::take_step;
+use types::Mesh;
+use types::Sharding;
+use types::Table;
 
 // Where a run is: the place of the next kind byte and its number, whether the state stands at the front of work (else at that of spare), and its
 // sharding.

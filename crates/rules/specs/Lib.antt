@@ -7,16 +7,10 @@ pub mod Collectives
 pub mod Limits
 pub mod Refusals
 pub mod PlanFile
-pub mod Types
 pub mod Calls
-pub mod Readers
-pub mod Demands
 pub mod Ledger
 pub mod WorkedRefusals
 pub mod WorkedEditions
 pub mod WorkedLimits
 pub mod WorkedOrders
 pub mod WorkedRepeats
-pub mod WorkedAnswers
-pub mod WorkedPlaces
-pub mod Promises

@@ -1,8 +1,8 @@
 -- Document 01, "Numbers to hold to": "These limits belong to the kinds of thing they limit, one stated constant each." Three of the numbers are those
 -- of document 02, Ask 12: "D up to 1,024, tables up to 65,536 words, files up to 8,192 bytes; 2, 11 and 13 move with them."
--- The constants of the code are stated against these (src/lib.rt). Assumes nothing.
+-- The constants of the code are stated against these (crate types). Assumes nothing.
 use Prim.Native.Nat.{ℕ}
-use mathlib.Core.Bool.{Bool, true}
+use mathlib.Core.Bool.{Bool, true, false}
 
 -- "n 1 to 6"
 abbrev pub mostAxes : ℕ
@@ -60,4 +60,27 @@ present = record {
   bytes = mostBytes;
   editions = latestEdition;
   repeats = true;
+}
+
+-- ---- earlier readers
+
+-- The reader with the limits of document 01 itself, "D at most 256", "table at most 4,096 words", "file 18 to 4,096 bytes". What
+-- later readers take besides is as the present one takes it. A file of more than 2,802 bytes is accepted only with a repeat.
+abbrev pub original : Reader
+original = record { devices = 256; words = 4096; bytes = 4096; editions = latestEdition; repeats = true }
+
+-- The reader of the editions up to one, all else as the present one takes it. Document 02, Ask 3: "Refusal 3 now means neither 1 nor 2." Files of the
+-- editions that it knows keep their plans, and it answers 3 on every accepted file of a later one.
+abbrev pub upTo : (latest : ℕ) → Reader
+upTo latest = record { devices = mostDevices; words = mostWords; bytes = mostBytes; editions = latest; repeats = true }
+
+-- The reader just before repeats. Document 02, Ask 11: "On an accepted file with a repeat, the reader just before this answers 20 at the first one."
+-- Files without one keep their plans.
+abbrev pub withoutRepeats : Reader
+withoutRepeats = record {
+  devices = mostDevices;
+  words = mostWords;
+  bytes = mostBytes;
+  editions = latestEdition;
+  repeats = false;
 }

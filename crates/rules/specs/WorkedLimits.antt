@@ -8,7 +8,7 @@ use Rattle.rules.specs.Lists.{tab, All, done, _&_}
 use Rattle.rules.specs.Refusals.{accept, refuse}
 use Rattle.rules.specs.PlanFile.{judgeBy}
 use Rattle.rules.specs.Calls.{checkOf, groupsOf, groupsLeave}
-use Rattle.rules.specs.Readers.{original}
+use Rattle.rules.specs.Limits.{original}
 use Rattle.rules.specs.Ledger.{Case, checked, Holds, fileIn, fileOf, w1, passed, listsAs}
 use Rattle.rules.specs.WorkedRefusals.{cutAt, refusedListing}
 

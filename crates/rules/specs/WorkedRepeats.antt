@@ -7,12 +7,10 @@ use mathlib.Core.List.{List, [], _∷_, _++_}
 use lib.ListN.{length, set, replicate}
 use Rattle.rules.specs.Lists.{tab, flat, All, done, _&_}
 use Rattle.rules.specs.Collectives.{Step, allSlice, allGather}
-use Rattle.rules.specs.Refusals.{Judged, accept, refuse, _>>=_, reasonOf}
+use Rattle.rules.specs.Refusals.{Judged, accept, refuse, _>>=_}
 use Rattle.rules.specs.PlanFile.{plain, repeat, sameSharding, judge, judgeBy}
-use Rattle.rules.specs.Calls.{checkOf, checkedOf, placeOf, runOf}
-use Rattle.rules.specs.Readers.{withoutRepeats, original}
-use Rattle.rules.specs.declared.Reason.the-variants.{ShardingChanged, TooDeep, TooManyRun, RepeatOfNothing}
-use Rattle.rules.specs.declared.CheckOutcome.the-variants as check
+use Rattle.rules.specs.Calls.{checkOf, placeOf, runOf}
+use Rattle.rules.specs.Limits.{withoutRepeats, original}
 use Rattle.rules.specs.Ledger.{Case, checked, placed, Holds, fileIn, fileOf, on2x2, passed, found, leaves}
 use Rattle.rules.specs.WorkedRefusals.{refusedRun}
 use Rattle.rules.specs.WorkedEditions.{second, shardingOf, passed as passed2x2}
@@ -242,11 +240,6 @@ pub record RepeatsRead : Type 0 where
   -- the reader with document 01's limits knows repeats and orders
   pub original-reads : judgeBy original mixed ≡ judge mixed
   pub original-orders : judgeBy original (third [] [] (times 2 (swings 1) ∷ [])) ≡ judge (third [] [] (times 2 (swings 1) ∷ []))
-  -- the reason of each number
-  pub reason-41 : checkedOf (checkOf (whole (times 1 (slice ∷ []) ∷ []))) .outcome ≡ check.Refused (record { reason = ShardingChanged; step = 1 })
-  pub reason-42 : checkedOf (checkOf (whole (nested 5 (swings 1)))) .outcome ≡ check.Refused (record { reason = TooDeep; step = 5 })
-  pub reason-43 : checkedOf (checkOf (whole (times 255 (swings 9) ∷ []))) .outcome ≡ check.Refused (record { reason = TooManyRun; step = 1 })
-  pub reason-44 : checkedOf (checkOf (whole ((9 ∷ 0 ∷ []) ∷ []))) .outcome ≡ check.Refused (record { reason = RepeatOfNothing; step = 1 })
   -- a record for each kind byte, in file order; the plain steps in running order; how many of them each outermost step runs
   pub mixed-read : judge mixed ≡ accept (record {
     mesh = 2 ∷ [];
@@ -284,15 +277,11 @@ pub record RepeatsRead : Type 0 where
   })
 
 pub repeats-read : RepeatsRead
-unfolding fileIn fileOf judgeBy sameSharding checkOf reasonOf
+unfolding fileIn fileOf judgeBy sameSharding checkOf
 repeats-read = record {
   unknown = refl;
   original-reads = refl;
   original-orders = refl;
-  reason-41 = refl;
-  reason-42 = refl;
-  reason-43 = refl;
-  reason-44 = refl;
   mixed-read = refl;
   alone = refl;
   so-far = refl;

@@ -12,15 +12,15 @@ use Rattle.rules.specs.Mesh.{devices}
 use Rattle.rules.specs.Spread.{tabulate, held, addWords}
 use Rattle.rules.specs.Collectives.{Step, allReduce, only, shapeAfter, sources, reducePlaces, made, moved}
 use Rattle.rules.specs.Limits.{mostDims}
-use Rattle.rules.specs.Types.{axesOf, dimsOf, ofKind, stepOf}
+use Rattle.types.specs.Types.{axesOf, dimsOf, ofKind, stepOf}
 use Rattle.rules.specs.declared.Kind.{Kind}
 use Rattle.rules.specs.declared.Kind.the-variants.{AllToAll}
-use Rattle.rules.specs.declared.DimLists.{DimLists}
-use Rattle.rules.specs.declared.Step as code-step
-use Rattle.rules.proofs.Lists.{take-replicate}
-use Rattle.rules.proofs.Shapes.{cut-lengths}
-use Rattle.rules.proofs.Steps.{only-at, AcceptedStep, facts, sharding-cut, shape-length}
-use Rattle.rules.proofs.Moves as bridge
+use Rattle.types.specs.declared.DimLists.{DimLists}
+use Rattle.types.specs.declared.Step as code-step
+use Rattle.laws.proofs.Lists.{take-replicate}
+use Rattle.laws.proofs.Shapes.{cut-lengths}
+use Rattle.laws.proofs.Steps.{only-at, AcceptedStep, facts, sharding-cut, shape-length}
+use Rattle.laws.proofs.Moves as bridge
 use Rattle.mesh.proofs.Sizes.{size-pos}
 use Rattle.moves.specs.Moves.{Moving, movedShape, movedBuffer, lists}
 use Rattle.sums.specs.Sums.{Reducing, reducedBuffer}

@@ -10,12 +10,12 @@ use Rattle.rules.specs.Sharding.{Sharding, shardSizes, IsSharding}
 use Rattle.rules.specs.Collectives.{Step, after, shapeAfter, Shards, stepped, Stands, withShards}
 use Rattle.rules.specs.Refusals.{accept}
 use Rattle.rules.specs.PlanFile.{judgeStep}
-use Rattle.rules.proofs.Sources.{Ready}
-use Rattle.rules.proofs.Steps.{facts, after-shape}
-use Rattle.rules.proofs.Accepted.{Within}
-use Rattle.rules.proofs.Room.{ShardWords, shard-words}
-use Rattle.rules.proofs.Next.{step-ready}
-use Rattle.rules.proofs.Stands.{step-stands}
+use Rattle.laws.proofs.Sources.{Ready}
+use Rattle.laws.proofs.Steps.{facts, after-shape}
+use Rattle.laws.proofs.Accepted.{Within}
+use Rattle.laws.proofs.Room.{ShardWords, shard-words}
+use Rattle.laws.proofs.Next.{step-ready}
+use Rattle.laws.proofs.Stands.{step-stands}
 use Rattle.step.specs.Stepping.{Stepping, steppedBuffer}
 use Rattle.step.proofs.Kernels.{sizes-pos}
 

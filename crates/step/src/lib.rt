@@ -4,15 +4,15 @@ ghost use mathlib.Core.Path.{_≡_};
 ghost use lib.ListN.{length};
 ghost use Rattle.rules.specs.Lists.{pick};
 ghost use Rattle.rules.specs.Spread.{addWords};
-ghost use Rattle.rules.specs.Types.{axesOf, stepOf};
+ghost use Rattle.types.specs.Types.{axesOf, stepOf};
 ghost use Rattle.sums.specs.Sums.{Reducing, reducedBuffer};
 ghost use Rattle.step.specs.Stepping.{Stepping, steppedBuffer, inPlace};
 use moves::move_into;
-use rules::AxisList;
-use rules::DimLists;
 use rules::Kind;
-use rules::Step;
 use sums::reduce_in;
+use types::AxisList;
+use types::DimLists;
+use types::Step;
 
 // Whether a step of this kind leaves the new state in the buffer of the old one.
 pub fn in_place(kind: Kind) -> bool

@@ -5,10 +5,11 @@ use mathlib.Core.List.{List, _++_}
 use borrow.Author.Tests.{le-leb, lt-leb}
 use lib.ListN.{length, drop}
 use Rattle.rules.specs.Limits.{mostBytes}
-use Rattle.rules.specs.Refusals.{Judged, accept, refuse, refusedAs}
+use Rattle.rules.specs.Refusals.{Judged, accept, refuse}
+use Rattle.types.specs.Answers.{refusedAs}
 use Rattle.rules.specs.PlanFile.{Plan}
-use Rattle.rules.specs.declared.Refusal.{Refusal}
-use Rattle.rules.proofs.Judging.{never}
+use Rattle.types.specs.declared.Refusal.{Refusal}
+use Rattle.laws.proofs.Judging.{never}
 use Rattle.start.specs.Start.{meaning}
 use Rattle.start.specs.declared.Verdict.{Verdict}
 use Rattle.start.specs.declared.Verdict.the-variants as verdict

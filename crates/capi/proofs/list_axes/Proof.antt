@@ -6,8 +6,8 @@ use mathlib.Core.List.{_++_}
 use lib.ListN.{drop, replicate, length}
 use Rattle.rules.specs.Lists.{tab}
 use Rattle.rules.specs.Limits.{mostAxes, mostDims}
-use Rattle.rules.specs.Types.{axesOf, shardingOf}
-use Rattle.rules.proofs.Fronts.{Filled, fill-start, fill-part, part-length, next-part}
+use Rattle.types.specs.Types.{axesOf, shardingOf}
+use Rattle.laws.proofs.Fronts.{Filled, fill-start, fill-part, part-length, next-part}
 use Rattle.capi.specs.Boundary.{lists, places, axisIn}
 use Rattle.capi.proofs.Replies.{six-places}
 use Rattle.capi.proofs.list_axes.Statement.{statement}

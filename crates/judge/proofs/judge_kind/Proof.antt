@@ -1,8 +1,8 @@
 use borrow.Author.Needs.{needs}
 use Rattle.rules.specs.PlanFile.{judgeKind}
-use Rattle.rules.proofs.Judging.{named-inv}
+use Rattle.laws.proofs.Judging.{named-inv}
 use Rattle.rules.specs.Collectives.{stepAxes}
-use Rattle.rules.specs.Types.{stepOf, meshOf, sizesOf}
+use Rattle.types.specs.Types.{stepOf, meshOf, sizesOf}
 use Rattle.judge.proofs.judge_kind.Statement.{statement}
 use Rattle.judge.proofs.judge_kind.Tie as tie
 

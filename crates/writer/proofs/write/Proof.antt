@@ -5,8 +5,8 @@ use Prim.Native.Nat.{_≤_}
 use lib.ListN.{length}
 use denote.Ref.{now}
 use Rattle.rules.specs.Limits.{mostBytes}
-use Rattle.rules.specs.Refusals.{refusedAs}
-use Rattle.rules.specs.declared.Refusal.{Refusal}
+use Rattle.types.specs.Answers.{refusedAs}
+use Rattle.types.specs.declared.Refusal.{Refusal}
 use Rattle.records.specs.Writing.{judgeRecords}
 use Rattle.records.specs.Forms.{recordsGiven}
 use Rattle.encode.proofs.Accepted.{accepted-encodable}
