@@ -43,8 +43,8 @@ use Rattle.rules.specs.PlanFile.{
 }
 use Rattle.types.specs.declared.DimLists.{DimLists}
 use Rattle.types.specs.declared.Sharding as code
-use Rattle.rules.specs.declared.Kind.{Kind}
-use Rattle.rules.specs.declared.Kind.the-variants.{AllSlice, AllGather, AllReduce, AllToAll, Unknown}
+use Rattle.types.specs.declared.Kind.{Kind}
+use Rattle.types.specs.declared.Kind.the-variants.{AllSlice, AllGather, AllReduce, AllToAll, Unknown}
 use Rattle.types.specs.declared.Step as records
 use Rattle.laws.proofs.Lists.{T-and, getD-tab}
 use Rattle.laws.proofs.Judging.{never, accept-inj, need-inv, then-inv, bind-inv}
@@ -60,6 +60,8 @@ use Rattle.records.proofs.Readback.{order-passed}
 use Rattle.records.proofs.Accepting.{sharding-facts}
 use Rattle.encode.specs.Putting.{ShortLists, ShortStep, ShortGiven, ShortSteps, Encodable}
 use Rattle.encode.proofs.Counting.{given-length}
+use Rattle.rules.specs.PlanFile as plan
+use Rattle.types.specs.Types.{kindFrom}
 
 -- ---- what is read is short
 
@@ -94,22 +96,22 @@ module _ (mesh sizes file : List ℕ) (few : length mesh ≤ mostAxes) where
       subst (λ (r : Read (List (List ℕ))). ShortLists (r .value)) (accept-inj (b .2))
       (short-cons (a .0 .value) (b .0 .value) (list-short at (a .0) (a .1)) (lists-short rank (a .0 .next) (b .0) (b .1)))
 
-  kind-short : (rank k at : ℕ) (kind : Kind) (t : Read Step) → listsOf (length mesh) rank k file at kind ≡ accept t → ShortStep (t .value)
+  kind-short : (rank k at : ℕ) (kind : plan.Kind) (t : Read Step) → listsOf (length mesh) rank k file at kind ≡ accept t → ShortStep (t .value)
   unfolding listsOf
-  kind-short rank k at AllSlice t e =
+  kind-short rank k at plan.AllSlice t e =
       let a = bind-inv (listsAt (length mesh) rank file at) _ t e in
       subst (λ (r : Read Step). ShortStep (r .value)) (accept-inj (a .2)) (lists-short rank at (a .0) (a .1))
-  kind-short rank k at AllGather t e =
+  kind-short rank k at plan.AllGather t e =
       let a = bind-inv (listsAt (length mesh) rank file at) _ t e in
       subst (λ (r : Read Step). ShortStep (r .value)) (accept-inj (a .2)) (lists-short rank at (a .0) (a .1))
-  kind-short rank k at AllReduce t e =
+  kind-short rank k at plan.AllReduce t e =
       let a = bind-inv (listAt (length mesh) file at) _ t e in
       subst (λ (r : Read Step). ShortStep (r .value)) (accept-inj (a .2)) (list-short at (a .0) (a .1))
-  kind-short rank k at AllToAll t e =
+  kind-short rank k at plan.AllToAll t e =
       let q = need-inv 0 (leb (at + 2) (length file)) 7 _ t e in
       let a = bind-inv (listAt (length mesh) file (at + 2)) _ t (q .1) in
       subst (λ (r : Read Step). ShortStep (r .value)) (accept-inj (a .2)) (list-short (at + 2) (a .0) (a .1))
-  kind-short rank k at Unknown t e = absurd (never e)
+  kind-short rank k at plan.Unknown t e = absurd (never e)
 
   step-short : (rank k at : ℕ) (t : Read Step) → stepAt (length mesh) rank k file at ≡ accept t → ShortStep (t .value)
   unfolding stepAt
@@ -180,9 +182,9 @@ module _ (rank : ℕ) (few : rank ≤ mostDims) where
   record-ranked bytes at = go (eqb (getD bytes at 0) 9)
     where
       go : (b : Bool)
-          → Ranked rank (pick b (known (repeat (getD bytes (at + 1) 0) (getD bytes (at + 2) 0))) (givenKind (kindOf (getD bytes at 0)) rank (stepRecord bytes at)))
+          → Ranked rank (pick b (known (repeat (getD bytes (at + 1) 0) (getD bytes (at + 2) 0))) (givenKind (kindFrom (kindOf (getD bytes at 0))) rank (stepRecord bytes at)))
       go true = tt
-      go false = kind-ranked (kindOf (getD bytes at 0)) (stepRecord bytes at) refl
+      go false = kind-ranked (kindFrom (kindOf (getD bytes at 0))) (stepRecord bytes at) refl
 
   ranked-append : (l m : List Given) → AllRanked rank l → AllRanked rank m → AllRanked rank (l ++ m)
   ranked-append [] m h g = g

@@ -15,8 +15,8 @@ use Rattle.types.specs.Types.{axesOf, dimsOf}
 use Rattle.types.specs.declared.AxisList.{AxisList}
 use Rattle.types.specs.declared.DimLists.{DimLists}
 use Rattle.types.specs.declared.Sharding as code
-use Rattle.rules.specs.declared.Kind.{Kind}
-use Rattle.rules.specs.declared.Kind.the-variants.{AllSlice, AllGather, AllReduce, AllToAll, Unknown}
+use Rattle.types.specs.declared.Kind.{Kind}
+use Rattle.types.specs.declared.Kind.the-variants.{AllSlice, AllGather, AllReduce, AllToAll, Unknown}
 use Rattle.types.specs.declared.Step.{Step}
 use Rattle.laws.proofs.Lists.{nT→false}
 use Rattle.records.specs.Records.{Given, known, listBytes, listsBytes, replicatedBytes, shardingBytes, stepBytes, givenBytes, stepsBytes}

@@ -34,9 +34,13 @@ use Rattle.rules.specs.PlanFile.{
   itemBy,
   tooDeep,
   itemAt,
+  Kind,
+  AllSlice,
+  AllGather,
+  AllReduce,
+  AllToAll,
+  Unknown,
 }
-use Rattle.rules.specs.declared.Kind.{Kind}
-use Rattle.rules.specs.declared.Kind.the-variants.{AllSlice, AllGather, AllReduce, AllToAll, Unknown}
 use Rattle.laws.proofs.Judging.{never, accept-inj, need-inv, bind-inv}
 use Rattle.laws.proofs.Turns.{length-times}
 use Rattle.laws.proofs.Repeats.{IsRepeat, repeat-inv, positive-inv}

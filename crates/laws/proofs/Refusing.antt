@@ -80,11 +80,15 @@ use Rattle.rules.specs.PlanFile.{
   judgeBy,
   room,
   stateOf,
+  Kind,
+  AllSlice,
+  AllGather,
+  AllReduce,
+  AllToAll,
+  Unknown,
 }
 use Rattle.rules.specs.Calls.{checkOf, placeOf, groupsBy, groupsOf, groupsOrderedOf, runnable, runLeaves, runOf}
 use Rattle.laws.specs.Demands.{fileNumbers, stepNumbers, Numbered, RefusalNumbers}
-use Rattle.rules.specs.declared.Kind.{Kind}
-use Rattle.rules.specs.declared.Kind.the-variants.{AllSlice, AllGather, AllReduce, AllToAll, Unknown}
 use Rattle.laws.proofs.Lists.{mem-in, in-mem}
 use Rattle.laws.proofs.Judging.{never}
 use Rattle.laws.proofs.Repeats.{positive-inv}

@@ -17,8 +17,8 @@ use Rattle.rules.specs.Collectives.{Step, allReduce}
 use Rattle.rules.specs.PlanFile.{Read, edition, axisCount, rankCount, stepCount, meshOffset, tensorOffset, shardingOffset, stepsOffset}
 use Rattle.rules.specs.PlanFile.{u16At, judgeHeader, judgeHeaderBy, sizesAt, carriesOrder, orderAt, MeshAndTable}
 use Rattle.types.specs.Types.{meshOf, sizesOf, axesOf, dimsOf, shardingOf, stepOf}
-use Rattle.rules.specs.declared.Kind.{Kind}
-use Rattle.rules.specs.declared.Kind.the-variants.{AllSlice, AllGather, AllReduce, AllToAll, Unknown}
+use Rattle.types.specs.declared.Kind.{Kind}
+use Rattle.types.specs.declared.Kind.the-variants.{AllSlice, AllGather, AllReduce, AllToAll, Unknown}
 use Rattle.types.specs.declared.Mesh.{Mesh}
 use Rattle.types.specs.declared.Table.{Table}
 use Rattle.types.specs.declared.Refusal.{Refusal}

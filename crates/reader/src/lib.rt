@@ -13,16 +13,17 @@ ghost use Rattle.types.specs.Answers.{numberOf, refusedAs};
 ghost use Rattle.rules.specs.PlanFile.{u16At, edition, sizesAt, carriesOrder, orderAt, meshAndTableAt, listAt, listsAt, carriesReplicated, replicatedAt, shardingAt};
 ghost use Rattle.rules.specs.PlanFile.{kindOf, listsOf, stepAt};
 ghost use Rattle.types.specs.Types.{sizesOf};
-ghost use Rattle.rules.specs.declared.Kind.the-variants.{AllReduce, AllToAll};
+ghost use Rattle.rules.specs.PlanFile.{AllReduce, AllToAll};
+ghost use Rattle.types.specs.Types.{kindMeaning, kindFrom};
 ghost use Rattle.reader.specs.Reading.{byteAt, nextRefusal, numbersOf, headerOf, headerRead, headerRefusal};
 ghost use Rattle.reader.specs.Reading.{reading, SizesTell, orderOf, meshAt, NoShape, shapeRead, ShapeTells, listRead, listsRead, ShardingTells, StepTells, PerDim};
 use order::order_allowed;
-use rules::Kind;
 use types::Axis;
 use types::AxisList;
 use types::Device;
 use types::Dim;
 use types::DimLists;
+use types::Kind;
 use types::Mesh;
 use types::PlanFile;
 use types::Reason;
@@ -647,7 +648,7 @@ impl StepRead {
 
 // "1 all-slice, 2 all-gather .., 3 all-reduce .., 4 all-to-all"
 pub fn kind_of(byte: u8) -> Kind
-    ensures { λ r. ⌜ r ≡ kindOf byte ⌝ }
+    ensures { λ r. ⌜ r ≡ kindFrom (kindOf byte) ⌝ }
 {
     if byte == 1 {
         Kind::AllSlice
@@ -665,7 +666,7 @@ pub fn kind_of(byte: u8) -> Kind
 // An all-slice or all-gather after its kind byte: one list per dimension.
 fn read_per_dim(file: &[u8], at: usize, n: usize, rank: usize, kind: Kind) -> StepRead
     requires { ⌜ (n ≤ mostAxes) × (rank ≤ mostDims) × PerDim kind ⌝ }
-    ensures { λ r. ⌜ ((k : ℕ) → StepTells rank (listsOf n rank k (now (file .entry)) at kind) r) ⌝ }
+    ensures { λ r. ⌜ ((k : ℕ) → StepTells rank (listsOf n rank k (now (file .entry)) at (kindMeaning kind)) r) ⌝ }
 {
     let read = read_lists(file, at, n, rank);
     let next = read.next;

@@ -32,8 +32,8 @@ use Rattle.rules.specs.PlanFile.{
   itemAt,
   Outermost,
   outermostAt,
+  Unknown,
 }
-use Rattle.rules.specs.declared.Kind.the-variants.{Unknown}
 use Rattle.laws.proofs.Lists.{T-and, T→true}
 use Rattle.laws.proofs.Judging.{never, accept-inj, need-inv, then-inv, bind-inv}
 use Rattle.laws.proofs.Repeats.{IsRepeat, repeat-inv, positive-inv, readBy, outermost-steps}

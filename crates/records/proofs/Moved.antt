@@ -37,9 +37,13 @@ use Rattle.rules.specs.PlanFile.{
   itemAt,
   Outermost,
   outermostAt,
+  Kind,
+  AllSlice,
+  AllGather,
+  AllReduce,
+  AllToAll,
+  Unknown,
 }
-use Rattle.rules.specs.declared.Kind.{Kind}
-use Rattle.rules.specs.declared.Kind.the-variants.{AllSlice, AllGather, AllReduce, AllToAll, Unknown}
 use Rattle.records.proofs.Places.{From, from-length, from-at, from-drop}
 
 -- ---- a judgement of another value

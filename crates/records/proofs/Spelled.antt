@@ -41,9 +41,13 @@ use Rattle.rules.specs.PlanFile.{
   itemBy,
   tooDeep,
   itemAt,
+  Kind,
+  AllSlice,
+  AllGather,
+  AllReduce,
+  AllToAll,
+  Unknown,
 }
-use Rattle.rules.specs.declared.Kind.{Kind}
-use Rattle.rules.specs.declared.Kind.the-variants.{AllSlice, AllGather, AllReduce, AllToAll, Unknown}
 use Rattle.laws.proofs.Lists.{T?, T-and}
 use Rattle.laws.proofs.Judging.{never, accept-inj, need-inv, bind-inv}
 use Rattle.laws.proofs.Repeats.{IsRepeat, repeat-inv, positive-inv}

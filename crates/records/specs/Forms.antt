@@ -9,13 +9,13 @@ use Rattle.rules.specs.Limits.{mostAxes}
 use Rattle.rules.specs.Sharding.{Sharding}
 use Rattle.rules.specs.Collectives.{allSlice, allGather, allReduce, allToAll}
 use Rattle.rules.specs.PlanFile.{kindOf, Record, plain, repeat}
-use Rattle.types.specs.Types.{axesOf, fourPlaces}
+use Rattle.types.specs.Types.{axesOf, fourPlaces, kindFrom}
 use Rattle.types.specs.declared.Axis.{Axis}
 use Rattle.types.specs.declared.AxisList.{AxisList}
 use Rattle.types.specs.declared.DimLists.{DimLists}
 use Rattle.types.specs.declared.Sharding as code
-use Rattle.rules.specs.declared.Kind.{Kind}
-use Rattle.rules.specs.declared.Kind.the-variants.{AllSlice, AllGather, AllReduce, AllToAll, Unknown}
+use Rattle.types.specs.declared.Kind.{Kind}
+use Rattle.types.specs.declared.Kind.the-variants.{AllSlice, AllGather, AllReduce, AllToAll, Unknown}
 use Rattle.types.specs.declared.Step.{Step}
 use Rattle.records.specs.Records.{Given, known, unknown, Records}
 
@@ -51,7 +51,7 @@ listRecord bytes at j = record { count = getD bytes (at + 3 + j) 0; axes = place
 
 abbrev pub stepRecord : List ℕ → ℕ → Step
 stepRecord bytes at = record {
-  kind = kindOf (getD bytes at 0);
+  kind = kindFrom (kindOf (getD bytes at 0));
   source = record { 0 = getD bytes (at + 1) 0 };
   target = record { 0 = getD bytes (at + 2) 0 };
   lists = record { 0 = listRecord bytes at 0 ∷ listRecord bytes at 1 ∷ listRecord bytes at 2 ∷ listRecord bytes at 3 ∷ [] };
@@ -69,7 +69,7 @@ unfoldable pub givenAt : (rank : ℕ) → List ℕ → ℕ → Given
 unfolding dimsGiven
 givenAt rank bytes at =
     pick (eqb (getD bytes at 0) 9) (known (repeat (getD bytes (at + 1) 0) (getD bytes (at + 2) 0)))
-    (givenKind (kindOf (getD bytes at 0)) rank (stepRecord bytes at))
+    (givenKind (kindFrom (kindOf (getD bytes at 0))) rank (stepRecord bytes at))
 
 -- as many records as there are whole ones; bytes after the last of them count for nothing
 abbrev pub recordCount : List ℕ → ℕ

@@ -6,8 +6,8 @@ use Rattle.rules.specs.Lists.{tab}
 use Rattle.rules.specs.Collectives.{allSlice, allGather, allReduce, allToAll}
 use Rattle.rules.specs.Collectives as rules
 use Rattle.types.specs.Types.{listFrom, listsFrom}
-use Rattle.rules.specs.declared.Kind.{Kind}
-use Rattle.rules.specs.declared.Kind.the-variants.{AllSlice, AllGather, AllReduce, AllToAll, Unknown}
+use Rattle.types.specs.declared.Kind.{Kind}
+use Rattle.types.specs.declared.Kind.the-variants.{AllSlice, AllGather, AllReduce, AllToAll, Unknown}
 use Rattle.types.specs.declared.Step.{Step}
 use Rattle.rules.specs.Refusals.{Judged, accept, refuse, _>>_}
 use Rattle.types.specs.Answers.{refusalOf}

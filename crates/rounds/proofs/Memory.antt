@@ -8,8 +8,8 @@ use Rattle.rules.specs.Lists.{pick, inTurn}
 use Rattle.rules.specs.Spread.{addWords}
 use Rattle.rules.specs.Collectives.{Step, Shards, stepped, Stands, withShards}
 use Rattle.types.specs.Types.{ofKind, stepOf}
-use Rattle.rules.specs.declared.Kind.{Kind}
-use Rattle.rules.specs.declared.Kind.the-variants.{AllSlice, AllGather, AllReduce, AllToAll, Unknown}
+use Rattle.types.specs.declared.Kind.{Kind}
+use Rattle.types.specs.declared.Kind.the-variants.{AllSlice, AllGather, AllReduce, AllToAll, Unknown}
 use Rattle.types.specs.declared.Step as code
 use Rattle.laws.proofs.Lists.{in-turn-append}
 use Rattle.laws.proofs.Stands.{with-stands}

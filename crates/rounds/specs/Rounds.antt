@@ -15,7 +15,7 @@ use Rattle.rules.specs.Refusals.{Judged, accept}
 use Rattle.rules.specs.PlanFile.{Read, StepsRead, JudgesStep, stepsAt, repeatAt, itemAt}
 use Rattle.laws.specs.Demands.{largestOn}
 use Rattle.types.specs.Types.{dimsOf, shardingOf, stepOf, meshOf, sizesOf}
-use Rattle.rules.specs.declared.Kind.{Kind}
+use Rattle.types.specs.declared.Kind.{Kind}
 use Rattle.types.specs.declared.Sharding as code
 use Rattle.types.specs.declared.Table.{Table}
 use Rattle.types.specs.declared.Mesh.{Mesh}

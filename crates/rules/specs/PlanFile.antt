@@ -12,8 +12,6 @@ use Rattle.rules.specs.Sharding.{Sharding, varying, named, divisible, sh
 use Rattle.rules.specs.Collectives.{Step, allSlice, allGather, allReduce, allToAll, stepAxes, only, sliced, gathered, reduced, after}
 use Rattle.rules.specs.Limits.{mostAxes, mostDims, mostSteps, mostRun, mostDepth, leastBytes, Reader, present}
 use Rattle.rules.specs.Refusals.{Judged, accept, refuse, _>>=_, _>>_, need, needAt}
-use Rattle.rules.specs.declared.Kind.{Kind}
-use Rattle.rules.specs.declared.Kind.the-variants.{AllSlice, AllGather, AllReduce, AllToAll, Unknown}
 
 -- What was read, and where the next byte is.
 pub record Read (A : Type 0) : Type 0 where
@@ -236,6 +234,14 @@ abbrev pub oneMeaning : (edition : ℕ) → (replicated : List ℕ) → Bool
 oneMeaning e L = not (eqb e 2) || some L
 
 -- ---- a step
+
+-- the kinds of step, and of a byte that is none
+pub data Kind : Type 0 where
+  AllSlice : Kind
+  AllGather : Kind
+  AllReduce : Kind
+  AllToAll : Kind
+  Unknown : Kind
 
 -- "1 all-slice, 2 all-gather (one list per dimension), 3 all-reduce (one list), 4 all-to-all (source byte, target byte, one list)"
 abbrev pub kindOf : ℕ → Kind

@@ -13,8 +13,8 @@ use Rattle.rules.specs.Spread.{tabulate, held, addWords}
 use Rattle.rules.specs.Collectives.{Step, allReduce, only, shapeAfter, sources, reducePlaces, made, moved}
 use Rattle.rules.specs.Limits.{mostDims}
 use Rattle.types.specs.Types.{axesOf, dimsOf, ofKind, stepOf}
-use Rattle.rules.specs.declared.Kind.{Kind}
-use Rattle.rules.specs.declared.Kind.the-variants.{AllToAll}
+use Rattle.types.specs.declared.Kind.{Kind}
+use Rattle.types.specs.declared.Kind.the-variants.{AllToAll}
 use Rattle.types.specs.declared.DimLists.{DimLists}
 use Rattle.types.specs.declared.Step as code-step
 use Rattle.laws.proofs.Lists.{take-replicate}

@@ -13,8 +13,8 @@ use Rattle.rules.specs.Collectives.{Step, shapeAfter, sources, made}
 use Rattle.rules.specs.Limits.{mostDims, mostWords}
 use Rattle.rules.specs.Refusals.{accept}
 use Rattle.rules.specs.PlanFile.{judgeStep}
-use Rattle.rules.specs.declared.Kind.{Kind}
-use Rattle.rules.specs.declared.Kind.the-variants.{AllSlice, AllGather, AllReduce, AllToAll, Unknown}
+use Rattle.types.specs.declared.Kind.{Kind}
+use Rattle.types.specs.declared.Kind.the-variants.{AllSlice, AllGather, AllReduce, AllToAll, Unknown}
 
 -- a step that was accepted of a sharding of a table within the limits, and buffers with room for the old state and for the new one
 pub record Stepping (mesh shape : List ℕ) (t : Step) (words old new : ℕ) : Type 0 where

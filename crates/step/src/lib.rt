@@ -8,10 +8,10 @@ ghost use Rattle.types.specs.Types.{axesOf, stepOf};
 ghost use Rattle.sums.specs.Sums.{Reducing, reducedBuffer};
 ghost use Rattle.step.specs.Stepping.{Stepping, steppedBuffer, inPlace};
 use moves::move_into;
-use rules::Kind;
 use sums::reduce_in;
 use types::AxisList;
 use types::DimLists;
+use types::Kind;
 use types::Step;
 
 // Whether a step of this kind leaves the new state in the buffer of the old one.

@@ -8,7 +8,8 @@ use native.Mathlib.Omega.{arith}
 use lib.ListN.{set, length, length-map, length-take, getD, take, List·getD-map, List·getD-eq-default}
 use lib.Seq.{take-suc-set, getD-take}
 use Rattle.rules.specs.Limits.{mostAxes}
-use Rattle.types.specs.Types.{axesOf, listFrom}
+use Rattle.types.specs.Types.{axesOf, kindMeaning, kindFrom, listFrom}
+use Rattle.rules.specs.PlanFile as plan
 use Rattle.types.specs.declared.Axis.{Axis}
 use Rattle.types.specs.declared.AxisList.{AxisList}
 use Rattle.laws.proofs.Lists.{any-default}
@@ -54,3 +55,11 @@ list-axes (a ∷ b ∷ c ∷ d ∷ []) h = refl
 list-axes (a ∷ b ∷ c ∷ d ∷ e ∷ []) h = refl
 list-axes (a ∷ b ∷ c ∷ d ∷ e ∷ f ∷ []) h = refl
 list-axes (a ∷ b ∷ c ∷ d ∷ e ∷ f ∷ g ∷ l) h = absurd (omega (arith, h))
+
+-- a kind is read back
+pub kind-same : (k : plan.Kind) → kindMeaning (kindFrom k) ≡ k
+kind-same plan.AllSlice = refl
+kind-same plan.AllGather = refl
+kind-same plan.AllReduce = refl
+kind-same plan.AllToAll = refl
+kind-same plan.Unknown = refl

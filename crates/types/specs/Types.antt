@@ -6,14 +6,15 @@ use Rattle.rules.specs.Lists.{tab}
 use Rattle.rules.specs.Limits.{mostAxes, mostDevices, mostDims}
 use Rattle.rules.specs.Sharding.{Sharding}
 use Rattle.rules.specs.Collectives as rules
+use Rattle.rules.specs.PlanFile as plan
 use Rattle.types.specs.declared.Axis.{Axis}
 use Rattle.types.specs.declared.AxisList.{AxisList}
 use Rattle.types.specs.declared.Mesh.{Mesh}
 use Rattle.types.specs.declared.Table.{Table}
 use Rattle.types.specs.declared.DimLists.{DimLists}
 use Rattle.types.specs.declared.Sharding as code
-use Rattle.rules.specs.declared.Kind.{Kind}
-use Rattle.rules.specs.declared.Kind.the-variants.{AllSlice, AllGather, AllReduce, AllToAll, Unknown}
+use Rattle.types.specs.declared.Kind.{Kind}
+use Rattle.types.specs.declared.Kind.the-variants.{AllSlice, AllGather, AllReduce, AllToAll, Unknown}
 use Rattle.types.specs.declared.Step.{Step}
 
 -- the sizes of a mesh, and those of a table
@@ -45,6 +46,21 @@ dimsOf l = map axesOf (l .0)
 
 abbrev pub shardingOf : ℕ → code.Sharding → Sharding
 shardingOf rank s = record { dims = take rank (dimsOf (s .dims)); unreduced = axesOf (s .unreduced); replicated = axesOf (s .replicated) }
+
+-- the kind that one of the code stands for, and the code's for a kind
+abbrev pub kindMeaning : Kind → plan.Kind
+kindMeaning AllSlice = plan.AllSlice
+kindMeaning AllGather = plan.AllGather
+kindMeaning AllReduce = plan.AllReduce
+kindMeaning AllToAll = plan.AllToAll
+kindMeaning Unknown = plan.Unknown
+
+abbrev pub kindFrom : plan.Kind → Kind
+kindFrom plan.AllSlice = AllSlice
+kindFrom plan.AllGather = AllGather
+kindFrom plan.AllReduce = AllReduce
+kindFrom plan.AllToAll = AllToAll
+kindFrom plan.Unknown = Unknown
 
 -- a step of a plan for a table of a rank; one of an unknown kind, which no read answers, stands for a step that names no axis
 abbrev pub ofKind : Kind → ℕ → Step → rules.Step

@@ -14,8 +14,8 @@ use Rattle.rules.specs.Ledger.{w1, nines}
 use Rattle.types.specs.declared.Axis.{Axis}
 use Rattle.types.specs.declared.AxisList.{AxisList}
 use Rattle.types.specs.declared.DimLists.{DimLists}
-use Rattle.rules.specs.declared.Kind.{Kind}
-use Rattle.rules.specs.declared.Kind.the-variants.{AllSlice, AllGather, AllReduce, AllToAll}
+use Rattle.types.specs.declared.Kind.{Kind}
+use Rattle.types.specs.declared.Kind.the-variants.{AllSlice, AllGather, AllReduce, AllToAll}
 use Rattle.types.specs.declared.Step.{Step}
 use Rattle.types.specs.declared.Reason.{Reason}
 use Rattle.types.specs.declared.Reason.the-variants.{WorkTooShort, OutputTooShort}

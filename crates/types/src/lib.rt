@@ -1,5 +1,4 @@
 // The types of plans on a device mesh, their limits, the refusals, and the outcomes of the calls. What they stand for in the rules is in specs/.
-use rules::Kind;
 ghost use mathlib.Core.Path.{_≡_};
 ghost use mathlib.Core.List.{List, [], _∷_, _++_};
 ghost use Prim.Native.Nat.{ℕ, _+_, _<_, _≤_};
@@ -102,6 +101,15 @@ impl Table {
     {
         Table::MOST
     }
+}
+
+// The kinds of step.
+pub enum Kind {
+    AllSlice,
+    AllGather,
+    AllReduce,
+    AllToAll,
+    Unknown,
 }
 
 // A step: all-slice and all-gather have lists by dimension, all-reduce and all-to-all have one list.

@@ -4,6 +4,7 @@ use mathlib.Core.Path.{_≡_, _∙_}
 use native.Mathlib.Omega.{arith}
 use denote.Ref.{now}
 use Rattle.rules.specs.PlanFile.{listsOf, stepAt}
+use Rattle.types.specs.Types.{kindMeaning}
 use Rattle.reader.proofs.Answers.{retold}
 use Rattle.reader.proofs.Listing.{ByteIs, byte-is, byte-end}
 use Rattle.reader.proofs.Stepping.{no-kind, by-kind, unknown}
@@ -19,7 +20,7 @@ byte-here c = byte-is _ _ (c .before .before .byte-at .ensures) (c .first .given
 kind-is : (c : tie.After-kind-of)
     → let a = c .before .before .before .before .before .before .args in
     stepAt (a .n) (a .rank) (a .k) (now (a .file)) (a .at)
-    ≡ listsOf (a .n) (a .rank) (a .k) (now (a .file)) (a .at + 1) (c .kind-of .result)
+    ≡ listsOf (a .n) (a .rank) (a .k) (now (a .file)) (a .at + 1) (kindMeaning (c .kind-of .result))
 kind-is c = by-kind _ _ _ _ _ (byte-here (c .before .before)) (c .kind-of .ensures)
 
 enum-told : tie.Need-enum-told
