@@ -8,7 +8,7 @@ use lib.ListN.{length, set, replicate}
 use Rattle.rules.specs.Lists.{tab, flat, All, done, _&_}
 use Rattle.rules.specs.Collectives.{Step, allSlice, allGather}
 use Rattle.rules.specs.Refusals.{Judged, accept, refuse, _>>=_}
-use Rattle.rules.specs.PlanFile.{plain, repeat, sameSharding, judge, judgeBy}
+use Rattle.rules.specs.PlanFile.{plain, repeat, sameSharding, repeatAt, judge, judgeBy}
 use Rattle.rules.specs.Calls.{checkOf, placeOf, runOf}
 use Rattle.rules.specs.Limits.{withoutRepeats, original}
 use Rattle.rules.specs.Ledger.{Case, checked, placed, Holds, fileIn, fileOf, on2x2, passed, found, leaves}
@@ -95,7 +95,7 @@ repeats =
     -- outermost steps, and "0 to 64 steps" is a limit of theirs
     checked (whole (times 2 (swings 1) ∷ [])) (passed 4 2 1 ([] ∷ []) [] (2 ∷ []))
     ∷ checked mixed (passed 4 2 3 ([] ∷ []) [] (2 ∷ []))
-    ∷ checked (whole (times 1 (swings 40) ∷ slice ∷ [])) (passed 4 2 2 ((0 ∷ []) ∷ []) [] (1 ∷ []))
+    ∷ checked (whole (times 1 (swings 33) ∷ slice ∷ [])) (passed 4 2 2 ((0 ∷ []) ∷ []) [] (1 ∷ []))
     -- "which may be repeats themselves down to depth 4 (an outermost one is 1)": also one after another
     ∷ checked (whole (nested 4 (swings 1))) (passed 4 2 1 ([] ∷ []) [] (2 ∷ []))
     ∷ checked (whole (nested 4 (swings 1) ++ nested 4 (swings 1))) (passed 4 2 2 ([] ∷ []) [] (2 ∷ []))
@@ -206,8 +206,6 @@ repeats =
     ∷ leaves (third [] [] (times 2 (slice ∷ (1 ∷ 1 ∷ 1 ∷ []) ∷ (2 ∷ 2 ∷ 0 ∷ 1 ∷ []) ∷ []) ∷ [])) 16 (tab 16 (λ k. k + 1)) (
     9 ∷ 2 ∷ 15 ∷ 8 ∷ 9 ∷ 2 ∷ 15 ∷ 8 ∷ 9 ∷ 2 ∷ 15 ∷ 8 ∷ 9 ∷ 2 ∷ 15 ∷ 8 ∷ []
     )
-    -- a byte's most inner steps
-    ∷ checked (square (times 1 (flat (replicate 85 (sliceRows ∷ toColumns ∷ gatherColumns ∷ []))) ∷ [])) (passed 8 2 1 ([] ∷ [] ∷ []) [] (2 ∷ 2 ∷ []))
     ∷ []
 
 pub repeated : All Holds repeats
@@ -219,7 +217,7 @@ repeated =
     & refl & refl & refl & refl & refl & refl & refl & refl & refl & refl & refl & refl
     & refl & refl & refl & refl & refl & refl & refl & refl & refl & refl & refl & refl
     & refl & refl & refl & refl & refl & refl & refl & refl & refl & refl & refl & refl
-    & refl & refl & refl & refl & refl & refl & refl & refl & refl & refl & refl & refl & refl & done
+    & refl & refl & refl & refl & refl & refl & refl & refl & refl & refl & refl & refl & done
 
 -- ---- what is read
 
@@ -237,6 +235,8 @@ runsOf file = _>>=_ (judge file) (λ p. accept (p .runs))
 pub record RepeatsRead : Type 0 where
   -- "Step kind 9 is a repeat": no byte above it is one
   pub unknown : tab 246 (λ i. checkOf (whole (((i + 10) ∷ 2 ∷ 2 ∷ slice ++ gather) ∷ []))) ≡ replicate 246 (refuse 20 1)
+  -- a byte's most inner steps are judged, from the number after the repeat's on
+  pub most-inner : repeatAt (λ number k at s. refuse number k) (1 ∷ 255 ∷ []) 1 0 (shardingOf [] [] []) ≡ refuse 255 2
   -- the reader with document 01's limits knows repeats and orders
   pub original-reads : judgeBy original mixed ≡ judge mixed
   pub original-orders : judgeBy original (third [] [] (times 2 (swings 1) ∷ [])) ≡ judge (third [] [] (times 2 (swings 1) ∷ []))
@@ -277,9 +277,10 @@ pub record RepeatsRead : Type 0 where
   })
 
 pub repeats-read : RepeatsRead
-unfolding fileIn fileOf judgeBy sameSharding checkOf
+unfolding fileIn fileOf judgeBy sameSharding repeatAt checkOf
 repeats-read = record {
   unknown = refl;
+  most-inner = refl;
   original-reads = refl;
   original-orders = refl;
   mixed-read = refl;
