@@ -1,6 +1,7 @@
 -- The rules' own promises (`rules-promise`). Assumes nothing.
 use Rattle.rules.specs.Ledger as table
 use Rattle.rules.specs.WorkedRefusals as files
+use Rattle.rules.specs.WorkedGroups as small
 use Rattle.rules.specs.WorkedLimits as sizes
 use Rattle.rules.specs.WorkedEditions as later
 use Rattle.rules.specs.WorkedOrders as cabled
@@ -36,6 +37,7 @@ rules-promise = record {
   worked = table.worked;
   beside = table.worked-beside;
   refused = files.refused;
+  in-groups = small.in-groups;
   limited = sizes.limited;
   earlier = sizes.earlier;
   in-editions = later.in-editions;

@@ -17,6 +17,7 @@ use Rattle.laws.specs.Demands.{
 }
 use Rattle.rules.specs.Ledger.{Holds, ledger, beside as besideIt}
 use Rattle.rules.specs.WorkedRefusals.{refusals}
+use Rattle.rules.specs.WorkedGroups.{InGroups}
 use Rattle.rules.specs.WorkedLimits.{limits, Earlier}
 use Rattle.rules.specs.WorkedEditions.{editions, FirstEdition, Unequal, NoSharding}
 use Rattle.rules.specs.WorkedOrders.{orders, SecondEdition}
@@ -24,7 +25,8 @@ use Rattle.rules.specs.WorkedRepeats.{repeats, RepeatsRead}
 
 -- Demand 3 for every plan that passes, and that it speaks of something; the room's limit; that the replicated list stays; what repeats come to; the
 -- numbers of refusals; what readers that take less answer; a step's locality; what a group and a sum of words are; the ledger W1 to W10, and cases
--- beside it; a file or a call for each refusal number; each limit from both sides; files of the later editions; files with repeats.
+-- beside it; a file or a call for each refusal number; groups, a rearrangement and a spread on the smallest meshes; each limit from both sides; files of
+-- the later editions; files with repeats.
 pub record RulesPromise : Type 1 where
   pub whole-plan : WholePlan
   pub spreadable : Spreadable
@@ -45,6 +47,7 @@ pub record RulesPromise : Type 1 where
   pub worked : All Holds ledger
   pub beside : All Holds besideIt
   pub refused : All Holds refusals
+  pub in-groups : InGroups
   pub limited : All Holds limits
   pub earlier : Earlier
   pub in-editions : All Holds editions

@@ -11,6 +11,7 @@ pub mod Calls
 pub mod Ledger
 pub mod WorkedRefusals
 pub mod WorkedEditions
+pub mod WorkedGroups
 pub mod WorkedLimits
 pub mod WorkedOrders
 pub mod WorkedRepeats
