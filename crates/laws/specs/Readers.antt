@@ -55,11 +55,13 @@ pub record EarlierLimits : Type 0 where
   pub keeps : KeepsPlans original present
   pub meets : MeetsTests original present
 
+-- Files of the editions that a reader knows keep their plans, and it answers 3 on every accepted file of a later one.
 pub record EarlierEditions : Type 0 where
   pub keeps : (latest : ℕ) → latest ≤ latestEdition → KeepsPlans (upTo latest) present
   pub meets : (latest : ℕ) → latest ≤ latestEdition → (file : List ℕ) (p : Plan) → judgeBy present file ≡ accept p
       → judgeBy (upTo latest) file ≡ _>>_ (need (leb (edition file) latest) 3) (accept p)
 
+-- Document 02, Ask 11: "On an accepted file with a repeat, the reader just before this answers 20 at the first one." Files without one keep their plans.
 pub record EarlierSteps : Type 0 where
   pub keeps : KeepsPlans withoutRepeats present
   pub stops : (file : List ℕ) (p : Plan) → judgeBy present file ≡ accept p

@@ -69,13 +69,11 @@ present = record {
 abbrev pub original : Reader
 original = record { devices = 256; words = 4096; bytes = 4096; editions = latestEdition; repeats = true }
 
--- The reader of the editions up to one, all else as the present one takes it. Document 02, Ask 3: "Refusal 3 now means neither 1 nor 2." Files of the
--- editions that it knows keep their plans, and it answers 3 on every accepted file of a later one.
+-- The reader of the editions up to one, all else as the present one takes it. Document 02, Ask 3: "Refusal 3 now means neither 1 nor 2."
 abbrev pub upTo : (latest : ℕ) → Reader
 upTo latest = record { devices = mostDevices; words = mostWords; bytes = mostBytes; editions = latest; repeats = true }
 
--- The reader just before repeats. Document 02, Ask 11: "On an accepted file with a repeat, the reader just before this answers 20 at the first one."
--- Files without one keep their plans.
+-- The reader just before repeats (document 02, Ask 11).
 abbrev pub withoutRepeats : Reader
 withoutRepeats = record {
   devices = mostDevices;

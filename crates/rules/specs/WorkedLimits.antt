@@ -1,5 +1,5 @@
 -- Document 01, "Numbers to hold to", with the numbers of document 02, Ask 12: of each limit, calls at it and calls just past it, as one table in the form of the ledger, a limit's lines together.
--- src/lib.rt ties the constants of the code to those of Limits.antt; these lines tie both to the numbers themselves. Assumes nothing.
+-- The crate types ties the constants of the code to those of Limits.antt; these lines tie both to the numbers themselves. Assumes nothing.
 use Prim.Native.Nat.{ℕ, _+_, _-_, _*_, _/_, _%_}
 use mathlib.Core.Path.{_≡_, refl}
 use mathlib.Core.List.{List, [], _∷_, _++_}
