@@ -29,7 +29,7 @@ in-groups = record {
   split = λ f. let e : _≡_ {A = ℕ} 1 3 = f .sums (0 ∷ []) (0 ∷ []) (more (lit< tt) none) (more (lit< tt) none) in omega (arith, e);
 }
   where
-    agree : SameGroup (1 ∷ []) (0 ∷ 0 ∷ []) (0 ∷ 1 ∷ [])
+    agree : (a : ℕ) → ¬ In a (1 ∷ []) → _≡_ {A = ℕ} (getD (0 ∷ 0 ∷ []) a 0) (getD (0 ∷ 1 ∷ []) a 0)
     agree zero n = refl
     agree (suc zero) n = absurd (n (inl refl))
     agree (suc (suc a)) n = refl
