@@ -13,7 +13,7 @@ use Rattle.rules.specs.Lists.{tab, pick, flat, inTurn, product, total, m
 use Rattle.rules.specs.Mesh.{devices, Rearrangement}
 use Rattle.rules.specs.Sharding.{Sharding, varying, divisible, shardSizes, IsSharding}
 use Rattle.rules.specs.Collectives.{after}
-use Rattle.rules.specs.Limits.{present, mostAxes, mostDevices, mostDims, mostWords, mostSteps, mostRun, leastBytes, mostBytes}
+use Rattle.rules.specs.Limits.{present, everyKind, mostAxes, mostDevices, mostDims, mostWords, mostSteps, mostRun, leastBytes, mostBytes}
 use Rattle.rules.specs.Refusals.{accept, _>>=_, _>>_}
 use Rattle.rules.specs.PlanFile.{
   Read,
@@ -300,10 +300,10 @@ unfolding judgeBy
 accepted-counted file p e =
     let f = bind-inv (judgeFront file) _ p e in
     let a : AcceptedFront file (f .0) = front-accepted file (f .0) (f .1) in
-    let ts = bind-inv (outermostAt true (f .0 .mesh) (f .0 .sizes) file 0 (stepCount file) 1 (f .0 .next) (f .0 .start)) _ p (f .2) in
+    let ts = bind-inv (outermostAt everyKind (f .0 .mesh) (f .0 .sizes) file 0 (stepCount file) 1 (f .0 .next) (f .0 .start)) _ p (f .2) in
     let z = need-inv 0 (eqb (ts .0 .next) (length file)) 9 _ p (ts .2) in
     let g : ToldOutermost (f .0 .mesh) (f .0 .sizes) file 0 (stepCount file) (f .0 .start) (ts .0) =
-    outermost-tells (f .0 .mesh) (f .0 .sizes) file true 0 (stepCount file) 1 (f .0 .next) (f .0 .start) (ts .0) (lit≤ tt) (ts .1) in
+    outermost-tells (f .0 .mesh) (f .0 .sizes) file everyKind 0 (stepCount file) 1 (f .0 .next) (f .0 .start) (ts .0) (lit≤ tt) (ts .1) in
     subst (λ (q : Plan). AcceptedPlan q × (length (q .runs) ≡ stepCount file)) (accept-inj (z .1)) (
       record {
         within = a .within;

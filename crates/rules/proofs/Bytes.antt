@@ -36,7 +36,7 @@ use Rattle.rules.specs.PlanFile.{
   itemAt,
 }
 use Rattle.rules.specs.declared.Kind.{Kind}
-use Rattle.rules.specs.declared.Kind.the-variants.{AllSlice, AllGather, AllReduce, AllToAll, Unknown}
+use Rattle.rules.specs.declared.Kind.the-variants.{AllSlice, AllGather, AllReduce, AllToAll, ReduceScatter, Unknown}
 use Rattle.rules.proofs.Judging.{never, accept-inj, need-inv, bind-inv}
 use Rattle.rules.proofs.Turns.{length-times}
 use Rattle.rules.proofs.Repeats.{IsRepeat, repeat-inv, positive-inv}
@@ -115,6 +115,11 @@ module _ (file : List ℕ) where
       let x = list-bytes n (at + 2) (a .0) (a .1) in
       let z : a .0 .next ≡ t .next = ap (λ (r : Read Step). r .next) (accept-inj (a .2)) in
       (omega (arith, x .0), omega (arith, x .1))
+  kind-bytes n rank k at ReduceScatter t h e =
+      let a = bind-inv (listsAt n rank file at) _ t e in
+      let x = lists-bytes n rank at (a .0) h (a .1) in
+      let z : a .0 .next ≡ t .next = ap (λ (r : Read Step). r .next) (accept-inj (a .2)) in
+      (omega (arith, x .0), omega (arith, x .1))
   kind-bytes n rank k at Unknown t h e = absurd (never e)
 
   pub step-bytes : (n rank k at : ℕ) (t : Read Step) → stepAt n rank k file at ≡ accept t → (at < t .next) × (t .next ≤ length file)
@@ -184,8 +189,10 @@ module _ (mesh sizes file : List ℕ) where
   by-takes false inner g k at s w e = plain-takes k at s w e
   by-takes true inner g k at s w e = repeat-takes inner g k at s w e
 
-  pub item-takes : (known : Bool) (depth : ℕ) → Taking (itemAt known mesh sizes file depth)
+  pub item-takes : (known : ℕ → Bool) (depth : ℕ) → Taking (itemAt known mesh sizes file depth)
   unfolding itemAt
-  item-takes known zero k at s w e = by-takes (known && isRepeat file at) (tooDeep k) (λ count k′ at′ s′ w′ h e′. absurd (never e′)) k at s w e
+  item-takes known zero k at s w e =
+      by-takes (isRepeat file at) (tooDeep k) (λ count k′ at′ s′ w′ h e′. absurd (never e′)) k at s w (need-inv k (known (getD file at 0)) 20 _ w e .1)
   item-takes known (suc depth) k at s w e =
-      by-takes (known && isRepeat file at) (stepsAt (itemAt known mesh sizes file depth)) (steps-take (itemAt known mesh sizes file depth) (item-takes known depth)) k at s w e
+      by-takes (isRepeat file at) (stepsAt (itemAt known mesh sizes file depth)) (steps-take (itemAt known mesh sizes file depth) (item-takes known depth)) k at s w
+      (need-inv k (known (getD file at 0)) 20 _ w e .1)

@@ -7,11 +7,11 @@ use mathlib.Core.List.{List, [], _∷_, _++_}
 use native.Mathlib.Omega.{arith}
 use lib.ListN.{length, take, drop, take-append-drop}
 use lib.Dec.{T, T-not, eqb, ltb, leb, eqb→eq, eqb-refl, ltb→lt, leb→le}
-use Rattle.rules.specs.Lists.{each, both, mem, In, Distinct}
+use Rattle.rules.specs.Lists.{each, both, mem, ascending, In, Distinct}
 use Rattle.rules.specs.Collectives.{cutTail}
 use Rattle.rules.specs.Refusals.{Judged, accept, refuse, _>>=_, _>>_, needAt}
 use Rattle.rules.specs.PlanFile.{some, allBelow, fresh, same, isTail, increasingFrom, allIn, twoDims, judgeNamed}
-use Rattle.rules.proofs.Lists.{T-and, mem-in, not-mem}
+use Rattle.rules.proofs.Lists.{T?, T-and, T→true, nT→false, mem-in, in-mem, not-mem, of-ascending, in-ascending}
 
 -- ---- tests in order
 
@@ -113,6 +113,19 @@ pub allIn-in : (L U : List ℕ) → T (allIn L U) → (a : ℕ) → In a L → I
 unfolding allIn
 allIn-in (b ∷ L) U t a (inl e) = subst (λ z. In z U) (sym e) (mem-in b U (T-and (mem b U) (allIn L U) t .0))
 allIn-in (b ∷ L) U t a (inr i) = allIn-in L U (T-and (mem b U) (allIn L U) t .1) a i
+
+in-allIn : (L U : List ℕ) → ((a : ℕ) → In a L → In a U) → T (allIn L U)
+unfolding allIn
+in-allIn [] U h = tt
+in-allIn (b ∷ L) U h = rw (T→true (mem b U) (in-mem b U (h b (inl refl)))) (in-allIn L U (λ a i. h a (inr i)))
+
+-- the order of the axes does not count
+pub allIn-ascending : (n : ℕ) (L U : List ℕ) → ((a : ℕ) → In a L → a < n) → allIn (ascending n L) U ≡ allIn L U
+allIn-ascending n L U below = ⊎-elim
+    (λ t. T→true (allIn (ascending n L) U) (in-allIn (ascending n L) U (λ a i. allIn-in L U t a (of-ascending n L a i))) ∙ sym (T→true (allIn L U) t))
+    (λ t. nT→false (allIn (ascending n L) U) (λ s. T-not (allIn L U) t (in-allIn L U (λ a i. allIn-in (ascending n L) U s a (in-ascending n L a (below a i) i))))
+    ∙ sym (nT→false (allIn L U) (T-not (allIn L U) t)))
+    (T? (allIn L U))
 
 -- 28
 pub twoDims-facts : (rank source target : ℕ) → T (twoDims rank source target) → (source < rank) × (target < rank) × (source ≢ target)

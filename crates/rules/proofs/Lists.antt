@@ -10,7 +10,7 @@ use native.Mathlib.Decide.{ℕ-discrete}
 use lib.ListN.{length, getD, take, drop, replicate, length-append, List·getD-append}
 use lib.Seq.{drop-cons, getD-at}
 use lib.Dec.{T, T-not, not-T, eqb, eqb-refl, eqb→eq}
-use Rattle.rules.specs.Lists.{tab, each, both, inTurn, pick, flat, mem, keep, without, In, Distinct, All, done, _&_, Below, none, more}
+use Rattle.rules.specs.Lists.{tab, each, both, inTurn, pick, flat, mem, keep, without, ascending, In, Distinct, All, done, _&_, Below, none, more}
 
 -- ---- tabulated lists
 
@@ -361,6 +361,34 @@ without-other a b U h = keep-yes (λ c. not (mem c (a ∷ []))) b U (mem-not b (
 pub without-absent : (L U : List ℕ) → ((a : ℕ) → In a U → ¬ In a L) → without U L ≡ U
 unfolding without
 without-absent L U off = keep-all (λ c. not (mem c L)) U (λ c i. mem-not c L (off c i))
+
+-- ---- the numbers below n of a list, in increasing order
+
+module _ (n : ℕ) (L : List ℕ) where
+  pub of-ascending : (a : ℕ) → In a (ascending n L) → In a L
+  unfolding ascending
+  of-ascending a i = mem-in a L (of-keep (λ a. mem a L) a (tab n (λ a. a)) i .1)
+
+  pub in-ascending : (a : ℕ) → a < n → In a L → In a (ascending n L)
+  unfolding ascending
+  in-ascending a l i = in-keep (λ a. mem a L) a (tab n (λ a. a)) (axes-in a n l) (in-mem a L i)
+
+  pub distinct-ascending : Distinct (ascending n L)
+  unfolding ascending
+  distinct-ascending = distinct-keep (λ a. mem a L) (tab n (λ a. a)) (distinct-axes n)
+
+  -- where all are below n, they are the list's own
+  pub without-ascending : (U : List ℕ) → ((a : ℕ) → In a L → a < n) → without U (ascending n L) ≡ without U L
+  unfolding without
+  without-ascending U below = keep-same _ _ U (λ c i. ap not (go c (T? (mem c L))))
+    where
+      go : (c : ℕ) → T (mem c L) ⊎ T (not (mem c L)) → mem c (ascending n L) ≡ mem c L
+      go c (inl t) =
+          let i : In c L = mem-in c L t in
+          T→true (mem c (ascending n L)) (in-mem c (ascending n L) (in-ascending c (below c i) i)) ∙ sym (T→true (mem c L) t)
+      go c (inr t) =
+          nT→false (mem c (ascending n L)) (λ m. not-mem c L t (of-ascending c (mem-in c (ascending n L) m)))
+          ∙ sym (nT→false (mem c L) (T-not (mem c L) t))
 
 -- ---- distinct numbers below n are at most n
 

@@ -20,6 +20,7 @@ use Rattle.rules.specs.Collectives.{
   allGather,
   allReduce,
   allToAll,
+  reduceScatter,
   only,
   after,
   grown,
@@ -168,6 +169,7 @@ Moving (allSlice Ss) = Unit {0}
 Moving (allGather Gs) = Unit {0}
 Moving (allReduce L) = ⊥
 Moving (allToAll source target L) = Unit {0}
+Moving (reduceScatter Ss) = ⊥
 
 -- the lists that a step gathers along, and those that it slices along, one per dimension
 abbrev pub gathers : Step → ℕ → List (List ℕ)
@@ -175,12 +177,14 @@ gathers (allSlice Ss) rank = replicate rank []
 gathers (allGather Gs) rank = Gs
 gathers (allReduce L) rank = replicate rank []
 gathers (allToAll source target L) rank = only rank source L
+gathers (reduceScatter Ss) rank = replicate rank []
 
 abbrev pub slices : Step → ℕ → List (List ℕ)
 slices (allSlice Ss) rank = Ss
 slices (allGather Gs) rank = replicate rank []
 slices (allReduce L) rank = replicate rank []
 slices (allToAll source target L) rank = only rank target L
+slices (reduceScatter Ss) rank = Ss
 
 -- What a kernel that moves words asks of the lists Gs and Ss, and of the shards before and after it, of a table of the given sizes.
 pub record Moves (mesh sizes : List ℕ) (Gs Ss : List (List ℕ)) (shape new : List ℕ) : Type 0 where
@@ -229,6 +233,7 @@ module _ (mesh sizes : List ℕ) (pos : (a : ℕ) → zero < getD mesh a 1) wher
   step-reshapes (allToAll source target L) s m h f =
       let c : Ready mesh (allToAll source target L) (shapeOf s) = step-ready mesh sizes pos (allToAll source target L) s h f in
       record { apart = off-only (rankOf s) source target L (f .by-kind .other); joins = c .0; parts = c .1 }
+  step-reshapes (reduceScatter Ss) s m h f = absurd m
 
   -- the words fetched are those that the rules make
   module _ {W : Type 0} (addAll : List W → W) (one : (a : W) → addAll (a ∷ []) ≡ a) where
@@ -249,6 +254,7 @@ module _ (mesh sizes : List ℕ) (pos : (a : ℕ) → zero < getD mesh a 1) wher
         ∙ sym (one _)
     fetched-made (allReduce L) s w x i m h f bx bi = absurd m
     fetched-made (allToAll source target L) s w x i m h f bx bi = sym (one _)
+    fetched-made (reduceScatter Ss) s w x i m h f bx bi = absurd m
 
     -- THE BRIDGE: what the kernel leaves is what the rules make.
     pub step-moved : (z : W) (t : Step) (s : Sharding) (old : List W) → Moving t → IsSharding mesh sizes s → AcceptedStep mesh sizes t s
@@ -267,6 +273,7 @@ module _ (mesh sizes : List ℕ) (pos : (a : ℕ) → zero < getD mesh a 1) wher
   gathers-distinct (allReduce L) s h f = subst Distinct (sym (flat-empty (rankOf s))) tt
   gathers-distinct (allToAll source target L) s h f =
       rw (shape-length mesh sizes pos s h) (to-all-sharding mesh sizes pos source target L s h (f .axes) (f .by-kind) .first .apart .right)
+  gathers-distinct (reduceScatter Ss) s h f = subst Distinct (sym (flat-empty (rankOf s))) tt
 
   slices-distinct : (t : Step) (s : Sharding) → IsSharding mesh sizes s → AcceptedStep mesh sizes t s → Distinct (flat (slices t (rankOf s)))
   slices-distinct (allSlice Ss) s h f = f .by-kind .once
@@ -277,18 +284,21 @@ module _ (mesh sizes : List ℕ) (pos : (a : ℕ) → zero < getD mesh a 1) wher
       let g : flat (only (rankOf s) source L) ≡ L = flat-only (rankOf s) source L (omega (arith, n, f .by-kind .source-lt)) in
       let k : flat (only (rankOf s) target L) ≡ L = flat-only (rankOf s) target L (omega (arith, n, f .by-kind .target-lt)) in
       subst Distinct (g ∙ sym k) (gathers-distinct (allToAll source target L) s h f)
+  slices-distinct (reduceScatter Ss) s h f = f .by-kind .once
 
   gathers-below : (t : Step) (s : Sharding) → AcceptedStep mesh sizes t s → (a : ℕ) → In a (flat (gathers t (rankOf s))) → a < length mesh
   gathers-below (allSlice Ss) s f a i = absurd (subst (In a) (flat-empty (rankOf s)) i)
   gathers-below (allGather Gs) s f a i = f .axes a i
   gathers-below (allReduce L) s f a i = absurd (subst (In a) (flat-empty (rankOf s)) i)
   gathers-below (allToAll source target L) s f a i = f .axes a (in-only a (rankOf s) source L i)
+  gathers-below (reduceScatter Ss) s f a i = absurd (subst (In a) (flat-empty (rankOf s)) i)
 
   slices-below : (t : Step) (s : Sharding) → AcceptedStep mesh sizes t s → (a : ℕ) → In a (flat (slices t (rankOf s))) → a < length mesh
   slices-below (allSlice Ss) s f a i = f .axes a i
   slices-below (allGather Gs) s f a i = absurd (subst (In a) (flat-empty (rankOf s)) i)
   slices-below (allReduce L) s f a i = absurd (subst (In a) (flat-empty (rankOf s)) i)
   slices-below (allToAll source target L) s f a i = f .axes a (in-only a (rankOf s) target L i)
+  slices-below (reduceScatter Ss) s f a i = f .axes a i
 
   -- a shard has some words, and no more than the table
   shard-words : (s : Sharding) → IsSharding mesh sizes s → 0 < product sizes → (0 < product (shapeOf s)) × (product (shapeOf s) ≤ product sizes)

@@ -8,12 +8,12 @@ use native.Mathlib.Omega.{arith}
 use lib.ListN.{length, getD, take, drop}
 use Rattle.rules.specs.Lists.{inTurn}
 use Rattle.rules.specs.Sharding.{Sharding, shardSizes, IsSharding}
-use Rattle.rules.specs.Collectives.{Step, allSlice, allGather, allReduce, allToAll, only, after, shapeAfter, WithoutRemainder}
+use Rattle.rules.specs.Collectives.{Step, allSlice, allGather, allReduce, allToAll, reduceScatter, reduced, only, after, shapeAfter, WithoutRemainder}
 use Rattle.rules.specs.PlanFile.{Plan, announced, announcedShape}
 use Rattle.rules.proofs.Shapes.{Cut}
 use Rattle.rules.proofs.Sizes.{cut-is}
 use Rattle.rules.proofs.Sources.{Ready}
-use Rattle.rules.proofs.Steps.{AcceptedStep, ToAll, shape-length, slice-sharding, gather-sharding, to-all-sharding, after-shape}
+use Rattle.rules.proofs.Steps.{AcceptedStep, ToAll, shape-length, slice-sharding, gather-sharding, to-all-sharding, scatter-sharding, after-shape}
 use Rattle.rules.proofs.Turns.{Fine}
 use Rattle.rules.proofs.Accepted.{AcceptedPlan}
 use Rattle.rules.proofs.Room.{state}
@@ -22,6 +22,7 @@ use Rattle.rules.proofs.Room.{state}
 
 module _ (mesh sizes : List ℕ) (pos : (a : ℕ) → zero < getD mesh a 1) where
   pub step-ready : (t : Step) (s : Sharding) → IsSharding mesh sizes s → AcceptedStep mesh sizes t s → Ready mesh t (shardSizes mesh sizes (s .dims))
+  unfolding reduced
   step-ready (allSlice Ss) s h f = slice-sharding mesh sizes pos Ss s h (f .axes) (f .by-kind) .pieces
   step-ready (allGather Gs) s h f = gather-sharding mesh sizes pos Gs s h (f .by-kind) .wholes
   step-ready (allReduce L) s h f = tt
@@ -31,6 +32,7 @@ module _ (mesh sizes : List ℕ) (pos : (a : ℕ) → zero < getD mesh a 1) wher
         w .first .wholes,
         subst (λ (z : List ℕ). Cut mesh (only (length (s .dims)) target L) z (shardSizes mesh z (only (length (s .dims)) target L))) (sym (w .first .announced)) (w .second .pieces),
       )
+  step-ready (reduceScatter Ss) s h f = scatter-sharding mesh sizes pos Ss s h f .pieces
 
 -- the sizes that a step's kind asks for divide without remainder
 ready-divides : (mesh : List ℕ) → ((a : ℕ) → zero < getD mesh a 1) → (t : Step) (shape : List ℕ) → Ready mesh t shape → WithoutRemainder mesh t shape
@@ -38,6 +40,7 @@ ready-divides mesh pos (allSlice Ss) shape c = cut-is mesh pos c .0
 ready-divides mesh pos (allGather Gs) shape c = tt
 ready-divides mesh pos (allReduce L) shape c = tt
 ready-divides mesh pos (allToAll source target L) shape c = cut-is mesh pos (c .1) .0
+ready-divides mesh pos (reduceScatter Ss) shape c = cut-is mesh pos c .0
 
 -- ---- the step after the first k
 
@@ -87,9 +90,11 @@ pub next-divides : {p : Plan} → AcceptedPlan p → (k : ℕ) (t : Step) (rest 
     → WithoutRemainder (p .mesh) t (announcedShape p k)
 next-divides {p} a k t rest d = ready-divides (p .mesh) (a .within .sizes-pos) t (announcedShape p k) (next-ready a k t rest d)
 
--- a size of 4 is divided along an axis of 2 without remainder, one of 3 is not, by an all-slice or by an all-to-all
+-- a size of 4 is divided along an axis of 2 without remainder, one of 3 is not, by an all-slice, an all-to-all or a reduce-scatter
 remainders :
     WithoutRemainder (2 ∷ []) (allSlice ((0 ∷ []) ∷ [])) (4 ∷ [])
     × (¬ WithoutRemainder (2 ∷ []) (allSlice ((0 ∷ []) ∷ [])) (3 ∷ []))
     × (¬ WithoutRemainder (2 ∷ []) (allToAll 0 1 (0 ∷ [])) (2 ∷ 3 ∷ []))
-remainders = (tt, λ t. t, λ t. t)
+    × WithoutRemainder (2 ∷ []) (reduceScatter ((0 ∷ []) ∷ [])) (4 ∷ [])
+    × (¬ WithoutRemainder (2 ∷ []) (reduceScatter ((0 ∷ []) ∷ [])) (3 ∷ []))
+remainders = (tt, λ t. t, λ t. t, tt, λ t. t)

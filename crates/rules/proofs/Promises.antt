@@ -15,6 +15,7 @@ use Rattle.rules.specs.WorkedLimits as sizes
 use Rattle.rules.specs.WorkedEditions as later
 use Rattle.rules.specs.WorkedOrders as cabled
 use Rattle.rules.specs.WorkedRepeats as repeated
+use Rattle.rules.specs.WorkedScatters as scattered
 use Rattle.rules.specs.Promises.{RunPromise, RulesPromise}
 use Rattle.rules.specs.declared.Refusal.{Refusal}
 use Rattle.rules.specs.declared.RunOutcome.{RunOutcome}
@@ -146,4 +147,6 @@ rules-promise = record {
   second-edition = cabled.second-edition;
   repeated = repeated.repeated;
   repeats-read = repeated.repeats-read;
+  scattered = scattered.scattered;
+  scatters-read = scattered.scatters-read;
 }

@@ -1,20 +1,19 @@
 -- Two readers of plan files, of which the one takes nothing that the other does not: what either answers on a file that the other accepts
--- (`readers-compared`). The judgements differ in four tests and in repeats; what follows the sizes up to the steps is the same for every reader
+-- (`readers-compared`). The judgements differ in four tests and in the kinds of steps; what follows the sizes up to the steps is the same for every reader
 -- (`afterSizes`). Assumes nothing.
 use Prim.Native.Nat.{ℕ, zero, suc, _+_, _*_, _<_, _≤_}
 use mathlib.Core.Path.{_≡_, refl, sym, ap, _∙_, subst}
-use mathlib.Core.Bool.{Bool, true, false, _&&_}
-use mathlib.Core.List.{List, [], _∷_, _++_, map}
+use mathlib.Core.Bool.{Bool, true, false, not, _&&_}
+use mathlib.Core.List.{List, [], _∷_, _++_}
 use native.Mathlib.Nat.{mul-pos, mul-assoc, le-mul-of-pos-right}
 use native.Mathlib.Omega.{arith}
 use lib.ListN.{length}
-use lib.Dec.{T, ltb, leb, eqb, ltb→lt, leb→le, le→leb, lit<, lit≤}
+use lib.Dec.{T, ltb, leb, eqb, ltb→lt, leb→le, le→leb, eqb→eq, eqb-refl, lit<, lit≤}
 use borrow.Author.Tests.{lt-leb, leb-false}
-use Rattle.rules.specs.Lists.{tab, product}
+use Rattle.rules.specs.Lists.{tab, product, done, _&_}
 use Rattle.rules.specs.Mesh.{devices}
-use Rattle.rules.specs.Collectives.{Step}
-use Rattle.rules.specs.Limits.{Reader, present, leastBytes, mostBytes, mostDevices, mostWords, latestEdition}
-use Rattle.rules.specs.Refusals.{Judged, accept, refuse, _>>=_, _>>_, need}
+use Rattle.rules.specs.Limits.{Reader, everyKind, present, leastBytes, mostBytes, mostDevices, mostWords, latestEdition}
+use Rattle.rules.specs.Refusals.{Judged, accept, refuse, _>>=_, _>>_, need, needAt}
 use Rattle.rules.specs.PlanFile.{
   Read,
   u16At,
@@ -39,8 +38,7 @@ use Rattle.rules.specs.PlanFile.{
   judgeStart,
   oneMeaning,
   Record,
-  plain,
-  repeat,
+  kindByte,
   Outermost,
   outermostAt,
   Front,
@@ -50,7 +48,7 @@ use Rattle.rules.specs.PlanFile.{
 }
 use Rattle.rules.specs.Readers.{
   Narrower,
-  repeatsKnown,
+  kindsKnown,
   takenBy,
   KeepsPlans,
   MeetsTests,
@@ -59,11 +57,12 @@ use Rattle.rules.specs.Readers.{
   EarlierLimits,
   upTo,
   EarlierEditions,
-  withoutRepeats,
+  before,
+  NoneOf,
   EarlierSteps,
 }
 use Rattle.rules.proofs.Judging.{accept-inj, need-inv, then-inv, bind-inv, then-assoc}
-use Rattle.rules.proofs.Lists.{T-and}
+use Rattle.rules.proofs.Lists.{T-and, T→true, nT→false}
 use Rattle.rules.proofs.Accepted.{SizesFacts, sizes-facts}
 use Rattle.rules.proofs.Earlier.{outermost-meets, outermost-keeps}
 
@@ -296,32 +295,32 @@ planOf f ts = record {
 
 abbrev afterFront : Reader → List ℕ → Front → Judged Plan
 afterFront r file f = do
-  ts ← outermostAt (r .repeats) (f .mesh) (f .sizes) file 0 (stepCount file) 1 (f .next) (f .start)
+  ts ← outermostAt (r .kinds) (f .mesh) (f .sizes) file 0 (stepCount file) 1 (f .next) (f .start)
   need (eqb (ts .next) (length file)) 9
   accept (planOf f ts)
 
 front-same : (r : Reader) (file : List ℕ) (f : Front) (p : Plan) → afterFront r file f ≡ accept p → (f .mesh ≡ p .mesh) × (f .sizes ≡ p .sizes)
 front-same r file f p e =
-    let ts = bind-inv (outermostAt (r .repeats) (f .mesh) (f .sizes) file 0 (stepCount file) 1 (f .next) (f .start)) _ p e in
+    let ts = bind-inv (outermostAt (r .kinds) (f .mesh) (f .sizes) file 0 (stepCount file) 1 (f .next) (f .start)) _ p e in
     let z = need-inv 0 (eqb (ts .0 .next) (length file)) 9 _ p (ts .2) in (
       ap (λ (q : Plan). q .mesh) (accept-inj (z .1)),
       ap (λ (q : Plan). q .sizes) (accept-inj (z .1)),
     )
 
 module _ (r s : Reader) (n : Narrower r s) (file : List ℕ) (f : Front) (p : Plan) where
-  steps-meet : afterFront s file f ≡ accept p → Tests (afterFront r file f) (repeatsKnown (r .repeats) 1 (p .records)) p
+  steps-meet : afterFront s file f ≡ accept p → Tests (afterFront r file f) (kindsKnown (r .kinds) 1 (p .records)) p
   steps-meet e =
-      let ts = bind-inv (outermostAt (s .repeats) (f .mesh) (f .sizes) file 0 (stepCount file) 1 (f .next) (f .start)) _ p e in
+      let ts = bind-inv (outermostAt (s .kinds) (f .mesh) (f .sizes) file 0 (stepCount file) 1 (f .next) (f .start)) _ p e in
       let z = need-inv 0 (eqb (ts .0 .next) (length file)) 9 _ p (ts .2) in
-      subst (λ (q : Plan). Tests (afterFront r file f) (repeatsKnown (r .repeats) 1 (q .records)) q) (accept-inj (z .1))
-      (tests-none (repeatsKnown (r .repeats) 1 (ts .0 .records)) (ts .0) _ (planOf f (ts .0)) _
-      (outermost-meets (f .mesh) (f .sizes) file (r .repeats) (s .repeats) (n .repeats-few) 0 (stepCount file) 1 (f .next) (f .start) (ts .0) (ts .1))
+      subst (λ (q : Plan). Tests (afterFront r file f) (kindsKnown (r .kinds) 1 (q .records)) q) (accept-inj (z .1))
+      (tests-none (kindsKnown (r .kinds) 1 (ts .0 .records)) (ts .0) _ (planOf f (ts .0)) _
+      (outermost-meets (f .mesh) (f .sizes) file (r .kinds) (s .kinds) 0 (stepCount file) 1 (f .next) (f .start) (ts .0) (ts .1))
       (passes (eqb (ts .0 .next) (length file)) 9 (accept (planOf f (ts .0))) (z .0)))
 
   steps-keep : afterFront r file f ≡ accept p → afterFront s file f ≡ accept p
   steps-keep e =
-      let ts = bind-inv (outermostAt (r .repeats) (f .mesh) (f .sizes) file 0 (stepCount file) 1 (f .next) (f .start)) _ p e in
-      rw (outermost-keeps (f .mesh) (f .sizes) file (r .repeats) (s .repeats) (n .repeats-few) 0 (stepCount file) 1 (f .next) (f .start) (ts .0) (ts .1)) (ts .2)
+      let ts = bind-inv (outermostAt (r .kinds) (f .mesh) (f .sizes) file 0 (stepCount file) 1 (f .next) (f .start)) _ p e in
+      rw (outermost-keeps (f .mesh) (f .sizes) file (r .kinds) (s .kinds) (n .kinds-few) 0 (stepCount file) 1 (f .next) (f .start) (ts .0) (ts .1)) (ts .2)
 
 module _ (r s : Reader) (n : Narrower r s) (file : List ℕ) where
   -- the tests that r makes and s does not, of a file with these sizes
@@ -364,7 +363,7 @@ unfolding judgeBy
 meets-tests r s n file p e =
     let f = bind-inv (judgeFrontBy s file) (afterFront s file) p e in
     let q = front-same s file (f .0) p (f .2) in
-    let known : Judged (Unit {0}) = repeatsKnown (r .repeats) 1 (p .records) in
+    let known : Judged (Unit {0}) = kindsKnown (r .kinds) 1 (p .records) in
     subst (λ (mesh : List ℕ). Tests (judgeBy r file) (_>>_ (limits r s n file mesh (p .sizes)) known) p) (q .0)
     (subst (λ (sizes : List ℕ). Tests (judgeBy r file) (_>>_ (limits r s n file (f .0 .mesh) sizes) known) p) (q .1)
     (tests-bind (limits r s n file (f .0 .mesh) (f .0 .sizes)) known (f .0) (afterFront r file) p (judgeFrontBy r file) (front-meets r s n file (f .0) (f .1))
@@ -391,7 +390,7 @@ narrower = record {
   words-few = lit≤ tt;
   bytes-few = lit≤ tt;
   editions-few = lit≤ tt;
-  repeats-few = λ e. e;
+  kinds-few = λ b t. t;
 }
 
 pub earlier-limits : EarlierLimits
@@ -399,76 +398,95 @@ earlier-limits = record { keeps = keeps-plans original present narrower; meets =
 
 -- ---- readers with the present limits
 
--- of the editions up to one, with repeats or without
-abbrev reading : (latest : ℕ) → (repeats : Bool) → Reader
-reading latest repeats = record { devices = mostDevices; words = mostWords; bytes = mostBytes; editions = latest; repeats = repeats }
+-- of the editions up to one, and of some kinds
+abbrev reading : (latest : ℕ) → (kinds : ℕ → Bool) → Reader
+reading latest kinds = record { devices = mostDevices; words = mostWords; bytes = mostBytes; editions = latest; kinds = kinds }
 
-reading-less : (latest : ℕ) (repeats : Bool) → latest ≤ latestEdition → Narrower (reading latest repeats) present
-reading-less latest repeats l = record {
+reading-less : (latest : ℕ) (kinds : ℕ → Bool) → latest ≤ latestEdition → Narrower (reading latest kinds) present
+reading-less latest kinds l = record {
   devices-some = lit≤ tt;
   words-some = lit≤ tt;
   devices-few = lit≤ tt;
   words-few = lit≤ tt;
   bytes-few = lit≤ tt;
   editions-few = l;
-  repeats-few = λ e. refl;
+  kinds-few = λ b t. tt;
 }
 
--- where the tests of bytes and sizes pass, those of the edition and of repeats are left
-tests-left : {A : Type 0} (bytes first known devices words : Bool) (repeats : Judged (Unit {0})) (m : Judged A) → T bytes → T first → T devices → T words
-    → _>>_ (_>>_ (need bytes 2) (_>>_ (need (first && known) 3) (_>>_ (need devices 11) (_>>_ (need words 13) repeats)))) m
-    ≡ _>>_ (_>>_ (need known 3) repeats) m
-tests-left true true true true true repeats m b f d w = refl
-tests-left true true false true true repeats m b f d w = refl
+-- where the tests of bytes and sizes pass, those of the edition and of the kinds are left
+tests-left : {A : Type 0} (bytes first known devices words : Bool) (kinds : Judged (Unit {0})) (m : Judged A) → T bytes → T first → T devices → T words
+    → _>>_ (_>>_ (need bytes 2) (_>>_ (need (first && known) 3) (_>>_ (need devices 11) (_>>_ (need words 13) kinds)))) m
+    ≡ _>>_ (_>>_ (need known 3) kinds) m
+tests-left true true true true true kinds m b f d w = refl
+tests-left true true false true true kinds m b f d w = refl
 
-limits-met : (latest : ℕ) (repeats : Bool) → latest ≤ latestEdition → (file : List ℕ) (p : Plan) → judgeBy present file ≡ accept p
+limits-met : (latest : ℕ) (kinds : ℕ → Bool) → latest ≤ latestEdition → (file : List ℕ) (p : Plan) → judgeBy present file ≡ accept p
     → T (leb (edition file) latestEdition)
-    × (judgeBy (reading latest repeats) file ≡ _>>_ (_>>_ (need (leb (edition file) latest) 3) (repeatsKnown repeats 1 (p .records))) (accept p))
-limits-met latest repeats l file p e =
-    let own = then-inv (takenBy present file p) (accept p) p (sym (meets-tests present present (reading-less latestEdition true (omega arith)) file p e) ∙ e) in
+    × (judgeBy (reading latest kinds) file ≡ _>>_ (_>>_ (need (leb (edition file) latest) 3) (kindsKnown kinds 1 (p .records))) (accept p))
+limits-met latest kinds l file p e =
+    let own = then-inv (takenBy present file p) (accept p) p (sym (meets-tests present present (reading-less latestEdition everyKind (omega arith)) file p e) ∙ e) in
     let b = need-inv 0 (leb (length file) mostBytes) 2 _ tt (own .0 .1) in
     let k = need-inv 0 (editionKnown present (edition file)) 3 _ tt (b .1) in
     let d = need-inv 0 (leb (devices (p .mesh)) mostDevices) 11 _ tt (k .1) in
     let w = need-inv 0 (leb (product (p .sizes)) mostWords) 13 _ tt (d .1) in
     let x : T (leb 1 (edition file)) × T (leb (edition file) latestEdition) = T-and (leb 1 (edition file)) (leb (edition file) latestEdition) (k .0) in (
       x .1,
-      meets-tests (reading latest repeats) present (reading-less latest repeats l) file p e
+      meets-tests (reading latest kinds) present (reading-less latest kinds l) file p e
           ∙ tests-left (leb (length file) mostBytes) (leb 1 (edition file)) (leb (edition file) latest) (leb (devices (p .mesh)) mostDevices) (leb (product (p .sizes)) mostWords)
-          (repeatsKnown repeats 1 (p .records)) (accept p) (b .0) (x .0) (d .0) (w .0),
+          (kindsKnown kinds 1 (p .records)) (accept p) (b .0) (x .0) (d .0) (w .0),
     )
+
+all-known : (k : ℕ) (l : List Record) → kindsKnown everyKind k l ≡ accept tt
+all-known k [] = refl
+all-known k (t ∷ l) = all-known (k + 1) l
 
 editions-met : (latest : ℕ) → latest ≤ latestEdition → (file : List ℕ) (p : Plan) → judgeBy present file ≡ accept p
     → judgeBy (upTo latest) file ≡ _>>_ (need (leb (edition file) latest) 3) (accept p)
-editions-met latest l file p e = limits-met latest true l file p e .1 ∙ then-assoc (need (leb (edition file) latest) 3) (accept tt) (accept p)
+editions-met latest l file p e =
+    limits-met latest everyKind l file p e .1
+    ∙ ap (λ (j : Judged (Unit {0})). _>>_ (_>>_ (need (leb (edition file) latest) 3) j) (accept p)) (all-known 1 (p .records))
+    ∙ then-assoc (need (leb (edition file) latest) 3) (accept tt) (accept p)
 
 pub earlier-editions : EarlierEditions
-earlier-editions = record { keeps = λ latest l. keeps-plans (upTo latest) present (reading-less latest true l); meets = editions-met }
+earlier-editions = record { keeps = λ latest l. keeps-plans (upTo latest) present (reading-less latest everyKind l); meets = editions-met }
 
--- ---- the reader that knows no repeats
+-- ---- the reader just before a kind of step
 
-repeats-met : (file : List ℕ) (p : Plan) → judgeBy present file ≡ accept p → judgeBy withoutRepeats file ≡ _>>_ (repeatsKnown false 1 (p .records)) (accept p)
-repeats-met file p e =
-    let x = limits-met latestEdition false (omega arith) file p e in
-    x .1 ∙ ap (λ (j : Judged (Unit {0})). _>>_ j (accept p)) (passes (leb (edition file) latestEdition) 3 (repeatsKnown false 1 (p .records)) (x .0))
+module _ (kind : ℕ) where
+  abbrev others : ℕ → Bool
+  others b = not (eqb b kind)
 
-at-the-first : (k : ℕ) (before : List Step) (count number : ℕ) (rest : List Record)
-    → repeatsKnown false k (map plain before ++ repeat count number ∷ rest) ≡ refuse 20 (length before + k)
-at-the-first k [] count number rest = let z : k ≡ 0 + k = omega arith in ap (refuse 20) z
-at-the-first k (t ∷ before) count number rest =
-    let z : length before + (k + 1) ≡ suc (length before) + k = omega arith in
-    at-the-first (k + 1) before count number rest ∙ ap (refuse 20) z
+  kinds-met : (file : List ℕ) (p : Plan) → judgeBy present file ≡ accept p → judgeBy (before kind) file ≡ _>>_ (kindsKnown others 1 (p .records)) (accept p)
+  kinds-met file p e =
+      let x = limits-met latestEdition others (omega arith) file p e in
+      x .1 ∙ ap (λ (j : Judged (Unit {0})). _>>_ j (accept p)) (passes (leb (edition file) latestEdition) 3 (kindsKnown others 1 (p .records)) (x .0))
 
-none-met : (k : ℕ) (all : List Step) → repeatsKnown false k (map plain all) ≡ accept tt
-none-met k [] = refl
-none-met k (t ∷ all) = none-met (k + 1) all
+  -- a record of another kind, and one of this kind
+  other-met : (k : ℕ) (t : Record) (l : List Record) → ¬ (kindByte t ≡ kind) → kindsKnown others k (t ∷ l) ≡ kindsKnown others (k + 1) l
+  other-met k t l n =
+      ap (λ (b : Bool). _>>_ (needAt k (not b) 20) (kindsKnown others (k + 1) l)) (nT→false (eqb (kindByte t) kind) (λ y. n (eqb→eq (kindByte t) kind y)))
 
-pub earlier-steps : EarlierSteps
-earlier-steps = record {
-  keeps = keeps-plans withoutRepeats present (reading-less latestEdition false (omega arith));
-  stops = λ file p e before count number rest r.
-      repeats-met file p e ∙ ap (λ (l : List Record). _>>_ (repeatsKnown false 1 l) (accept p)) r
-      ∙ ap (λ (j : Judged (Unit {0})). _>>_ j (accept p)) (at-the-first 1 before count number rest);
-  passes = λ file p e all r.
-      repeats-met file p e ∙ ap (λ (l : List Record). _>>_ (repeatsKnown false 1 l) (accept p)) r
-      ∙ ap (λ (j : Judged (Unit {0})). _>>_ j (accept p)) (none-met 1 all);
-}
+  one-met : (k : ℕ) (t : Record) (l : List Record) → kindByte t ≡ kind → kindsKnown others k (t ∷ l) ≡ refuse 20 k
+  one-met k t l e =
+      ap (λ (b : Bool). _>>_ (needAt k (not b) 20) (kindsKnown others (k + 1) l))
+      (T→true (eqb (kindByte t) kind) (subst (λ (z : ℕ). T (eqb (kindByte t) z)) e (eqb-refl (kindByte t))))
+
+  at-the-first : (k : ℕ) (l : List Record) (t : Record) (rest : List Record) → NoneOf kind l → kindByte t ≡ kind
+      → kindsKnown others k (l ++ t ∷ rest) ≡ refuse 20 (length l + k)
+  at-the-first k [] t rest done e = let z : k ≡ 0 + k = omega arith in one-met k t rest e ∙ ap (refuse 20) z
+  at-the-first k (r ∷ l) t rest (n & h) e =
+      let z : length l + (k + 1) ≡ suc (length l) + k = omega arith in
+      other-met k r (l ++ t ∷ rest) n ∙ at-the-first (k + 1) l t rest h e ∙ ap (refuse 20) z
+
+  none-met : (k : ℕ) (l : List Record) → NoneOf kind l → kindsKnown others k l ≡ accept tt
+  none-met k [] done = refl
+  none-met k (t ∷ l) (n & h) = other-met k t l n ∙ none-met (k + 1) l h
+
+  pub earlier-steps : EarlierSteps kind
+  earlier-steps = record {
+    keeps = keeps-plans (before kind) present (reading-less latestEdition others (omega arith));
+    stops = λ file p e l first rest r none k.
+        kinds-met file p e ∙ ap (λ (m : List Record). _>>_ (kindsKnown others 1 m) (accept p)) r
+        ∙ ap (λ (j : Judged (Unit {0})). _>>_ j (accept p)) (at-the-first 1 l first rest none k);
+    passes = λ file p e none. kinds-met file p e ∙ ap (λ (j : Judged (Unit {0})). _>>_ j (accept p)) (none-met 1 (p .records) none);
+  }

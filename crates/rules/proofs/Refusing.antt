@@ -11,8 +11,8 @@ use lib.Dec.{T, ltb, leb, eqb, ltb→lt, le→leb, lit≤}
 use Rattle.rules.specs.Lists.{tab, both, flat, pick, mem, In}
 use Rattle.rules.specs.Mesh.{devices}
 use Rattle.rules.specs.Sharding.{Sharding, varying, named, divisible, shardSizes}
-use Rattle.rules.specs.Collectives.{Step, allSlice, allGather, allReduce, allToAll, stepAxes, only}
-use Rattle.rules.specs.Limits.{present, mostDevices, mostWords, mostSteps, mostRun, mostDepth, leastBytes, mostBytes}
+use Rattle.rules.specs.Collectives.{Step, allSlice, allGather, allReduce, allToAll, reduceScatter, stepAxes, reduced, only}
+use Rattle.rules.specs.Limits.{present, everyKind, mostDevices, mostWords, mostSteps, mostRun, mostDepth, leastBytes, mostBytes}
 use Rattle.rules.specs.Refusals.{Judged, accept, refuse, _>>=_, _>>_, need, needAt}
 use Rattle.rules.specs.PlanFile.{
   u16At,
@@ -84,7 +84,7 @@ use Rattle.rules.specs.PlanFile.{
 use Rattle.rules.specs.Calls.{checkOf, placeOf, groupsBy, groupsOf, groupsOrderedOf, runnable, runLeaves, runOf}
 use Rattle.rules.specs.Demands.{fileNumbers, stepNumbers, Numbered, RefusalNumbers}
 use Rattle.rules.specs.declared.Kind.{Kind}
-use Rattle.rules.specs.declared.Kind.the-variants.{AllSlice, AllGather, AllReduce, AllToAll, Unknown}
+use Rattle.rules.specs.declared.Kind.the-variants.{AllSlice, AllGather, AllReduce, AllToAll, ReduceScatter, Unknown}
 use Rattle.rules.proofs.Lists.{mem-in, in-mem}
 use Rattle.rules.proofs.Judging.{never}
 use Rattle.rules.proofs.Repeats.{positive-inv}
@@ -253,6 +253,7 @@ module _ (P : ℕ → ℕ → Type 0) where
       kind-read n rank file at AllReduce = bind _ _ (list-refuses n file at) (λ l. accepts _)
       kind-read n rank file at AllToAll =
           tests 0 (leb (at + 2) (length file)) 7 _ (out 7 tt) (bind _ _ (list-refuses n file (at + 2)) (λ l. accepts _))
+      kind-read n rank file at ReduceScatter = bind _ _ (lists-refuse n rank file at) (λ ls. accepts _)
       kind-read n rank file at Unknown = refuses 20 k (inside 20 tt)
 
       step-read : (n rank : ℕ) (file : List ℕ) (at : ℕ) → Refuses (stepAt n rank k file at)
@@ -276,6 +277,9 @@ module _ (P : ℕ → ℕ → Type 0) where
       kind-judged mesh sizes (allToAll source target L) s =
           tests k (twoDims (length (s .dims)) source target) 28 _ (inside 28 tt)
           (bind _ _ (gather-refuses (only (length (s .dims)) source L) s) (λ g. slice-refuses mesh sizes (only (length (s .dims)) target L) g))
+      kind-judged mesh sizes (reduceScatter Ss) s =
+          tests k (fresh [] (flat Ss)) 23 _ (inside 23 tt)
+          (tests k (allIn (flat Ss) (s .unreduced)) 27 _ (inside 27 tt) (slice-refuses mesh sizes Ss (reduced (flat Ss) s)))
 
       step-judged : (mesh sizes : List ℕ) (t : Step) (s : Sharding) → Refuses (judgeStep mesh sizes k t s)
       unfolding judgeStep mem
@@ -333,25 +337,25 @@ module _ (P : ℕ → ℕ → Type 0) where
       by-refuses false inner k at s l h g = plain-refuses k at s l h
       by-refuses true inner k at s l h g = repeat-refuses inner k at s l h g
 
-      item-refuses : (known : Bool) (depth : ℕ) → Numbers (itemAt known mesh sizes file depth)
+      -- the present reader knows every kind byte
+      item-refuses : (depth : ℕ) → Numbers (itemAt everyKind mesh sizes file depth)
       unfolding itemAt mem
-      item-refuses known zero k at s l h =
-          by-refuses (known && isRepeat file at) (tooDeep k) k at s l h (λ m count. refuses 42 k (inside 42 k tt l m))
-      item-refuses known (suc depth) k at s l h =
-          by-refuses (known && isRepeat file at) (stepsAt (itemAt known mesh sizes file depth)) k at s l h
-          (λ m count. steps-refuse (itemAt known mesh sizes file depth) (item-takes mesh sizes file known depth) (item-refuses known depth) count (k + 1) (at + 1 + 2) s
+      item-refuses zero k at s l h = by-refuses (isRepeat file at) (tooDeep k) k at s l h (λ m count. refuses 42 k (inside 42 k tt l m))
+      item-refuses (suc depth) k at s l h =
+          by-refuses (isRepeat file at) (stepsAt (itemAt everyKind mesh sizes file depth)) k at s l h
+          (λ m count. steps-refuse (itemAt everyKind mesh sizes file depth) (item-takes mesh sizes file everyKind depth) (item-refuses depth) count (k + 1) (at + 1 + 2) s
           (omega arith) (omega arith))
 
-      outermost-refuses : (known : Bool) (ran count : ℕ) (k at : ℕ) (s : Sharding) → 1 ≤ k → k ≤ at → Refuses (outermostAt known mesh sizes file ran count k at s)
+      outermost-refuses : (ran count : ℕ) (k at : ℕ) (s : Sharding) → 1 ≤ k → k ≤ at → Refuses (outermostAt everyKind mesh sizes file ran count k at s)
       unfolding outermostAt mem
-      outermost-refuses known ran zero k at s l h = accepts _
-      outermost-refuses known ran (suc count) k at s l h =
-          bind-told _ _ (item-refuses known mostDepth k at s l h)
+      outermost-refuses ran zero k at s l h = accepts _
+      outermost-refuses ran (suc count) k at s l h =
+          bind-told _ _ (item-refuses mostDepth k at s l h)
           (λ t e.
-          let b : Takes mesh sizes file at t = item-takes mesh sizes file known mostDepth k at s t e in
+          let b : Takes mesh sizes file at t = item-takes mesh sizes file everyKind mostDepth k at s t e in
           tests k (leb (ran + length (t .steps)) mostRun) 43 _ (inside 43 k tt l (omega (arith, b .bytes, b .inside)))
           (bind _ _
-          (outermost-refuses known (ran + length (t .steps)) count (k + length (t .records)) (t .next) (t .sharding) (omega arith) (omega (arith, b .bytes)))
+          (outermost-refuses (ran + length (t .steps)) count (k + length (t .records)) (t .next) (t .sharding) (omega arith) (omega (arith, b .bytes)))
           (λ ts. accepts _)))
 
 -- ---- the calls
@@ -369,7 +373,7 @@ judge-refuses numbers all file =
     let inside : (n k : ℕ) → T (mem n stepNumbers) → 1 ≤ k → k ≤ length file → P n k = λ n k t l h. inr (mem-in n stepNumbers t, l, h) in
     bind-told P _ _ (front-refuses P out file)
     (λ f e. bind P _ _
-    (outermost-refuses P out (f .mesh) (f .sizes) file inside true 0 (stepCount file) 1 (f .next) (f .start) (lit≤ tt)
+    (outermost-refuses P out (f .mesh) (f .sizes) file inside 0 (stepCount file) 1 (f .next) (f .start) (lit≤ tt)
     (omega (arith, front-accepted file f e .begins)))
     (λ ts. tests P 0 (eqb (ts .next) (length file)) 9 _ (out 9 tt) (accepts P _)))
 

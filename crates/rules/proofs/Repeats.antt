@@ -177,11 +177,13 @@ module _ (mesh sizes file : List ℕ) where
   by-tells false inner g k at s w e = plain-tells k at s w e
   by-tells true inner g k at s w e = repeat-tells inner g k (at + 1) s w e
 
-  pub item-tells : (known : Bool) (depth : ℕ) → Tells (itemAt known mesh sizes file depth)
+  pub item-tells : (known : ℕ → Bool) (depth : ℕ) → Tells (itemAt known mesh sizes file depth)
   unfolding itemAt
-  item-tells known zero k at s w e = by-tells (known && isRepeat file at) (tooDeep k) (λ count k′ at′ s′ w′ e′. absurd (never e′)) k at s w e
+  item-tells known zero k at s w e =
+      by-tells (isRepeat file at) (tooDeep k) (λ count k′ at′ s′ w′ e′. absurd (never e′)) k at s w (need-inv k (known (getD file at 0)) 20 _ w e .1)
   item-tells known (suc depth) k at s w e =
-      by-tells (known && isRepeat file at) (stepsAt (itemAt known mesh sizes file depth)) (steps-tell (itemAt known mesh sizes file depth) (item-tells known depth)) k at s w e
+      by-tells (isRepeat file at) (stepsAt (itemAt known mesh sizes file depth)) (steps-tell (itemAt known mesh sizes file depth) (item-tells known depth)) k at s w
+      (need-inv k (known (getD file at 0)) 20 _ w e .1)
 
   -- ---- the outermost steps
 
@@ -194,7 +196,7 @@ module _ (mesh sizes file : List ℕ) where
     pub runs-are : total (w .runs) ≡ length (w .steps)
     pub many : length (w .runs) ≡ count
 
-  pub outermost-tells : (known : Bool) (ran count k at : ℕ) (s : Sharding) (w : Outermost) → ran ≤ mostRun → outermostAt known mesh sizes file ran count k at s ≡ accept w
+  pub outermost-tells : (known : ℕ → Bool) (ran count k at : ℕ) (s : Sharding) (w : Outermost) → ran ≤ mostRun → outermostAt known mesh sizes file ran count k at s ≡ accept w
       → ToldOutermost ran count s w
   unfolding outermostAt
   outermost-tells known ran zero k at s w l e =
@@ -231,7 +233,7 @@ module _ (mesh sizes file : List ℕ) where
   abbrev pub readBy : Sharding → Outermost → StepsRead
   readBy s o = record { records = o .records; steps = o .steps; sharding = inTurn after (o .steps) s; next = o .next }
 
-  pub outermost-steps : (known : Bool) (ran count k at : ℕ) (s : Sharding) (o : Outermost) → outermostAt known mesh sizes file ran count k at s ≡ accept o
+  pub outermost-steps : (known : ℕ → Bool) (ran count k at : ℕ) (s : Sharding) (o : Outermost) → outermostAt known mesh sizes file ran count k at s ≡ accept o
       → stepsAt (itemAt known mesh sizes file mostDepth) count k at s ≡ accept (readBy s o)
   unfolding outermostAt stepsAt
   outermost-steps known ran zero k at s o e = ap (λ (x : Outermost). accept (readBy s x)) (accept-inj e)

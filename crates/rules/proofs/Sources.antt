@@ -6,7 +6,7 @@ use mathlib.Core.Path.{_≡_, refl, sym, ap, fun-ext}
 use mathlib.Core.Logic.{⊎-elim}
 use mathlib.Core.List.{List, [], _∷_, map}
 use lib.ListN.{length, replicate}
-use Rattle.rules.specs.Lists.{flat, In, All, done, _&_, Below}
+use Rattle.rules.specs.Lists.{flat, ascending, In, All, done, _&_, Below}
 use Rattle.rules.specs.Mesh.{members, SameGroup}
 use Rattle.rules.specs.Sharding.{shardSizes, firstIndexes}
 use Rattle.rules.specs.Spread.{StateOf, addWords, from}
@@ -16,6 +16,7 @@ use Rattle.rules.specs.Collectives.{
   allGather,
   allReduce,
   allToAll,
+  reduceScatter,
   stepAxes,
   only,
   grown,
@@ -32,7 +33,7 @@ use Rattle.rules.specs.Collectives.{
   sources,
   made,
 }
-use Rattle.rules.proofs.Lists.{map-all, all-map, all-imp, flat-in}
+use Rattle.rules.proofs.Lists.{map-all, all-map, all-imp, flat-in, of-ascending}
 use Rattle.rules.proofs.Shapes.{Cut, piece-below, owner-other, below-owner, below-within}
 use Rattle.rules.proofs.Sums.{all-members, addWords-lt}
 
@@ -80,6 +81,7 @@ Ready mesh (allReduce L) shape = Unit {0}
 Ready mesh (allToAll source target L) shape =
     Cut mesh (only (length shape) source L) (grown mesh (only (length shape) source L) shape) shape
     × Cut mesh (only (length shape) target L) (grown mesh (only (length shape) source L) shape) (shapeAfter mesh (allToAll source target L) shape)
+Ready mesh (reduceScatter Ss) shape = Cut mesh Ss shape (shardSizes mesh shape Ss)
 
 -- every word of a state is one of 32 bits
 abbrev pub WordsIn : List ℕ → List ℕ → StateOf ℕ → Type 0
@@ -130,6 +132,16 @@ module _ (mesh : List ℕ) where
         index-below = below-within mesh (c .0) bj;
         in-group = λ a off. sym (owner-other mesh Gs shape j x a (λ u. off (in-only a (length shape) source L u)));
       } in near & done
+  sources-near (reduceScatter Ss) shape x i c bx bi =
+      let L : List ℕ = ascending (length mesh) (flat Ss) in
+      let j : List ℕ = from (firstIndexes mesh Ss (shardSizes mesh shape Ss) x) i in
+      all-imp (Near mesh shape L x) (Near mesh shape (flat Ss) x) (reducePlaces mesh L x j)
+      (λ p n. record {
+        device-below = n .device-below;
+        index-below = n .index-below;
+        in-group = λ a off. n .in-group a (λ u. off (of-ascending (length mesh) (flat Ss) a u));
+      })
+      (reduce-near L shape x j bx (piece-below mesh c bx bi))
 
   -- "Two buffers that agree on that group give that device the same shard."
   pub step-local : {W : Type 0} (addAll : List W → W) (t : Step) (shape : List ℕ) (v w : StateOf W) (x i : List ℕ) → Ready mesh t shape → Below x mesh

@@ -1,8 +1,8 @@
 -- Faithful spreads. An all-slice, an all-gather and an all-to-all keep them for every element type (`slice-faithful`, `gather-faithful`,
--- `all-to-all-faithful`), an all-reduce keeps them for words (`reduce-faithful`), and every table of words has one, whatever the sharding
--- (`spread-exists`). Assumes nothing.
+-- `all-to-all-faithful`), an all-reduce and a reduce-scatter keep them for words (`reduce-faithful`, `scatter-faithful`), and every table of words has
+-- one, whatever the sharding (`spread-exists`). Assumes nothing.
 use Prim.Native.Nat.{ℕ, _%_, _^_, _<_}
-use mathlib.Core.Path.{_≡_, sym, ap, ap₂, _∙_, subst}
+use mathlib.Core.Path.{_≡_, refl, sym, ap, ap₂, _∙_, subst}
 use mathlib.Core.Logic.{inl, inr, ⊎-map, ⊎-elim}
 use mathlib.Core.Bool.{Bool, true, false}
 use mathlib.Core.List.{List, [], _∷_, _++_, map}
@@ -10,7 +10,7 @@ use native.Mathlib.Nat.{mod-eq-of-lt}
 use native.Mathlib.Omega.{arith}
 use lib.ListN.{length}
 use lib.Dec.{eqb, eqb-refl, eqb→eq, lit<}
-use Rattle.rules.specs.Lists.{each, pick, flat, without, In, Distinct, Below}
+use Rattle.rules.specs.Lists.{each, pick, flat, without, ascending, In, Distinct, Below}
 use Rattle.rules.specs.Mesh.{span, position, member, members, Agree}
 use Rattle.rules.specs.Sharding.{Sharding, varying, shardSizes, firstIndexes}
 use Rattle.rules.specs.Spread.{StateOf, Faithful, addWords, from}
@@ -30,6 +30,7 @@ use Rattle.rules.specs.Collectives.{
   made,
   allReduce,
   allToAll,
+  reduceScatter,
   only,
   after,
   shapeAfter,
@@ -49,7 +50,11 @@ use Rattle.rules.proofs.Lists.{
   Apart,
   split-joined,
   in-without,
+  not-in-without,
   distinct-without,
+  of-ascending,
+  distinct-ascending,
+  without-ascending,
   below-length,
 }
 use Rattle.rules.proofs.Positions.{position-agree, position-lt, below-member, agree-member, member-other, position-member}
@@ -215,6 +220,22 @@ reduce-faithful {mesh} {s} {shape} {table} {w} L dL dU sub words F =
           ∙ sym (addWords-members (λ y. w y i) mesh U x bx dU (λ y by g. words y i by bi))
           ∙ F .sums x i bx bi;
     }
+
+-- A reduce-scatter is an all-reduce of its axes in increasing order and then an all-slice.
+pub scatter-faithful : {mesh : List ℕ} {s : Sharding} {shape : List ℕ} {table : List ℕ → ℕ} {w : StateOf ℕ} (Ss : List (List ℕ))
+    → length (s .dims) ≡ length Ss → Ready mesh (reduceScatter Ss) shape → ((a : ℕ) → In a (flat Ss) → a < length mesh) → Distinct (s .unreduced)
+    → ((a : ℕ) → In a (flat Ss) → In a (s .unreduced)) → WordsIn mesh shape w → Faithful addWords mesh s shape table w
+    → Faithful addWords mesh (after (reduceScatter Ss) s) (shapeAfter mesh (reduceScatter Ss) shape) table (made addWords (sources mesh (reduceScatter Ss) shape) w)
+unfolding after sources reduced addWords
+scatter-faithful {mesh} {s} {shape} {table} {w} Ss len c below dU sub words F =
+    let L : List ℕ = ascending (length mesh) (flat Ss) in
+    let between : Faithful addWords mesh (reduced (flat Ss) s) shape table (made addWords (reducePlaces mesh L) w) =
+    subst (λ (u : List ℕ). Faithful addWords mesh (record { dims = s .dims; unreduced = u; replicated = s .replicated }) shape table (made addWords (reducePlaces mesh L) w))
+    (without-ascending (length mesh) (flat Ss) (s .unreduced) below)
+    (reduce-faithful L (distinct-ascending (length mesh) (flat Ss)) dU (λ a i. sub a (of-ascending (length mesh) (flat Ss) a i)) words F) in
+    subst (Faithful addWords mesh (after (reduceScatter Ss) s) (shardSizes mesh shape Ss) table)
+    (sym (made-then addWords (λ a. refl) (reducePlaces mesh L) (slicePlace mesh Ss shape) w))
+    (slice-faithful (λ a. refl) Ss len c (λ a i. not-in-without a (flat Ss) (s .unreduced) i) between)
 
 -- ---- there is a faithful spread
 

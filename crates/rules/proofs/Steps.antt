@@ -17,6 +17,7 @@ use Rattle.rules.specs.Collectives.{
   allGather,
   allReduce,
   allToAll,
+  reduceScatter,
   stepAxes,
   only,
   sliced,
@@ -46,6 +47,7 @@ use Rattle.rules.proofs.Lists.{
   Apart,
   split-joined,
   of-without,
+  not-in-without,
   distinct-without,
 }
 use Rattle.rules.proofs.Shapes.{Cut, cut-lengths}
@@ -97,11 +99,17 @@ module _ (mesh sizes : List ℕ) where
     pub tailed : T (both isTail (s .dims) (only (length (s .dims)) source L))
     pub divides : T (divisible mesh (shardSizes mesh sizes (each cutTail (s .dims) (only (length (s .dims)) source L))) (only (length (s .dims)) target L))
 
+  pub record ScatterFacts (Ss : List (List ℕ)) (s : Sharding) : Type 0 where
+    pub once : Distinct (flat Ss)
+    pub unreduced : (a : ℕ) → In a (flat Ss) → In a (s .unreduced)
+    pub divides : T (divisible mesh (shardSizes mesh sizes (s .dims)) Ss)
+
   abbrev pub Facts : Step → Sharding → Type 0
   Facts (allSlice Ss) s = SliceFacts Ss s
   Facts (allGather Gs) s = GatherFacts Gs s
   Facts (allReduce L) s = ReduceFacts L s
   Facts (allToAll source target L) s = ToAllFacts source target L s
+  Facts (reduceScatter Ss) s = ScatterFacts Ss s
 
   -- a slice on the lists
   slice-inv : (k : ℕ) (Ss : List (List ℕ)) (s r : Sharding) → sliceOn mesh sizes k Ss s ≡ accept r
@@ -137,6 +145,12 @@ module _ (mesh sizes : List ℕ) where
       let q : T (divisible mesh (shardSizes mesh sizes (gathered (only n source L) s .dims)) (only n target L)) × (sliced (only n target L) (gathered (only n source L) s) ≡ r) =
       slice-inv k (only n target L) (gathered (only n source L) s) r h in
       (record { source-lt = f .0; target-lt = f .1; other = f .2; tailed = g .0; divides = unfold gathered in q .0 }, q .1)
+  kind-facts k (reduceScatter Ss) s r e =
+      let L : List ℕ = flat Ss in
+      let p : T (fresh [] L) × (_ ≡ accept r) = need-inv k (fresh [] L) 23 _ r e in
+      let u : T (allIn L (s .unreduced)) × (sliceOn mesh sizes k Ss (reduced L s) ≡ accept r) = need-inv k (allIn L (s .unreduced)) 27 _ r (p .1) in
+      let q : T (divisible mesh (shardSizes mesh sizes (reduced L s .dims)) Ss) × (sliced Ss (reduced L s) ≡ r) = slice-inv k Ss (reduced L s) r (u .1) in
+      (record { once = fresh-distinct [] L (p .0) .0; unreduced = allIn-in L (s .unreduced) (u .0); divides = unfold reduced in q .0 }, q .1)
 
   -- An accepted step names axes of the mesh, passes the tests of its kind, and its sharding is the one after it.
   pub record AcceptedStep (t : Step) (s : Sharding) : Type 0 where
@@ -314,6 +328,33 @@ module _ (mesh sizes : List ℕ) (pos : (a : ℕ) → zero < getD mesh a 1) wher
         });
       }
 
+  -- a reduce-scatter: the slice that follows its reduction is an accepted one
+  pub scatter-slices : (Ss : List (List ℕ)) (s : Sharding) → IsSharding mesh sizes s → AcceptedStep mesh sizes (reduceScatter Ss) s
+      → AcceptedStep mesh sizes (allSlice Ss) (reduced (flat Ss) s)
+  unfolding reduced
+  scatter-slices Ss s h f =
+      let L : List ℕ = flat Ss in
+      let v : Varies mesh sizes s = varies mesh sizes s h in
+      let p : Distinct (flat (s .dims)) × Distinct (s .unreduced) × ((a : ℕ) → In a (flat (s .dims)) → ¬ In a (s .unreduced)) =
+      distinct-split (flat (s .dims)) (s .unreduced) (v .once) in
+      record {
+        axes = f .axes;
+        by-kind = record {
+          once = f .by-kind .once;
+          off = λ a i j. ⊎-elim
+              (λ l. ⊎-elim (λ m. p .2 a m (f .by-kind .unreduced a i)) (not-in-without a L (s .unreduced) i) (in-append a (flat (s .dims)) (without (s .unreduced) L) l))
+              (v .off a (in-right a (flat (s .dims)) (s .unreduced) (f .by-kind .unreduced a i)))
+              (in-append a (flat (s .dims) ++ without (s .unreduced) L) (s .replicated) j);
+          divides = f .by-kind .divides;
+        };
+      }
+
+  pub scatter-sharding : (Ss : List (List ℕ)) (s : Sharding) → IsSharding mesh sizes s → AcceptedStep mesh sizes (reduceScatter Ss) s
+      → Sliced Ss (reduced (flat Ss) s)
+  scatter-sharding Ss s h f =
+      let g : AcceptedStep mesh sizes (allSlice Ss) (reduced (flat Ss) s) = scatter-slices Ss s h f in
+      slice-sharding Ss (reduced (flat Ss) s) (reduce-sharding (flat Ss) s h) (g .axes) (g .by-kind)
+
   -- The sharding after an accepted step is one.
   pub after-sharding : (t : Step) (s : Sharding) → IsSharding mesh sizes s → AcceptedStep mesh sizes t s → IsSharding mesh sizes (after t s)
   unfolding after
@@ -321,6 +362,7 @@ module _ (mesh sizes : List ℕ) (pos : (a : ℕ) → zero < getD mesh a 1) wher
   after-sharding (allGather Gs) s h f = gather-sharding Gs s h (f .by-kind) .after-it
   after-sharding (allReduce L) s h f = reduce-sharding L s h
   after-sharding (allToAll source target L) s h f = to-all-sharding source target L s h (f .axes) (f .by-kind) .second .after-it
+  after-sharding (reduceScatter Ss) s h f = scatter-sharding Ss s h f .after-it
 
   -- The shape that an accepted step itself leaves is the announced one.
   pub after-shape : (t : Step) (s : Sharding) → IsSharding mesh sizes s → AcceptedStep mesh sizes t s → shapeAfter mesh t (shapeOf s) ≡ shapeOf (after t s)
@@ -331,3 +373,4 @@ module _ (mesh sizes : List ℕ) (pos : (a : ℕ) → zero < getD mesh a 1) wher
   after-shape (allToAll source target L) s h f =
       let w : ToAll source target L s = to-all-sharding source target L s h (f .axes) (f .by-kind) in
       rw (shape-length s h) (ap (λ (z : List ℕ). shardSizes mesh z (only (length (s .dims)) target L)) (w .first .announced) ∙ w .second .announced)
+  after-shape (reduceScatter Ss) s h f = scatter-sharding Ss s h f .announced

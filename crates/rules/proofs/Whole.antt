@@ -21,6 +21,7 @@ use Rattle.rules.specs.Collectives.{
   allGather,
   allReduce,
   allToAll,
+  reduceScatter,
   only,
   cutTail,
   after,
@@ -41,7 +42,7 @@ use Rattle.rules.proofs.Positions.{pos-of-lt, div-lt}
 use Rattle.rules.proofs.Buffers.{below-coords}
 use Rattle.rules.proofs.Orders.{by-order, held-tabulate-by, tabulate-held-by, length-tabulate-by}
 use Rattle.rules.proofs.Sources.{WordsIn, step-words}
-use Rattle.rules.proofs.Spreads.{faithful-cong, slice-faithful, gather-faithful, all-to-all-faithful, reduce-faithful, spread-exists}
+use Rattle.rules.proofs.Spreads.{faithful-cong, slice-faithful, gather-faithful, all-to-all-faithful, reduce-faithful, scatter-faithful, spread-exists}
 use Rattle.rules.proofs.Judging.{never}
 use Rattle.rules.proofs.Steps.{
   AcceptedStep,
@@ -55,6 +56,7 @@ use Rattle.rules.proofs.Steps.{
   slice-sharding,
   gather-sharding,
   to-all-sharding,
+  scatter-sharding,
   after-sharding,
   after-shape,
 }
@@ -91,6 +93,9 @@ module _ (mesh sizes : List ℕ) (pos : (a : ℕ) → zero < getD mesh a 1) wher
       all-to-all-faithful (λ a. refl) source target L (sym n)
       (subst (λ (r : ℕ). each _++_ (each cutTail (s .dims) (only r source L)) (only r source L) ≡ s .dims) (sym n) (k .first .joined))
       (step-ready mesh sizes pos (allToAll source target L) s h f) off (varies mesh sizes s h .once) (varies mesh sizes s h .of-mesh) F
+  step-spread (reduceScatter Ss) s table w h f ws F =
+      scatter-faithful Ss (scatter-sharding mesh sizes pos Ss s h f .one-each) (step-ready mesh sizes pos (reduceScatter Ss) s h f) (f .axes)
+      (distinct-split (flat (s .dims)) (s .unreduced) (varies mesh sizes s h .once) .1) (f .by-kind .unreduced) ws F
 
   -- ---- steps in turn
 
@@ -327,6 +332,7 @@ kept-by (allSlice Ss) s = refl
 kept-by (allGather Gs) s = refl
 kept-by (allReduce L) s = refl
 kept-by (allToAll source target L) s = refl
+kept-by (reduceScatter Ss) s = refl
 
 pub replicated-stays : ReplicatedStays
 unfolding announced

@@ -139,7 +139,7 @@ pub record ComesBack (inner : JudgesSteps) (file : List ℕ) (k at : ℕ) (s : S
 
 abbrev pub BlocksComeBack : Type 0
 BlocksComeBack =
-    (known : Bool) (mesh sizes file : List ℕ) (depth k at : ℕ) (s : Sharding) (w : StepsRead)
+    (known : ℕ → Bool) (mesh sizes file : List ℕ) (depth k at : ℕ) (s : Sharding) (w : StepsRead)
     → repeatAt (stepsAt (itemAt known mesh sizes file depth)) file k at s ≡ accept w → ComesBack (stepsAt (itemAt known mesh sizes file depth)) file k at s w
 
 -- the plain steps in file order, each once; the largest of a number of the shardings on a list's way, the first included

@@ -17,6 +17,7 @@ pub mod WorkedEditions
 pub mod WorkedLimits
 pub mod WorkedOrders
 pub mod WorkedRepeats
+pub mod WorkedScatters
 pub mod WorkedAnswers
 pub mod WorkedPlaces
 pub mod Promises

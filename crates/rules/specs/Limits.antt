@@ -44,13 +44,18 @@ mostBytes = 8192
 abbrev pub latestEdition : ℕ
 latestEdition = 3
 
--- What a reader of plan files takes. Later readers take more (document 02); each is an instance of the one judgement (PlanFile).
+-- What a reader of plan files takes: `kinds` are the kind bytes that it knows. Later readers take more (document 02); each is an instance of the one
+-- judgement (PlanFile).
 pub record Reader : Type 0 where
   pub devices : ℕ
   pub words : ℕ
   pub bytes : ℕ
   pub editions : ℕ
-  pub repeats : Bool
+  pub kinds : ℕ → Bool
+
+-- every kind byte is one that the reader knows: what stands for no step is refused all the same
+abbrev pub everyKind : ℕ → Bool
+everyKind b = true
 
 -- the present reader
 abbrev pub present : Reader
@@ -59,5 +64,5 @@ present = record {
   words = mostWords;
   bytes = mostBytes;
   editions = latestEdition;
-  repeats = true;
+  kinds = everyKind;
 }

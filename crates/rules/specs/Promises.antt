@@ -32,6 +32,7 @@ use Rattle.rules.specs.WorkedLimits.{limits, Earlier}
 use Rattle.rules.specs.WorkedEditions.{editions, FirstEdition, Unequal, NoSharding}
 use Rattle.rules.specs.WorkedOrders.{orders, SecondEdition}
 use Rattle.rules.specs.WorkedRepeats.{repeats, RepeatsRead}
+use Rattle.rules.specs.WorkedScatters.{scatters, ScattersRead}
 use Rattle.rules.specs.declared.Refusal.{Refusal}
 use Rattle.rules.specs.declared.Checked.{Checked}
 use Rattle.rules.specs.declared.Placed.{Placed}
@@ -91,7 +92,7 @@ pub record RunPromise (file work spare : List ℕ) (outcome : RunOutcome) (workA
 
 -- Demand 3 for every plan that passes, and that it speaks of something; the room's limit; that the replicated list stays; what repeats come to; the
 -- numbers of refusals; what readers that take less answer; a step's locality; what a group and a sum of words are; the ledger W1 to W10, and cases
--- beside it; a file or a call for each refusal number; each limit from both sides; files of the later editions; files with repeats.
+-- beside it; a file or a call for each refusal number; each limit from both sides; files of the later editions; files with repeats; files with reduce-scatters.
 pub record RulesPromise : Type 1 where
   pub whole-plan : WholePlan
   pub spreadable : Spreadable
@@ -105,7 +106,7 @@ pub record RulesPromise : Type 1 where
   pub readers-compared : ReadersCompared
   pub earlier-limits : EarlierLimits
   pub earlier-editions : EarlierEditions
-  pub earlier-steps : EarlierSteps
+  pub earlier-steps : (kind : ℕ) → EarlierSteps kind
   pub locality : Locality
   pub group-by-position : GroupByPosition
   pub sum-of-words : SumOfWords
@@ -122,3 +123,5 @@ pub record RulesPromise : Type 1 where
   pub second-edition : SecondEdition
   pub repeated : All Holds repeats
   pub repeats-read : RepeatsRead
+  pub scattered : All Holds scatters
+  pub scatters-read : ScattersRead

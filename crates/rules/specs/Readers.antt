@@ -2,16 +2,15 @@
 -- instance of the one judgement (`judgeBy`, PlanFile). Statements; proofs/Readers.antt proves them. Assumes nothing.
 use Prim.Native.Nat.{ℕ, _+_, _≤_}
 use mathlib.Core.Path.{_≡_}
-use mathlib.Core.Bool.{Bool, true, false}
-use mathlib.Core.List.{List, [], _∷_, _++_, map}
+use mathlib.Core.Bool.{Bool, not}
+use mathlib.Core.List.{List, [], _∷_, _++_}
 use lib.ListN.{length}
-use lib.Dec.{leb}
-use Rattle.rules.specs.Lists.{product}
+use lib.Dec.{T, leb, eqb}
+use Rattle.rules.specs.Lists.{product, All}
 use Rattle.rules.specs.Mesh.{devices}
-use Rattle.rules.specs.Collectives.{Step}
-use Rattle.rules.specs.Limits.{mostDevices, mostWords, mostBytes, latestEdition, Reader, present}
-use Rattle.rules.specs.Refusals.{Judged, accept, refuse, _>>_, need}
-use Rattle.rules.specs.PlanFile.{Record, plain, repeat, Plan, edition, editionKnown, judgeBy}
+use Rattle.rules.specs.Limits.{mostDevices, mostWords, mostBytes, latestEdition, Reader, everyKind, present}
+use Rattle.rules.specs.Refusals.{Judged, accept, refuse, _>>_, need, needAt}
+use Rattle.rules.specs.PlanFile.{Record, kindByte, Plan, edition, editionKnown, judgeBy}
 
 -- r takes some meshes and tables, and nothing that s does not take
 pub record Narrower (r s : Reader) : Type 0 where
@@ -21,23 +20,23 @@ pub record Narrower (r s : Reader) : Type 0 where
   pub words-few : r .words ≤ s .words
   pub bytes-few : r .bytes ≤ s .bytes
   pub editions-few : r .editions ≤ s .editions
-  pub repeats-few : r .repeats ≡ true → s .repeats ≡ true
+  pub kinds-few : (b : ℕ) → T (r .kinds b) → T (s .kinds b)
 
--- a reader that knows no repeats answers 20 at the first one: of records, the first of them with number k
-abbrev pub repeatsKnown : (known : Bool) → (k : ℕ) → List Record → Judged (Unit {0})
-repeatsKnown true k records = accept tt
-repeatsKnown false k [] = accept tt
-repeatsKnown false k (plain t ∷ records) = repeatsKnown false (k + 1) records
-repeatsKnown false k (repeat count number ∷ records) = refuse 20 k
+-- a reader answers 20 at the first step of a kind that it does not know: of records, the first of them with number k
+abbrev pub kindsKnown : (known : ℕ → Bool) → (k : ℕ) → List Record → Judged (Unit {0})
+kindsKnown known k [] = accept tt
+kindsKnown known k (t ∷ records) = do
+  needAt k (known (kindByte t)) 20
+  kindsKnown known (k + 1) records
 
--- what a reader takes, of a file and its plan: 2, 3, 11, 13 and repeats, in the order of the tests
+-- what a reader takes, of a file and its plan: 2, 3, 11, 13 and the kinds of its steps, in the order of the tests
 abbrev pub takenBy : Reader → (file : List ℕ) → Plan → Judged (Unit {0})
 takenBy r file p = do
   need (leb (length file) (r .bytes)) 2
   need (editionKnown r (edition file)) 3
   need (leb (devices (p .mesh)) (r .devices)) 11
   need (leb (product (p .sizes)) (r .words)) 13
-  repeatsKnown (r .repeats) 1 (p .records)
+  kindsKnown (r .kinds) 1 (p .records)
 
 -- a file that r accepts is accepted by s, with the same plan; a plan is all that any call's answer has of a file
 abbrev pub KeepsPlans : Reader → Reader → Type 0
@@ -53,7 +52,7 @@ ReadersCompared = (r s : Reader) → Narrower r s → KeepsPlans r s × MeetsTes
 -- The reader with the limits of document 01 itself, "D at most 256", "table at most 4,096 words", "file 18 to 4,096 bytes". What
 -- later readers take besides is as the present one takes it. A file of more than 2,802 bytes is accepted only with a repeat.
 abbrev pub original : Reader
-original = record { devices = 256; words = 4096; bytes = 4096; editions = latestEdition; repeats = true }
+original = record { devices = 256; words = 4096; bytes = 4096; editions = latestEdition; kinds = everyKind }
 
 -- Document 02, Ask 12: "an accepted file over the old limits meets the last reader's 2, 11 or 13, and every file accepted before keeps its answer."
 pub record EarlierLimits : Type 0 where
@@ -63,28 +62,37 @@ pub record EarlierLimits : Type 0 where
 -- The reader of the editions up to one, all else as the present one takes it. Document 02, Ask 3: "Refusal 3 now means neither 1 nor 2." Files of the
 -- editions that it knows keep their plans, and it answers 3 on every accepted file of a later one.
 abbrev pub upTo : (latest : ℕ) → Reader
-upTo latest = record { devices = mostDevices; words = mostWords; bytes = mostBytes; editions = latest; repeats = true }
+upTo latest = record { devices = mostDevices; words = mostWords; bytes = mostBytes; editions = latest; kinds = everyKind }
 
 pub record EarlierEditions : Type 0 where
   pub keeps : (latest : ℕ) → latest ≤ latestEdition → KeepsPlans (upTo latest) present
   pub meets : (latest : ℕ) → latest ≤ latestEdition → (file : List ℕ) (p : Plan) → judgeBy present file ≡ accept p
       → judgeBy (upTo latest) file ≡ _>>_ (need (leb (edition file) latest) 3) (accept p)
 
--- The reader just before repeats. Document 02, Ask 11: "On an accepted file with a repeat, the reader just before this answers 20 at the first one."
--- Files without one keep their plans.
-abbrev pub withoutRepeats : Reader
-withoutRepeats = record {
+-- The reader just before a kind of step, all else as the present one takes it. Document 02, Ask 11: "On an accepted file with a repeat, the reader just
+-- before this answers 20 at the first one."; so does the reader just before Ask 5 at the first step of kind 5. Files without one keep their plans.
+abbrev pub before : (kind : ℕ) → Reader
+before kind = record {
   devices = mostDevices;
   words = mostWords;
   bytes = mostBytes;
   editions = latestEdition;
-  repeats = false;
+  kinds = λ b. not (eqb b kind);
 }
 
-pub record EarlierSteps : Type 0 where
-  pub keeps : KeepsPlans withoutRepeats present
+abbrev pub withoutRepeats : Reader
+withoutRepeats = before 9
+
+abbrev pub withoutScatters : Reader
+withoutScatters = before 5
+
+-- none of the records is of the kind
+abbrev pub NoneOf : (kind : ℕ) → List Record → Type 0
+NoneOf kind records = All (λ t. ¬ (kindByte t ≡ kind)) records
+
+pub record EarlierSteps (kind : ℕ) : Type 0 where
+  pub keeps : KeepsPlans (before kind) present
   pub stops : (file : List ℕ) (p : Plan) → judgeBy present file ≡ accept p
-      → (before : List Step) (count number : ℕ) (rest : List Record) → p .records ≡ map plain before ++ repeat count number ∷ rest
-      → judgeBy withoutRepeats file ≡ refuse 20 (length before + 1)
-  pub passes : (file : List ℕ) (p : Plan) → judgeBy present file ≡ accept p
-      → (all : List Step) → p .records ≡ map plain all → judgeBy withoutRepeats file ≡ accept p
+      → (others : List Record) (first : Record) (rest : List Record) → p .records ≡ others ++ first ∷ rest
+      → NoneOf kind others → kindByte first ≡ kind → judgeBy (before kind) file ≡ refuse 20 (length others + 1)
+  pub passes : (file : List ℕ) (p : Plan) → judgeBy present file ≡ accept p → NoneOf kind (p .records) → judgeBy (before kind) file ≡ accept p

@@ -13,7 +13,7 @@ use Rattle.rules.specs.declared.Table.{Table}
 use Rattle.rules.specs.declared.DimLists.{DimLists}
 use Rattle.rules.specs.declared.Sharding as code
 use Rattle.rules.specs.declared.Kind.{Kind}
-use Rattle.rules.specs.declared.Kind.the-variants.{AllSlice, AllGather, AllReduce, AllToAll, Unknown}
+use Rattle.rules.specs.declared.Kind.the-variants.{AllSlice, AllGather, AllReduce, AllToAll, ReduceScatter, Unknown}
 use Rattle.rules.specs.declared.Step.{Step}
 
 -- the sizes of a mesh, and those of a table
@@ -52,6 +52,7 @@ ofKind AllSlice rank t = rules.allSlice (take rank (dimsOf (t .lists)))
 ofKind AllGather rank t = rules.allGather (take rank (dimsOf (t .lists)))
 ofKind AllReduce rank t = rules.allReduce (axesOf (t .list))
 ofKind AllToAll rank t = rules.allToAll (t .source .0) (t .target .0) (axesOf (t .list))
+ofKind ReduceScatter rank t = rules.reduceScatter (take rank (dimsOf (t .lists)))
 ofKind Unknown rank t = rules.allReduce []
 
 abbrev pub stepOf : ℕ → Step → rules.Step

@@ -5,7 +5,7 @@ use Prim.Native.Nat.{ℕ, _-_}
 use mathlib.Core.Path.{_≡_, refl}
 use mathlib.Core.List.{List, [], _∷_, _++_, map}
 use lib.ListN.{length, replicate}
-use Rattle.rules.specs.Collectives.{allSlice, allGather, allReduce, allToAll}
+use Rattle.rules.specs.Collectives.{allSlice, allGather, allReduce, allToAll, reduceScatter}
 use Rattle.rules.specs.Limits.{mostAxes, mostDims}
 use Rattle.rules.specs.Types.{dimsOf, stepOf}
 use Rattle.rules.specs.Calls.{groupsOf, groupsMeaning, runOf, runMeaning}
@@ -14,7 +14,7 @@ use Rattle.rules.specs.declared.Axis.{Axis}
 use Rattle.rules.specs.declared.AxisList.{AxisList}
 use Rattle.rules.specs.declared.DimLists.{DimLists}
 use Rattle.rules.specs.declared.Kind.{Kind}
-use Rattle.rules.specs.declared.Kind.the-variants.{AllSlice, AllGather, AllReduce, AllToAll}
+use Rattle.rules.specs.declared.Kind.the-variants.{AllSlice, AllGather, AllReduce, AllToAll, ReduceScatter}
 use Rattle.rules.specs.declared.Step.{Step}
 use Rattle.rules.specs.declared.Reason.{Reason}
 use Rattle.rules.specs.declared.Reason.the-variants.{WorkTooShort, OutputTooShort}
@@ -49,10 +49,11 @@ pub meanings :
     -- the run: W2, and with one word too few
     × (runMeaning run.Finished ≡ runOf w1 (nines 32) (nines 32) .outcome)
     × (runMeaning (run.Refused (refusal WorkTooShort 0)) ≡ runOf w1 (nines 31) (nines 32) .outcome)
-    -- the steps: an all-slice, and those of W5, W7 and W8
+    -- the steps: an all-slice, those of W5, W7 and W8, and a reduce-scatter
     × (stepOf 1 (step AllSlice 9 9 ((0 ∷ []) ∷ []) (nines 1)) ≡ allSlice ((0 ∷ []) ∷ []))
     × (stepOf 1 (step AllGather 9 9 ((1 ∷ 0 ∷ []) ∷ []) (nines 1)) ≡ allGather ((1 ∷ 0 ∷ []) ∷ []))
     × (stepOf 1 (step AllReduce 9 9 [] (0 ∷ [])) ≡ allReduce (0 ∷ []))
     × (stepOf 2 (step AllToAll 0 1 [] (0 ∷ [])) ≡ allToAll 0 1 (0 ∷ []))
+    × (stepOf 1 (step ReduceScatter 9 9 ((1 ∷ 0 ∷ []) ∷ []) (nines 1)) ≡ reduceScatter ((1 ∷ 0 ∷ []) ∷ []))
 unfolding groupsOf runOf dimsOf
-meanings = (refl, refl, refl, refl, refl, refl, refl, refl)
+meanings = (refl, refl, refl, refl, refl, refl, refl, refl, refl)

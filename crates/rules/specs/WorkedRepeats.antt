@@ -127,11 +127,11 @@ repeats =
     ∷ checked (whole ((10 ∷ 2 ∷ 2 ∷ slice ++ gather) ∷ [])) (refuse 20 1)
     -- "Inner steps are then read and judged in order.": each at its own number, from the sharding that the one before it left, before the next is
     -- read, and before 41
-    ∷ checked (whole (times 1 (slice ∷ (5 ∷ []) ∷ []) ∷ [])) (refuse 20 3)
+    ∷ checked (whole (times 1 (slice ∷ (6 ∷ []) ∷ []) ∷ [])) (refuse 20 3)
     ∷ checked (whole (times 1 (slice ∷ (1 ∷ 0 ∷ []) ∷ []) ∷ [])) (refuse 21 3)
     ∷ checked (whole (times 1 (slice ∷ (1 ∷ 1 ∷ 1 ∷ []) ∷ []) ∷ [])) (refuse 22 3)
     ∷ checked (whole (times 1 (slice ∷ slice ∷ []) ∷ [])) (refuse 23 3)
-    ∷ checked (whole (times 1 (gather ∷ (5 ∷ []) ∷ []) ∷ [])) (refuse 24 2)
+    ∷ checked (whole (times 1 (gather ∷ (6 ∷ []) ∷ []) ∷ [])) (refuse 24 2)
     ∷ checked (on2x2 (2 ∷ []) ([] ∷ [] ∷ []) (times 1 (slice ∷ (1 ∷ 1 ∷ 1 ∷ []) ∷ []))) (refuse 25 3)
     ∷ checked (on2x2 (2 ∷ []) ([] ∷ (0 ∷ 1 ∷ []) ∷ []) (times 1 (reduce ∷ (3 ∷ 2 ∷ 1 ∷ 0 ∷ []) ∷ []))) (refuse 26 3)
     ∷ checked (whole (times 1 (slice ∷ reduce ∷ []) ∷ [])) (refuse 27 3)
@@ -159,7 +159,7 @@ repeats =
     ∷ checked (whole (nearlyFull ∷ times 1 (times 9 (swings 1) ∷ []) ∷ [])) (refuse 43 18)
     ∷ checked (whole (full ∷ (1 ∷ 0 ∷ []) ∷ [])) (refuse 21 5)
     ∷ checked (whole (full ∷ times 1 (slice ∷ []) ∷ [])) (refuse 41 5)
-    ∷ checked (whole (full ∷ slice ∷ (5 ∷ []) ∷ [])) (refuse 43 5)
+    ∷ checked (whole (full ∷ slice ∷ (6 ∷ []) ∷ [])) (refuse 43 5)
     -- "Step numbers count kind bytes in file order": after a repeat with another inside, outermost and inside a block
     ∷ checked (whole (times 2 (slice ∷ times 2 (gather ∷ slice ∷ []) ∷ gather ∷ []) ∷ (1 ∷ 0 ∷ []) ∷ [])) (refuse 21 7)
     ∷ checked (whole (times 1 (times 3 (swings 1) ∷ (1 ∷ 0 ∷ []) ∷ []) ∷ [])) (refuse 21 5)

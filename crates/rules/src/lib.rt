@@ -110,10 +110,11 @@ pub enum Kind {
     AllGather,
     AllReduce,
     AllToAll,
+    ReduceScatter,
     Unknown,
 }
 
-// A step: all-slice and all-gather have lists by dimension, all-reduce and all-to-all have one list.
+// A step: all-slice, all-gather and reduce-scatter have lists by dimension, all-reduce and all-to-all have one list.
 pub struct Step {
     pub kind: Kind,
     pub source: Dim,
