@@ -6,6 +6,7 @@ use mathlib.Core.List.{List}
 use native.Mathlib.Omega.{arith}
 use lib.ListN.{length, getD}
 use Rattle.rules.specs.Sharding.{Sharding, IsSharding}
+use Rattle.rules.specs.Limits.{everyKind}
 use Rattle.rules.specs.PlanFile.{Read, StepsRead, itemAt}
 use Rattle.rules.specs.Demands.{onePass, largestOn}
 use Rattle.rules.specs.Types.{shardingOf, meshOf, sizesOf}
@@ -26,7 +27,7 @@ pub judging-next : (file : List ℕ) (depth : ℕ) (mesh : Mesh) (table : Table)
     → Judging file at k mesh table total largest s
     → StepsTell (table .rank) (shardingOf (table .rank) s)
     (summarized (meshOf mesh) (sizesOf table) k largest (shardingOf (table .rank) s)
-    (itemAt true (meshOf mesh) (sizesOf table) file depth k at (shardingOf (table .rank) s))) r
+    (itemAt everyKind (meshOf mesh) (sizesOf table) file depth k at (shardingOf (table .rank) s))) r
     → r .next ≡ next.At end → Judging file end (r .number) mesh table total (r .largest) (r .sharding)
 judging-next file depth mesh table {at} {k} {total} {largest} {end} {s} r g e n =
     let M : List ℕ = meshOf mesh in
@@ -34,8 +35,8 @@ judging-next file depth mesh table {at} {k} {total} {largest} {end} {s} r g e n 
     let z : Sharding = shardingOf (table .rank) s in
     let x = summary-inv M N k largest z _ _ (read-on _ (e .reads) n) in
     let w : StepsRead = x .0 in
-    let t : Takes M N file at w = item-takes M N file true depth k at z w (x .1) in
-    let u : Told M N file z w = item-tells M N file true depth k at z w (x .1) in
+    let t : Takes M N file at w = item-takes M N file everyKind depth k at z w (x .1) in
+    let u : Told M N file z w = item-tells M N file everyKind depth k at z w (x .1) in
     let f : Sharding → ℕ = λ y. shardWords M N y in
     let n-is : k + length (w .records) ≡ r .number = ap (λ (y : Read Summary). y .value .number) (x .2) in
     let m-is : max largest (largestOn f z (onePass (w .records))) ≡ r .largest = ap (λ (y : Read Summary). y .value .largest) (x .2) in

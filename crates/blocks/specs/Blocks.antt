@@ -7,7 +7,7 @@ use mathlib.Core.List.{List}
 use lib.ListN.{length}
 use lib.Dec.{leb}
 use Rattle.rules.specs.Lists.{product}
-use Rattle.rules.specs.Limits.{mostDims, mostBytes, mostRun}
+use Rattle.rules.specs.Limits.{mostDims, mostBytes, mostRun, everyKind}
 use Rattle.rules.specs.Sharding.{Sharding, shardSizes}
 use Rattle.rules.specs.Refusals.{Judged, accept, refuse, _>>=_, _>>_, needAt, refusedAs}
 use Rattle.rules.specs.PlanFile.{Read, StepsRead, JudgesSteps, stepsAt, positiveAt, sameSharding, tooDeep, itemAt}
@@ -69,7 +69,7 @@ repeatRefusal (read.Refused r) = r
 -- what the repeat with number k judges its inner steps by
 abbrev pub innerAt : (mesh sizes file : List ℕ) → (depth k : ℕ) → JudgesSteps
 innerAt mesh sizes file zero k = tooDeep k
-innerAt mesh sizes file (suc depth) k = stepsAt (itemAt true mesh sizes file depth)
+innerAt mesh sizes file (suc depth) k = stepsAt (itemAt everyKind mesh sizes file depth)
 
 -- the words of a shard
 abbrev pub shardWords : (mesh sizes : List ℕ) → Sharding → ℕ

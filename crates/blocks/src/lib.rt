@@ -4,7 +4,7 @@ ghost use mathlib.Core.Path.{_≡_};
 ghost use mathlib.Core.Bool.{true};
 ghost use Prim.Native.Nat.{ℕ, _+_, _≤_};
 ghost use lib.ListN.{length, take};
-ghost use Rattle.rules.specs.Limits.{mostDims};
+ghost use Rattle.rules.specs.Limits.{mostDims, everyKind};
 ghost use Rattle.rules.specs.Lists.{both};
 ghost use Rattle.rules.specs.Refusals.{refusedAs};
 ghost use Rattle.rules.specs.PlanFile.{same, plainAt, positiveAt, sameSharding, repeatAt, isRepeat, itemAt};
@@ -322,7 +322,7 @@ pub fn judge_item(
     requires { ⌜ Judging (now file) at k mesh table total largest sharding ⌝ }
     ensures { λ r. ⌜ StepsTell (table .rank) (shardingOf (table .rank) sharding)
         (summarized (meshOf mesh) (sizesOf table) k largest (shardingOf (table .rank) sharding)
-        (itemAt true (meshOf mesh) (sizesOf table) (now (file .entry)) depth k at (shardingOf (table .rank) sharding))) r ⌝ }
+        (itemAt everyKind (meshOf mesh) (sizesOf table) (now (file .entry)) depth k at (shardingOf (table .rank) sharding))) r ⌝ }
 {
     if is_repeat(file, at) {
         judge_block(

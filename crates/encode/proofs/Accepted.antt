@@ -9,7 +9,7 @@ use lib.Dec.{leb, leb→le, ltb, eqb, lit≤}
 use lib.ListN.{length, getD, take, drop, length-take, length-map}
 use lib.Seq.{length-take-le}
 use Rattle.rules.specs.Lists.{tab, pick}
-use Rattle.rules.specs.Limits.{mostAxes, mostDevices, mostDims, mostWords, mostSteps, mostDepth}
+use Rattle.rules.specs.Limits.{mostAxes, mostDevices, mostDims, mostWords, mostSteps, mostDepth, everyKind}
 use Rattle.rules.specs.Mesh.{devices}
 use Rattle.rules.specs.Sharding.{Sharding}
 use Rattle.rules.specs.Collectives.{Step}
@@ -264,12 +264,12 @@ accepted-encodable mesh order sizes start bytes p e =
     let r : Records = recordsGiven mesh order sizes start bytes in
     let w = then-inv (judgeOpening r) _ p e in
     let m = need-inv 0 (leb (length (r .steps)) mostRecords) 2 _ p (w .1) in
-    let ts = bind-inv (outermostAt true mesh sizes (stepsBytes (r .steps)) 0 (outermost (r .steps)) 1 0 (r .start)) _ p (m .1) in
+    let ts = bind-inv (outermostAt everyKind mesh sizes (stepsBytes (r .steps)) 0 (outermost (r .steps)) 1 0 (r .start)) _ p (m .1) in
     let o : Opened r = opened r (w .0 .1) in
     let s = sharding-facts mesh sizes (r .start) (o .sharding) in
     let others = counts-short (length mesh) (r .start .unreduced ∷ r .start .replicated ∷ []) (o .axes) (s .others) in
     let g : r .steps ≡ map known (ts .0 .records) =
-    all-given mesh sizes (stepsBytes (r .steps)) true 0 1 0 (r .start) (r .steps) (ts .0) (given-ranked (length sizes) (o .rank) bytes)
+    all-given mesh sizes (stepsBytes (r .steps)) everyKind 0 1 0 (r .start) (r .steps) (ts .0) (given-ranked (length sizes) (o .rank) bytes)
     (from-all (stepsBytes (r .steps))) (ts .1) .0 in
     let short = outermost-short mesh sizes (stepsBytes (r .steps)) (o .axes) true 0 (outermost (r .steps)) 1 0 (r .start) (ts .0) (ts .1) in (
       record {

@@ -7,7 +7,7 @@ use native.Mathlib.Omega.{arith}
 use borrow.Author.Tests.{le-leb, lt-leb}
 use lib.ListN.{length}
 use lib.Dec.{leb, leb→le}
-use Rattle.rules.specs.Limits.{mostAxes, mostDims, mostDevices, mostWords, mostSteps}
+use Rattle.rules.specs.Limits.{mostAxes, mostDims, mostDevices, mostWords, mostSteps, everyKind}
 use Rattle.rules.specs.Mesh.{devices, OnMesh}
 use Rattle.rules.specs.Refusals.{Judged, accept, refuse, _>>=_, _>>_, need}
 use Rattle.rules.specs.Sharding.{Sharding, IsSharding}
@@ -135,7 +135,7 @@ module _ (mesh order sizes : List ℕ) (start : code.Sharding) (steps : List ℕ
       regrouped (need (axesAllowed (length mesh)) 5) (need (rankAllowed (length sizes)) 5) (need (leb (outermost (stepsGiven (length sizes) steps)) mostSteps) 5)
       (judgeSizes mostDevices 10 11 1 mesh) (judgeOrder (devices mesh) order) (judgeSizes mostWords 12 13 1 sizes)
       (judgeSharding mesh sizes (shardingGiven (length sizes) start)) (need (leb (length (stepsGiven (length sizes) steps)) mostRecords) 2)
-      (outermostAt true mesh sizes (stepsBytes (stepsGiven (length sizes) steps)) 0 (outermost (stepsGiven (length sizes) steps)) 1 0 (shardingGiven (length sizes) start))
+      (outermostAt everyKind mesh sizes (stepsBytes (stepsGiven (length sizes) steps)) 0 (outermost (stepsGiven (length sizes) steps)) 1 0 (shardingGiven (length sizes) start))
       _
       ∙ (λ i. _>>_ (judgeShape mesh order sizes (sym c i)) (_>>_ (judgeSharding mesh sizes (shardingGiven (length sizes) start))
       (_>>_ (need (leb (given-length (length sizes) steps i) mostRecords) 2)

@@ -6,7 +6,7 @@ use mathlib.Core.Bool.{Bool, true, _&&_}
 use mathlib.Core.List.{List, [], _∷_}
 use lib.ListN.{length, getD, take}
 use lib.Dec.{ltb, leb, eqb}
-use Rattle.rules.specs.Limits.{mostDims, mostDevices, mostWords, mostSteps, mostRun}
+use Rattle.rules.specs.Limits.{mostDims, mostDevices, mostWords, mostSteps, mostRun, everyKind}
 use Rattle.rules.specs.Mesh.{devices}
 use Rattle.rules.specs.Refusals.{Judged, accept, refuse, _>>_, need, needAt}
 use Rattle.rules.specs.Sharding.{Sharding, IsSharding}
@@ -106,7 +106,7 @@ repeatGiven mesh sizes rank steps depth i s =
     summarized i (repeatAt (innerAt mesh sizes (bytesGiven rank steps) depth (i + 1)) (bytesGiven rank steps) (i + 1) (placeGiven rank steps i + 1) s)
 
 abbrev pub itemGiven : (mesh sizes : List ℕ) → (rank : ℕ) → List ℕ → (depth i : ℕ) → Sharding → Judged (Read Summary)
-itemGiven mesh sizes rank steps depth i s = summarized i (itemAt true mesh sizes (bytesGiven rank steps) depth (i + 1) (placeGiven rank steps i) s)
+itemGiven mesh sizes rank steps depth i s = summarized i (itemAt everyKind mesh sizes (bytesGiven rank steps) depth (i + 1) (placeGiven rank steps i) s)
 
 abbrev pub summaryIn : ℕ → RecordsJudged → Summary
 summaryIn rank r = record { runs = r .runs; sharding = shardingOf rank (r .sharding) }
@@ -154,7 +154,7 @@ judgeShape mesh order sizes steps = do
 
 -- so many outermost steps, from the first record on
 abbrev pub outermostGiven : (mesh sizes : List ℕ) → (rank : ℕ) → List ℕ → (count : ℕ) → Sharding → Judged (Unit {0})
-outermostGiven mesh sizes rank steps count s = verdictOf (outermostAt true mesh sizes (bytesGiven rank steps) 0 count 1 0 s)
+outermostGiven mesh sizes rank steps count s = verdictOf (outermostAt everyKind mesh sizes (bytesGiven rank steps) 0 count 1 0 s)
 
 -- the sharding, then the records
 abbrev pub judgeRest : (mesh sizes : List ℕ) → (rank : ℕ) → code.Sharding → List ℕ → (count : ℕ) → Judged (Unit {0})

@@ -17,7 +17,7 @@ use Rattle.rules.specs.PlanFile.{Read, edition, axisCount, rankCount, stepCount
 use Rattle.rules.specs.PlanFile.{u16At, judgeHeader, judgeHeaderBy, sizesAt, carriesOrder, orderAt, MeshAndTable}
 use Rattle.rules.specs.Types.{meshOf, sizesOf, axesOf, dimsOf, shardingOf, stepOf}
 use Rattle.rules.specs.declared.Kind.{Kind}
-use Rattle.rules.specs.declared.Kind.the-variants.{AllSlice, AllGather, AllReduce, AllToAll, Unknown}
+use Rattle.rules.specs.declared.Kind.the-variants.{AllSlice, AllGather, AllReduce, AllToAll, ReduceScatter, Unknown}
 use Rattle.rules.specs.declared.Mesh.{Mesh}
 use Rattle.rules.specs.declared.Table.{Table}
 use Rattle.rules.specs.declared.Refusal.{Refusal}
@@ -165,4 +165,5 @@ PerDim AllSlice = Unit {0}
 PerDim AllGather = Unit {0}
 PerDim AllReduce = ⊥
 PerDim AllToAll = ⊥
+PerDim ReduceScatter = Unit {0}
 PerDim Unknown = ⊥

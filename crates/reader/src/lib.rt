@@ -644,7 +644,7 @@ impl StepRead {
     }
 }
 
-// "1 all-slice, 2 all-gather .., 3 all-reduce .., 4 all-to-all"
+// "1 all-slice, 2 all-gather .., 3 all-reduce .., 4 all-to-all"; 5 is a reduce-scatter.
 pub fn kind_of(byte: u8) -> Kind
     ensures { λ r. ⌜ r ≡ kindOf byte ⌝ }
 {
@@ -656,12 +656,14 @@ pub fn kind_of(byte: u8) -> Kind
         Kind::AllReduce
     } else if byte == 4 {
         Kind::AllToAll
+    } else if byte == 5 {
+        Kind::ReduceScatter
     } else {
         Kind::Unknown
     }
 }
 
-// An all-slice or all-gather after its kind byte: one list per dimension.
+// An all-slice, all-gather or reduce-scatter after its kind byte: one list per dimension.
 fn read_per_dim(file: &[u8], at: usize, n: usize, rank: usize, kind: Kind) -> StepRead
     requires { ⌜ (n ≤ mostAxes) × (rank ≤ mostDims) × PerDim kind ⌝ }
     ensures { λ r. ⌜ ((k : ℕ) → StepTells rank (listsOf n rank k (now (file .entry)) at kind) r) ⌝ }
@@ -765,6 +767,7 @@ pub fn read_step(file: &[u8], at: usize, n: usize, rank: usize, k: u16) -> StepR
         Kind::AllGather => read_per_dim(file, at + 1, n, rank, kind),
         Kind::AllReduce => read_all_reduce(file, at + 1, n),
         Kind::AllToAll => read_all_to_all(file, at + 1, n),
+        Kind::ReduceScatter => read_per_dim(file, at + 1, n, rank, kind),
         Kind::Unknown => StepRead::refused(Refusal {
             reason: Reason::UnknownKind,
             step: k,

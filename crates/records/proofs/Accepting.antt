@@ -13,7 +13,7 @@ use Rattle.rules.specs.Lists.{pick, each, both, flat, inTurn, without, In, Dist
 use Rattle.rules.specs.Mesh.{devices}
 use Rattle.rules.specs.Sharding.{Sharding, varying, named, divisible, shardSizes, IsSharding}
 use Rattle.rules.specs.Collectives.{Step, allSlice, allGather, allReduce, allToAll, stepAxes, cutTail, sliced, gathered, reduced, after, grown}
-use Rattle.rules.specs.Limits.{mostAxes, mostDevices, mostDims, mostWords, mostSteps, mostRun, mostDepth}
+use Rattle.rules.specs.Limits.{mostAxes, mostDevices, mostDims, mostWords, mostSteps, mostRun, mostDepth, everyKind}
 use Rattle.rules.specs.Refusals.{Judged, accept, refuse, _>>=_, _>>_, need, needAt}
 use Rattle.rules.specs.PlanFile.{
   axesAllowed,
@@ -124,7 +124,7 @@ module _ (mesh sizes file : List ℕ) where
   -- a step that is accepted, as what stands at its kind byte
   item-plain : (k at : ℕ) (t : Step) (rest : List ℕ) (s : Sharding) → From at file (stepBytes t ++ rest) → RankedStep (length sizes) t
       → judgeCounts (length mesh) (stepLists t) ≡ accept tt → judgeStep mesh sizes k t s ≡ accept (after t s)
-      → itemAt true mesh sizes file mostDepth k at s
+      → itemAt everyKind mesh sizes file mostDepth k at s
       ≡ accept (record { records = plain t ∷ []; steps = t ∷ []; sharding = after t s; next = at + length (stepBytes t) })
   unfolding itemAt itemBy plainAt
   item-plain k at t rest s f r c j =
@@ -156,7 +156,7 @@ module _ (mesh sizes : List ℕ) where
   -- steps that are accepted from s on, and end at g
   pub record Goes (s : Sharding) (ts : List Step) (g : Sharding) : Type 0 where
     pub accepts : (file : List ℕ) (ran k at : ℕ) → From at file (stepsBytes (givenOf ts)) → ran + length ts ≤ mostRun
-        → outermostAt true mesh sizes file ran (length ts) k at s ≡ accept (plainRead at ts)
+        → outermostAt everyKind mesh sizes file ran (length ts) k at s ≡ accept (plainRead at ts)
     pub ends : inTurn after ts s ≡ g
     pub ranked : AllRanked (length sizes) (givenOf ts)
     pub short : length mesh ≤ mostAxes → length sizes ≤ mostDims → length (stepsBytes (givenOf ts)) ≤ 29 * length ts

@@ -12,7 +12,7 @@ use Rattle.rules.specs.Lists.{tab, pick}
 use Rattle.rules.specs.Mesh.{span, devices, plainOrder}
 use Rattle.rules.specs.Sharding.{Sharding, shardSizes, IsSharding}
 use Rattle.rules.specs.Collectives.{Step, allSlice, allGather, allReduce, allToAll, after}
-use Rattle.rules.specs.Limits.{present, mostBytes, leastBytes, mostSteps, mostDevices, mostWords, mostDepth}
+use Rattle.rules.specs.Limits.{present, mostBytes, leastBytes, mostSteps, mostDevices, mostWords, mostDepth, everyKind}
 use Rattle.rules.specs.Refusals.{Judged, accept, _>>=_, _>>_}
 use Rattle.rules.specs.PlanFile.{
   Read,
@@ -352,17 +352,17 @@ module _ (file : List ℕ) (bytes : Bytes file) where
   unfolding judgeBy
   parts p e =
       let f = bind-inv (judgeFront file) _ p e in
-      let ts = bind-inv (outermostAt true (f .0 .mesh) (f .0 .sizes) file 0 (stepCount file) 1 (f .0 .next) (f .0 .start)) _ p (f .2) in
+      let ts = bind-inv (outermostAt everyKind (f .0 .mesh) (f .0 .sizes) file 0 (stepCount file) 1 (f .0 .next) (f .0 .start)) _ p (f .2) in
       let o : Outermost = ts .0 in
       let z = need-inv 0 (eqb (o .next) (length file)) 9 _ p (ts .2) in
       let a : FrontSpelled (f .0) = front-spelled (f .0) (f .1) in
-      let one = itemAt true (f .0 .mesh) (f .0 .sizes) file mostDepth in
+      let one = itemAt everyKind (f .0 .mesh) (f .0 .sizes) file mostDepth in
       let b : Spells file (f .0 .next) (o .next) (stepsBytes (map known (o .records))) =
-      steps-spell (f .0 .mesh) (f .0 .sizes) file one (item-spells (f .0 .mesh) (f .0 .sizes) file true mostDepth) (stepCount file) 1 (f .0 .next) (f .0 .start)
+      steps-spell (f .0 .mesh) (f .0 .sizes) file one (item-spells (f .0 .mesh) (f .0 .sizes) file everyKind mostDepth) (stepCount file) 1 (f .0 .next) (f .0 .start)
       (readBy (f .0 .mesh) (f .0 .sizes) file (f .0 .start) o) (a .spells .inside)
-      (outermost-steps (f .0 .mesh) (f .0 .sizes) file true 0 (stepCount file) 1 (f .0 .next) (f .0 .start) o (ts .1)) in
+      (outermost-steps (f .0 .mesh) (f .0 .sizes) file everyKind 0 (stepCount file) 1 (f .0 .next) (f .0 .start) o (ts .1)) in
       let count : outermost (map known (o .records) ++ []) ≡ stepCount file + outermost [] =
-      outermost-counted (f .0 .mesh) (f .0 .sizes) file true 0 (stepCount file) 1 (f .0 .next) (f .0 .start) o (ts .1) [] in
+      outermost-counted (f .0 .mesh) (f .0 .sizes) file everyKind 0 (stepCount file) 1 (f .0 .next) (f .0 .start) o (ts .1) [] in
       let none : outermost [] ≡ 0 = unfold outermostFrom in refl in
       let counted : stepCount file ≡ outermost (map known (o .records)) =
       (let x : stepCount file ≡ outermost (map known (o .records) ++ []) = omega (arith, count, none) in

@@ -10,6 +10,7 @@ use Rattle.rules.specs.Lists.{inTurn, product}
 use Rattle.rules.specs.Sharding.{Sharding, shardSizes, IsSharding}
 use Rattle.rules.specs.Spread.{addWords}
 use Rattle.rules.specs.Collectives.{Step, Shards, stepped}
+use Rattle.rules.specs.Limits.{everyKind}
 use Rattle.rules.specs.Refusals.{accept}
 use Rattle.rules.specs.PlanFile.{StepsRead, JudgesStep, stepsAt, itemAt}
 use Rattle.rules.specs.Demands.{largestOn}
@@ -64,7 +65,7 @@ no-steps one (suc n) k at s w h e = absurd (omega arith)
 
 module _ (mesh : Mesh) (table : Table) (file : List ℕ) (depth : ℕ) where
   abbrev item : JudgesStep
-  item = itemAt true (meshOf mesh) (sizesOf table) file depth
+  item = itemAt everyKind (meshOf mesh) (sizesOf table) file depth
 
   abbrev words : Sharding → ℕ
   words s = product (shardSizes (meshOf mesh) (sizesOf table) (s .dims))
@@ -128,7 +129,7 @@ module _ (mesh : Mesh) (table : Table) (file : List ℕ) (depth : ℕ) where
       apart = split item (count - i) (here .number) (here .at) s (g .rest .read) (omega arith) (g .rest .accepted)
 
       told : Told (meshOf mesh) (sizesOf table) file s (apart .first)
-      told = item-tells (meshOf mesh) (sizesOf table) file true depth (here .number) (here .at) s (apart .first) (apart .first-is)
+      told = item-tells (meshOf mesh) (sizesOf table) file everyKind depth (here .number) (here .at) s (apart .first) (apart .first-is)
 
       largest : largestOn words s (g .rest .read .steps) ≡ max (largestOn words s (apart .first .steps)) (largestOn words (apart .first .sharding) (apart .others .steps))
       largest =
@@ -162,7 +163,7 @@ module _ (mesh : Mesh) (table : Table) (file : List ℕ) (depth : ℕ) where
             let l : largestOn words (shardingOn table end) (u .steps) ≤ largestOn words s (g .rest .read .steps) =
             subst (λ (x : Sharding). largestOn words x (u .steps) ≤ largestOn words s (g .rest .read .steps)) (sym q) (omega (arith, largest)) in
             let tk : Takes (meshOf mesh) (sizesOf table) file (here .at) (apart .first) =
-            item-takes (meshOf mesh) (sizesOf table) file true depth (here .number) (here .at) s (apart .first) (apart .first-is) in
+            item-takes (meshOf mesh) (sizesOf table) file everyKind depth (here .number) (here .at) s (apart .first) (apart .first-is) in
             record {
               ready = record {
                 fits = g .rest .ready .fits;

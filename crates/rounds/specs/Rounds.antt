@@ -10,7 +10,7 @@ use Rattle.rules.specs.Mesh.{devices, OnMesh}
 use Rattle.rules.specs.Sharding.{Sharding, shardSizes}
 use Rattle.rules.specs.Spread.{addWords}
 use Rattle.rules.specs.Collectives.{Step, allSlice, allGather, allReduce, allToAll, Shards, stepped, Stands, withShards}
-use Rattle.rules.specs.Limits.{mostDims, mostWords, mostBytes}
+use Rattle.rules.specs.Limits.{mostDims, mostWords, mostBytes, everyKind}
 use Rattle.rules.specs.Refusals.{Judged, accept}
 use Rattle.rules.specs.PlanFile.{Read, StepsRead, JudgesStep, stepsAt, repeatAt, itemAt}
 use Rattle.rules.specs.Demands.{largestOn}
@@ -94,7 +94,7 @@ Leaves mesh shape ts in-work work spare in-work′ work′ spare′ =
 
 -- a repeat at its kind byte, its inner steps nested at most so deep
 abbrev pub blockAt : (mesh sizes : List ℕ) → List ℕ → (depth : ℕ) → JudgesStep
-blockAt mesh sizes file depth k at s = repeatAt (stepsAt (itemAt true mesh sizes file depth)) file k (at + 1) s
+blockAt mesh sizes file depth k at s = repeatAt (stepsAt (itemAt everyKind mesh sizes file depth)) file k (at + 1) s
 
 -- a mesh and a table within the limits
 pub record WithinLimits (mesh sizes : List ℕ) : Type 0 where

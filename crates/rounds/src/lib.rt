@@ -6,6 +6,7 @@ ghost use mathlib.Core.Bool.{true};
 ghost use lib.ListN.{length};
 ghost use Rattle.rules.specs.Lists.{pick};
 ghost use Rattle.rules.specs.Types.{meshOf, sizesOf};
+ghost use Rattle.rules.specs.Limits.{everyKind};
 ghost use Rattle.rules.specs.PlanFile.{stepsAt, plainAt, itemAt};
 ghost use Rattle.rounds.specs.Rounds.{Turning, Turned, standsAfter, blockAt, CanRun, HasRun};
 use blocks::is_repeat;
@@ -173,8 +174,8 @@ fn run_item(
     work: &mut [u32],
     spare: &mut [u32],
 ) -> Progress
-    requires { ⌜ CanRun (itemAt true (meshOf mesh) (sizesOf table) (now file) depth) (now file) mesh table from (length (now work)) (length (now spare)) ⌝ }
-    ensures { λ r. ⌜ HasRun (itemAt true (meshOf mesh) (sizesOf table) (now (file .entry)) depth) mesh table from
+    requires { ⌜ CanRun (itemAt everyKind (meshOf mesh) (sizesOf table) (now file) depth) (now file) mesh table from (length (now work)) (length (now spare)) ⌝ }
+    ensures { λ r. ⌜ HasRun (itemAt everyKind (meshOf mesh) (sizesOf table) (now (file .entry)) depth) mesh table from
         (now (work .entry)) (now (spare .entry)) (now (work .exit)) (now (spare .exit)) r ⌝ }
 {
     if is_repeat(file, from.at) {
@@ -195,9 +196,9 @@ pub fn run_row(
     work: &mut [u32],
     spare: &mut [u32],
 ) -> Progress
-    requires { ⌜ CanRun (stepsAt (itemAt true (meshOf mesh) (sizesOf table) (now file) depth) count) (now file) mesh table from
+    requires { ⌜ CanRun (stepsAt (itemAt everyKind (meshOf mesh) (sizesOf table) (now file) depth) count) (now file) mesh table from
         (length (now work)) (length (now spare)) ⌝ }
-    ensures { λ r. ⌜ HasRun (stepsAt (itemAt true (meshOf mesh) (sizesOf table) (now (file .entry)) depth) count) mesh table from
+    ensures { λ r. ⌜ HasRun (stepsAt (itemAt everyKind (meshOf mesh) (sizesOf table) (now (file .entry)) depth) count) mesh table from
         (now (work .entry)) (now (spare .entry)) (now (work .exit)) (now (spare .exit)) r ⌝ }
 {
     let mut here = from;

@@ -50,6 +50,9 @@ read-step-spec =
     (λ c. omega (arith, byte-here (c .before .before .before .before)))
     (λ c κs. search needs)
     (λ c. search needs)
+    (λ c. omega (arith, byte-here (c .before .before .before .before)))
+    (λ c κs. (omega arith, omega arith, rw (c .enum-told6 .given .1) tt))
+    (λ c. search needs)
     (λ c κs. search needs)
     (λ c. let p = c .before .before .before in
     retold (c .read-per-dim .ensures (p .before .before .before .before .before .before .args .k)) (kind-is p))
@@ -62,6 +65,8 @@ read-step-spec =
     let a = p .before .before .before .before .before .before .args in
     retold (c .read-all-to-all .ensures (a .rank) (a .k)) (rw (c .before .enum-told5 .given .1) at (kind-is p)))
     (λ c. let p = c .before .before .before in
+    retold (c .read-per-dim3 .ensures (p .before .before .before .before .before .before .args .k)) (kind-is p))
+    (λ c. let p = c .before .before .before in
     let a = p .before .before .before .before .before .before .args in
-    let judged = kind-is p ∙ unknown (a .n) (a .rank) (a .k) (now (a .file)) (a .at + 1) (c .before .enum-told6 .given .1) in
+    let judged = kind-is p ∙ unknown (a .n) (a .rank) (a .k) (now (a .file)) (a .at + 1) (c .before .enum-told7 .given .1) in
     retold (c .refused2 .ensures (a .rank)) judged))
