@@ -9,7 +9,7 @@ ghost use Rattle.rules.specs.Lists.{flat};
 ghost use Rattle.rules.specs.Limits.{mostDims};
 ghost use Rattle.rules.specs.Sharding.{named};
 ghost use Rattle.rules.specs.Refusals.{accept, refuse, numberOf};
-ghost use Rattle.rules.specs.Collectives.{allSlice, allReduce, allToAll, stepAxes, reduced as reducedOf};
+ghost use Rattle.rules.specs.Collectives.{allSlice, allReduce, allToAll, reduceScatter, stepAxes, reduced as reducedOf};
 ghost use Rattle.rules.specs.PlanFile.{allBelow, twoDims, gatherOff, sliceOn, judgeKind, judgeNamed, judgeStep};
 ghost use Rattle.rules.specs.Types.{axesOf, dimsOf, shardingOf, stepOf, meshOf, sizesOf, WithinPlaces};
 ghost use Rattle.axes.specs.Marks.{marksWith};
@@ -21,6 +21,7 @@ use axes::all_in;
 use axes::increasing;
 use axes::mark_list;
 use axes::without;
+use dims::ascending;
 use dims::cut_tails;
 use dims::divisible;
 use dims::join_lists;
@@ -97,6 +98,7 @@ fn judge_named(step: Step, k: u16, rank: usize, n: usize) -> Verdict
         Kind::AllGather => named_dims(step.lists, k, rank, n),
         Kind::AllReduce => named_list(step.list, k, n),
         Kind::AllToAll => named_list(step.list, k, n),
+        Kind::ReduceScatter => named_dims(step.lists, k, rank, n),
         Kind::Unknown => refused(Reason::NoAxis, k),
     }
 }
@@ -232,6 +234,26 @@ fn judge_all_to_all(
     slice_on(on, k, between, mesh, table)
 }
 
+// Reduce-scatter: 23 over the whole step, then 27, then the slice of the sharding whose axes are reduced. The axes are below n already, so judge_dims
+// refuses an axis that is named twice, and nothing else.
+fn judge_scatter(lists: DimLists, k: u16, sharding: Sharding, mesh: Mesh, table: Table) -> After
+    requires { ⌜ Sharded mesh table sharding × T (allBelow (mesh .n) (flat (take (table .rank) (dimsOf lists)))) ⌝ }
+    ensures { λ r. ⌜ meaningAfter (table .rank) r
+        ≡ judgeKind (meshOf mesh) (sizesOf table) k (reduceScatter (take (table .rank) (dimsOf lists))) (shardingOf (table .rank) sharding) ⌝ }
+{
+    let mut marks = [false; Axis::MOST];
+    let fresh = judge_dims(lists, table.rank, mesh.n, &mut marks);
+    let Verdict::Fine = fresh else {
+        return refused_step(Reason::NotReplicated, k, sharding);
+    };
+    let axes = ascending(lists, table.rank, mesh.n);
+    if !all_in(axes, sharding.unreduced) {
+        return refused_step(Reason::NotUnreduced, k, sharding);
+    }
+    let between = reduced(axes, sharding);
+    slice_on(lists, k, between, mesh, table)
+}
+
 // A step whose axes are judged, by its kind.
 fn judge_kind(step: Step, k: u16, sharding: Sharding, mesh: Mesh, table: Table) -> After
     requires { ⌜ Sharded mesh table sharding × (judgeNamed (mesh .n) k (stepAxes (stepOf (table .rank) step)) ≡ accept tt) ⌝ }
@@ -252,6 +274,7 @@ fn judge_kind(step: Step, k: u16, sharding: Sharding, mesh: Mesh, table: Table) 
             mesh,
             table,
         ),
+        Kind::ReduceScatter => judge_scatter(step.lists, k, sharding, mesh, table),
         Kind::Unknown => refused_step(Reason::UnknownKind, k, sharding),
     }
 }
