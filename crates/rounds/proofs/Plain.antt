@@ -110,5 +110,5 @@ module _ {file : List ℕ} {mesh : Mesh} {table : Table} {p : Progress} (work sp
           leaves = subst (λ (x : Step). Leaves (meshOf mesh) (shapeOf mesh table (p .sharding)) (x ∷ []) (p .«in_work») work spare b work′ spare′)
               (sym (ap (λ (x : Read StepTaken). x .value .step) is)) (λ v f st.
               ap (λ (c : Bool). record { shards = stepped addWords (meshOf mesh) (stepOf (table .rank) (r .step)) v; in-work = c; work = work′; spare = spare′ }) q
-              ∙ step-leaves (meshOf mesh) (table .rank) (r .step) (p .«in_work») v work spare work′ spare′ (t .leaves v f st) (t .keeps));
+              ∙ step-leaves (meshOf mesh) (table .rank) (r .step) (p .«in_work») v work spare work′ spare′ (t .leaves v f st) (t .keeps v f st));
         })

@@ -32,7 +32,7 @@ pub struct Progress {
 }
 
 // Step k, read again and done: from the state in here, the next one at the front of here where the step is done in place, else at that of there. The
-// other words of that buffer stay, and so does the other buffer.
+// other words of that buffer stay, and so does the other buffer, but for the sums of a reduce-scatter.
 fn do_step(
     file: &[u8],
     at: usize,
