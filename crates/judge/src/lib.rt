@@ -236,21 +236,21 @@ fn judge_all_to_all(
 
 // Reduce-scatter: 23 over the whole step, then 27, then the slice of the sharding whose axes are reduced. The axes are below n already, so judge_dims
 // refuses an axis that is named twice, and nothing else.
-fn judge_scatter(lists: DimLists, k: u16, sharding: Sharding, mesh: Mesh, table: Table) -> After
-    requires { ⌜ Sharded mesh table sharding × T (allBelow (mesh .n) (flat (take (table .rank) (dimsOf lists)))) ⌝ }
+fn judge_scatter(lists: DimLists, k: u16, from: Sharding, mesh: Mesh, table: Table) -> After
+    requires { ⌜ Sharded mesh table from × T (allBelow (mesh .n) (flat (take (table .rank) (dimsOf lists)))) ⌝ }
     ensures { λ r. ⌜ meaningAfter (table .rank) r
-        ≡ judgeKind (meshOf mesh) (sizesOf table) k (reduceScatter (take (table .rank) (dimsOf lists))) (shardingOf (table .rank) sharding) ⌝ }
+        ≡ judgeKind (meshOf mesh) (sizesOf table) k (reduceScatter (take (table .rank) (dimsOf lists))) (shardingOf (table .rank) from) ⌝ }
 {
     let mut marks = [false; Axis::MOST];
     let fresh = judge_dims(lists, table.rank, mesh.n, &mut marks);
     let Verdict::Fine = fresh else {
-        return refused_step(Reason::NotReplicated, k, sharding);
+        return refused_step(Reason::NotReplicated, k, from);
     };
     let axes = ascending(lists, table.rank, mesh.n);
-    if !all_in(axes, sharding.unreduced) {
-        return refused_step(Reason::NotUnreduced, k, sharding);
+    if !all_in(axes, from.unreduced) {
+        return refused_step(Reason::NotUnreduced, k, from);
     }
-    let between = reduced(axes, sharding);
+    let between = reduced(axes, from);
     slice_on(lists, k, between, mesh, table)
 }
 

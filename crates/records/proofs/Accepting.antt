@@ -12,7 +12,7 @@ use lib.Dec.{T, ltb, leb, eqb, eqb→eq, leb→le, le→leb, lit<, lit≤}
 use Rattle.rules.specs.Lists.{pick, each, both, flat, inTurn, without, In, Distinct}
 use Rattle.rules.specs.Mesh.{devices}
 use Rattle.rules.specs.Sharding.{Sharding, varying, named, divisible, shardSizes, IsSharding}
-use Rattle.rules.specs.Collectives.{Step, allSlice, allGather, allReduce, allToAll, stepAxes, cutTail, sliced, gathered, reduced, after, grown}
+use Rattle.rules.specs.Collectives.{Step, allSlice, allGather, allReduce, allToAll, reduceScatter, stepAxes, cutTail, sliced, gathered, reduced, after, grown}
 use Rattle.rules.specs.Limits.{mostAxes, mostDevices, mostDims, mostWords, mostSteps, mostRun, mostDepth, everyKind}
 use Rattle.rules.specs.Refusals.{Judged, accept, refuse, _>>=_, _>>_, need, needAt}
 use Rattle.rules.specs.PlanFile.{
@@ -34,6 +34,7 @@ use Rattle.rules.specs.PlanFile.{
   judgeKind,
   judgeStep,
   plain,
+  kindByte,
   StepsRead,
   plainAt,
   isRepeat,
@@ -71,7 +72,7 @@ use Rattle.records.specs.RoundTrip.{RankedStep, AllRanked}
 use Rattle.records.specs.Planning.{common, restOfStart, restOfGoal, toReduce, toGather, toSlice, ifNaming, planSteps}
 use Rattle.records.proofs.Places.{From, from-next, from-byte}
 use Rattle.records.proofs.Lists.{is-le, then-bind, stepLists, step-from}
-use Rattle.records.proofs.Given.{kindByte, kind-first}
+use Rattle.records.proofs.Given.{kind-first}
 use Rattle.records.proofs.Cutting.{
   lt-allBelow,
   distinct-fresh,
@@ -129,7 +130,7 @@ module _ (mesh sizes file : List ℕ) where
   unfolding itemAt itemBy plainAt
   item-plain k at t rest s f r c j =
       let h = kind-first t in
-      let b : getD file at 0 ≡ kindByte t = from-byte at file (kindByte t) (h .0 ++ rest) (subst (λ (l : List ℕ). From at file (l ++ rest)) (h .1) f) in
+      let b : getD file at 0 ≡ kindByte (plain t) = from-byte at file (kindByte (plain t)) (h .0 ++ rest) (subst (λ (l : List ℕ). From at file (l ++ rest)) (h .1) f) in
       let other : isRepeat file at ≡ false = nT→false (eqb (getD file at 0) 9) (λ x. (let nine : getD file at 0 ≡ 9 = eqb→eq (getD file at 0) 9 x in omega (arith, h .2, b, nine))) in
       rw (other, step-from (length mesh) (length sizes) k file at t rest r f, c, j) refl
 
@@ -149,6 +150,7 @@ step-few {n} (allSlice Ss) hn hr r e = omega (arith, counts-few n Ss hn e)
 step-few {n} (allGather Gs) hn hr r e = omega (arith, counts-few n Gs hn e)
 step-few {n} (allReduce L) hn hr r e = omega (arith, counts-few n (L ∷ []) hn e, length-append L [])
 step-few {n} (allToAll source target L) hn hr r e = omega (arith, counts-few n (L ∷ []) hn e, length-append L [])
+step-few {n} (reduceScatter Ss) hn hr r e = omega (arith, counts-few n Ss hn e)
 
 -- ---- steps in turn
 

@@ -10,8 +10,8 @@ use lib.Seq.{drop-length}
 use lib.Dec.{T, T-not, ltb, leb, eqb, ltb→lt, nltb→le, leb→le, eqb→eq, eqb-refl, lit<}
 use Rattle.rules.specs.Lists.{tab, pick}
 use Rattle.rules.specs.Mesh.{span, devices, plainOrder}
-use Rattle.rules.specs.Sharding.{Sharding, shardSizes, IsSharding}
-use Rattle.rules.specs.Collectives.{Step, allSlice, allGather, allReduce, allToAll, after}
+use Rattle.rules.specs.Sharding.{divisible, Sharding, shardSizes, IsSharding}
+use Rattle.rules.specs.Collectives.{Step, allSlice, allGather, allReduce, allToAll, reduceScatter, after}
 use Rattle.rules.specs.Limits.{present, mostBytes, leastBytes, mostSteps, mostDevices, mostWords, mostDepth, everyKind}
 use Rattle.rules.specs.Refusals.{Judged, accept, _>>=_, _>>_}
 use Rattle.rules.specs.PlanFile.{
@@ -138,13 +138,16 @@ module _ (mesh sizes : List ℕ) (pos : (a : ℕ) → 0 < getD mesh a 1) where
   rank-is : (s : Sharding) → IsSharding mesh sizes s → length sizes ≡ length (s .dims)
   rank-is s h = both-length _ sizes (s .dims) (h .divides)
 
+  slices-ranked : (Ss : List (List ℕ)) (s : Sharding) → IsSharding mesh sizes s → T (divisible mesh (shardSizes mesh sizes (s .dims)) Ss) → length Ss ≡ length sizes
+  slices-ranked Ss s h d =
+      sym (both-length _ (shardSizes mesh sizes (s .dims)) Ss d) ∙ length-each (λ n d. n / span mesh d) sizes (s .dims) (rank-is s h) ∙ sym (rank-is s h)
+
   step-ranked : (t : Step) (s : Sharding) → IsSharding mesh sizes s → AcceptedStep mesh sizes t s → RankedStep (length sizes) t
-  step-ranked (allSlice Ss) s h f =
-      sym (both-length _ (shardSizes mesh sizes (s .dims)) Ss (f .by-kind .divides)) ∙ length-each (λ n d. n / span mesh d) sizes (s .dims) (rank-is s h)
-      ∙ sym (rank-is s h)
+  step-ranked (allSlice Ss) s h f = slices-ranked Ss s h (f .by-kind .divides)
   step-ranked (allGather Gs) s h f = sym (both-length isTail (s .dims) Gs (f .by-kind .tailed)) ∙ sym (rank-is s h)
   step-ranked (allReduce L) s h f = tt
   step-ranked (allToAll source target L) s h f = tt
+  step-ranked (reduceScatter Ss) s h f = slices-ranked Ss s h (f .by-kind .divides)
 
   pass-ranked : (s : Sharding) (records : List Record) → IsSharding mesh sizes s → Fine mesh sizes s (onePass records) → AllRanked (length sizes) (map known records)
   pass-ranked s [] h f = tt

@@ -11,7 +11,7 @@ use lib.Dec.{T, leb, eqb, lit<}
 use Rattle.rules.specs.Lists.{tab, pick}
 use Rattle.rules.specs.Mesh.{devices}
 use Rattle.rules.specs.Sharding.{Sharding}
-use Rattle.rules.specs.Collectives.{Step, allSlice, allGather, allReduce, allToAll}
+use Rattle.rules.specs.Collectives.{Step, allSlice, allGather, allReduce, allToAll, reduceScatter}
 use Rattle.rules.specs.Limits.{present, mostBytes, leastBytes, mostSteps, mostDevices, mostWords, everyKind}
 use Rattle.rules.specs.Refusals.{Judged, accept, refuse, _>>=_, _>>_, need}
 use Rattle.rules.specs.PlanFile.{
@@ -207,6 +207,7 @@ given-some (known (plain (allSlice Ss))) = omega arith
 given-some (known (plain (allGather Gs))) = omega arith
 given-some (known (plain (allReduce L))) = omega arith
 given-some (known (plain (allToAll source target L))) = omega arith
+given-some (known (plain (reduceScatter Ss))) = omega arith
 given-some (known (repeat count number)) = omega arith
 given-some unknown = omega arith
 

@@ -7,7 +7,7 @@ use lib.Dec.{leb, eqb}
 use Rattle.rules.specs.Lists.{tab, pick, flat}
 use Rattle.rules.specs.Limits.{mostAxes}
 use Rattle.rules.specs.Sharding.{Sharding}
-use Rattle.rules.specs.Collectives.{allSlice, allGather, allReduce, allToAll}
+use Rattle.rules.specs.Collectives.{allSlice, allGather, allReduce, allToAll, reduceScatter}
 use Rattle.rules.specs.PlanFile.{kindOf, Record, plain, repeat}
 use Rattle.rules.specs.Types.{axesOf, fourPlaces}
 use Rattle.rules.specs.declared.Axis.{Axis}
@@ -15,7 +15,7 @@ use Rattle.rules.specs.declared.AxisList.{AxisList}
 use Rattle.rules.specs.declared.DimLists.{DimLists}
 use Rattle.rules.specs.declared.Sharding as code
 use Rattle.rules.specs.declared.Kind.{Kind}
-use Rattle.rules.specs.declared.Kind.the-variants.{AllSlice, AllGather, AllReduce, AllToAll, Unknown}
+use Rattle.rules.specs.declared.Kind.the-variants.{AllSlice, AllGather, AllReduce, AllToAll, ReduceScatter, Unknown}
 use Rattle.rules.specs.declared.Step.{Step}
 use Rattle.records.specs.Records.{Given, known, unknown, Records}
 
@@ -63,6 +63,7 @@ givenKind AllSlice rank t = known (plain (allSlice (dimsGiven rank (t .lists))))
 givenKind AllGather rank t = known (plain (allGather (dimsGiven rank (t .lists))))
 givenKind AllReduce rank t = known (plain (allReduce (listGiven (t .list))))
 givenKind AllToAll rank t = known (plain (allToAll (t .source .0) (t .target .0) (listGiven (t .list))))
+givenKind ReduceScatter rank t = known (plain (reduceScatter (dimsGiven rank (t .lists))))
 givenKind Unknown rank t = unknown
 
 unfoldable pub givenAt : (rank : ℕ) → List ℕ → ℕ → Given
@@ -96,6 +97,7 @@ recordHead (plain (allSlice Ss)) = 1 ∷ 0 ∷ 0 ∷ []
 recordHead (plain (allGather Gs)) = 2 ∷ 0 ∷ 0 ∷ []
 recordHead (plain (allReduce L)) = 3 ∷ 0 ∷ 0 ∷ []
 recordHead (plain (allToAll source target L)) = 4 ∷ source ∷ target ∷ []
+recordHead (plain (reduceScatter Ss)) = 5 ∷ 0 ∷ 0 ∷ []
 recordHead (repeat count number) = 9 ∷ count ∷ number ∷ []
 
 -- the five lists
@@ -104,6 +106,7 @@ recordLists (plain (allSlice Ss)) = fourPlaces [] Ss ++ [] ∷ []
 recordLists (plain (allGather Gs)) = fourPlaces [] Gs ++ [] ∷ []
 recordLists (plain (allReduce L)) = fourPlaces [] [] ++ L ∷ []
 recordLists (plain (allToAll source target L)) = fourPlaces [] [] ++ L ∷ []
+recordLists (plain (reduceScatter Ss)) = fourPlaces [] Ss ++ [] ∷ []
 recordLists (repeat count number) = fourPlaces [] [] ++ [] ∷ []
 
 -- how many axes each has, and the axes, in six places each

@@ -6,7 +6,7 @@ use mathlib.Core.List.{List, [], _∷_}
 use lib.ListN.{length, getD}
 use lib.Dec.{T}
 use Rattle.rules.specs.Mesh.{devices}
-use Rattle.rules.specs.Collectives.{Step, allSlice, allGather, allReduce, allToAll}
+use Rattle.rules.specs.Collectives.{Step, allSlice, allGather, allReduce, allToAll, reduceScatter}
 use Rattle.rules.specs.Limits.{mostBytes}
 use Rattle.rules.specs.Refusals.{accept, refuse}
 use Rattle.rules.specs.PlanFile.{plain, repeat, some, Plan, judge}
@@ -26,6 +26,7 @@ RankedStep rank (allSlice Ss) = length Ss ≡ rank
 RankedStep rank (allGather Gs) = length Gs ≡ rank
 RankedStep rank (allReduce L) = Unit {0}
 RankedStep rank (allToAll source target L) = Unit {0}
+RankedStep rank (reduceScatter Ss) = length Ss ≡ rank
 
 abbrev pub Ranked : ℕ → Given → Type 0
 Ranked rank (known (plain t)) = RankedStep rank t

@@ -6,7 +6,7 @@ use mathlib.Core.List.{List, [], _∷_, _++_, map}
 use lib.ListN.{length, take, replicate}
 use Rattle.rules.specs.Lists.{flat, All, done, _&_}
 use Rattle.rules.specs.Sharding.{Sharding}
-use Rattle.rules.specs.Collectives.{Step, allSlice, allGather, allReduce, allToAll}
+use Rattle.rules.specs.Collectives.{Step, allSlice, allGather, allReduce, allToAll, reduceScatter}
 use Rattle.rules.specs.Refusals.{Judged, accept, refuse}
 use Rattle.rules.specs.PlanFile.{plain, repeat, Plan}
 use Rattle.rules.specs.Ledger.{w1, nines}
@@ -129,6 +129,11 @@ writes =
     0x03 ∷ 0 ∷ 0x03 ∷ 0 ∷ 0x03 ∷ 0 ∷ 0x01 ∷ 0 ∷ 0x12 ∷ 0 ∷ 0x24 ∷ 0 ∷ 0x2a ∷ 0 ∷ 0x31 ∷ 0 ∷ 0x36 ∷ 0 ∷ 3 ∷ 0 ∷ 2 ∷ 0 ∷ 1 ∷ 0
     ∷ 2 ∷ 0 ∷ 4 ∷ 0 ∷ 3 ∷ 0 ∷ 0 ∷ 0 ∷ 5 ∷ 0 ∷ 1 ∷ 0 ∷ 1 ∷ 0 ∷ 4 ∷ 0 ∷ 6 ∷ 0 ∷ 0 ∷ 1 ∷ 1 ∷ 0 ∷ 0 ∷ 1 ∷ 2 ∷ 4 ∷ 1 ∷ 2 ∷ 1 ∷ 1 ∷ []
     )
+    -- a reduce-scatter
+    ∷ writesAs (recordsFor (2 ∷ []) [] (4 ∷ []) (sharding ([] ∷ []) (0 ∷ []) []) (step (reduceScatter ((0 ∷ []) ∷ [])) ∷ [])) (
+    0x01 ∷ 0 ∷ 0x01 ∷ 0 ∷ 0x01 ∷ 0 ∷ 0x01 ∷ 0 ∷ 0x12 ∷ 0 ∷ 0x14 ∷ 0 ∷ 0x16 ∷ 0 ∷ 0x19 ∷ 0 ∷ 0x1c ∷ 0 ∷ 2 ∷ 0 ∷ 4 ∷ 0
+    ∷ 0 ∷ 1 ∷ 0 ∷ 5 ∷ 1 ∷ 0 ∷ []
+    )
     -- sizes past 255, low byte first
     ∷ writesAs (on (0x0102 ∷ []) [] (0x0304 ∷ [])) (
     0x01 ∷ 0 ∷ 0x01 ∷ 0 ∷ 0x01 ∷ 0 ∷ 0x00 ∷ 0 ∷ 0x12 ∷ 0 ∷ 0x14 ∷ 0 ∷ 0x16 ∷ 0 ∷ 0x18 ∷ 0 ∷ 0x18 ∷ 0 ∷ 0x02 ∷ 0x01 ∷ 0x04 ∷ 0x03
@@ -149,7 +154,7 @@ writes =
 
 pub written : All Holds writes
 unfolding writeOf writeLeaves
-written = refl & refl & refl & refl & refl & refl & refl & refl & refl & refl & done
+written = refl & refl & refl & refl & refl & refl & refl & refl & refl & refl & refl & done
 
 -- ---- "Records that the check would refuse get that refusal .., in 01's order."
 
@@ -233,6 +238,10 @@ refusals =
     ∷ refused (small [] (1 ∷ []) [] (step (allReduce (0 ∷ 1 ∷ [])) ∷ [])) 27 1
     ∷ refused (whole (step (allToAll 0 0 (0 ∷ [])) ∷ [])) 28 1
     ∷ refused (whole (step (allToAll 0 2 (0 ∷ [])) ∷ [])) 28 1
+    -- of a reduce-scatter (Ask 5)
+    ∷ refused (small [] (0 ∷ []) [] (step (reduceScatter ((0 ∷ []) ∷ (0 ∷ []) ∷ [])) ∷ [])) 23 1
+    ∷ refused (whole (step (reduceScatter ((0 ∷ []) ∷ [] ∷ [])) ∷ [])) 27 1
+    ∷ refused (small [] (0 ∷ []) [] (step (reduceScatter ([] ∷ (0 ∷ []) ∷ [])) ∷ [])) 25 1
     -- a step is judged before the next is looked at
     ∷ refused (whole (gather ∷ step (allReduce (0 ∷ 1 ∷ 0 ∷ [])) ∷ [])) 24 1
     -- 41 to 44 at the repeat's number, or at the outermost step's; "Inner steps are then read and judged in order."
@@ -263,7 +272,7 @@ refused-as =
     & refl & refl & refl & refl & refl & refl & refl & refl & refl & refl & refl & refl
     & refl & refl & refl & refl & refl & refl & refl & refl & refl & refl & refl & refl
     & refl & refl & refl & refl & refl & refl & refl & refl & refl & refl & refl & refl
-    & refl & refl & refl & refl & refl & done
+    & refl & refl & refl & refl & refl & refl & refl & refl & done
 
 -- ---- what the calls' arguments stand for
 
@@ -309,13 +318,14 @@ forms =
     )
     ∷ given 2 (recordOf 3 77 77 ((0 ∷ []) ∷ (1 ∷ []) ∷ (2 ∷ []) ∷ (3 ∷ []) ∷ (4 ∷ 5 ∷ []) ∷ [])) (step (allReduce (4 ∷ 5 ∷ [])) ∷ [])
     ∷ given 2 (recordOf 4 1 0 ((0 ∷ []) ∷ [] ∷ [] ∷ [] ∷ (4 ∷ 5 ∷ []) ∷ [])) (step (allToAll 1 0 (4 ∷ 5 ∷ [])) ∷ [])
+    ∷ given 2 (recordOf 5 77 77 ((1 ∷ 0 ∷ []) ∷ [] ∷ (3 ∷ []) ∷ (4 ∷ []) ∷ (5 ∷ []) ∷ [])) (step (reduceScatter ((1 ∷ 0 ∷ []) ∷ [] ∷ [])) ∷ [])
     ∷ given 2 (recordOf 9 3 2 ((0 ∷ []) ∷ [] ∷ [] ∷ [] ∷ (4 ∷ 5 ∷ []) ∷ [])) (times 3 2 ∷ [])
     ∷ given 4 (recordOf 1 0 0 ((0 ∷ []) ∷ (1 ∷ []) ∷ (2 ∷ []) ∷ (3 ∷ []) ∷ (4 ∷ []) ∷ [])) (
     step (allSlice ((0 ∷ []) ∷ (1 ∷ []) ∷ (2 ∷ []) ∷ (3 ∷ []) ∷ [])) ∷ []
     )
-    -- the kinds that there are: 1 to 4, and 9
+    -- the kinds that there are: 1 to 5, and 9
     ∷ given 1 (recordOf 0 0 0 (replicate 5 [])) (unknown ∷ [])
-    ∷ given 1 (recordOf 5 0 0 (replicate 5 [])) (unknown ∷ [])
+    ∷ given 1 (recordOf 6 0 0 (replicate 5 [])) (unknown ∷ [])
     ∷ given 1 (recordOf 8 0 0 (replicate 5 [])) (unknown ∷ [])
     ∷ given 1 (recordOf 10 0 0 (replicate 5 [])) (unknown ∷ [])
     -- records in their order; bytes after the last whole one count for nothing
@@ -338,7 +348,7 @@ pub formed : All Holds forms
 unfolding writeOf writeLeaves stepsGiven
 formed =
     refl & refl & refl & refl & refl & refl & refl & refl & refl & refl & refl & refl
-    & refl & refl & refl & refl & refl & refl & refl & refl & refl & done
+    & refl & refl & refl & refl & refl & refl & refl & refl & refl & refl & done
 
 -- ---- plans
 

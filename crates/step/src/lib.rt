@@ -56,8 +56,8 @@ fn scatter(
         (reduceScatter (take (length (now (shape .entry))) (dimsOf lists))) words (now (here .entry)) (now (there .entry)) ⌝ }
 {
     let none = DimLists::empty();
-    let axes = ascending(lists, shape.len(), mesh.len());
-    reduce_in(here, mesh, shape, axes);
+    let along = ascending(lists, shape.len(), mesh.len());
+    reduce_in(here, mesh, shape, along);
     move_into(here, there, mesh, shape, none, lists, words);
 }
 

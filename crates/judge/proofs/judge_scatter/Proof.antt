@@ -69,9 +69,9 @@ judge-scatter-spec =
     let dims = ap (λ (x : Sharding). x .dims) (sym (c .reduced .ensures r)) in (
       g .fits,
       subst (λ (ds : List (List ℕ)). Room ds Ss) dims
-          (scatter-room (meshOf (a .mesh)) (sizesOf (a .table)) (shardingOf r (a .sharding)) (g .sound) (omega (arith, e, g .fits .axes)) Ss
+          (scatter-room (meshOf (a .mesh)) (sizesOf (a .table)) (shardingOf r (a .from)) (g .sound) (omega (arith, e, g .fits .axes)) Ss
           (subst (λ (x : ℕ). T (allBelow x (flat Ss))) (sym e) (s .pre .1)) (rw f tt)
-          (all-owed (meshOf (a .mesh)) (sizesOf (a .table)) (a .k) (a .mesh .n) Ss (shardingOf r (a .sharding)) (s .pre .1) f (c .before .before .before .ascending .ensures) o)),
+          (all-owed (meshOf (a .mesh)) (sizesOf (a .table)) (a .k) (a .mesh .n) Ss (shardingOf r (a .from)) (s .pre .1) f (c .before .before .before .ascending .ensures) o)),
     ))
     (λ c. let j = c .before .before .before .before .before .before .before .before in
     let s = j .before .before in
