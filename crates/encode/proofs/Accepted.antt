@@ -1,7 +1,7 @@
 -- RECORDS THAT THE WRITER'S JUDGEMENT ACCEPTS CAN BE WRITTEN (`accepted-encodable`): every list that passes 8 has no more axes than there are places.
 -- Assumes nothing.
 use Prim.Native.Nat.{ℕ, zero, suc, _+_, _*_, _≤_}
-use mathlib.Core.Bool.{Bool, true, false, _&&_}
+use mathlib.Core.Bool.{Bool, true, false}
 use mathlib.Core.Path.{_≡_, refl, sym, ap, subst}
 use mathlib.Core.List.{List, [], _∷_, _++_, map}
 use native.Mathlib.Omega.{arith}
@@ -44,7 +44,7 @@ use Rattle.rules.specs.PlanFile.{
 use Rattle.rules.specs.declared.DimLists.{DimLists}
 use Rattle.rules.specs.declared.Sharding as code
 use Rattle.rules.specs.declared.Kind.{Kind}
-use Rattle.rules.specs.declared.Kind.the-variants.{AllSlice, AllGather, AllReduce, AllToAll, Unknown}
+use Rattle.rules.specs.declared.Kind.the-variants.{AllSlice, AllGather, AllReduce, AllToAll, ReduceScatter, Unknown}
 use Rattle.rules.specs.declared.Step as records
 use Rattle.rules.proofs.Lists.{T-and, getD-tab}
 use Rattle.rules.proofs.Judging.{never, accept-inj, need-inv, then-inv, bind-inv}
@@ -119,6 +119,9 @@ module _ (mesh sizes file : List ℕ) (few : length mesh ≤ mostAxes) where
       let q = need-inv 0 (leb (at + 2) (length file)) 7 _ t e in
       let a = bind-inv (listAt (length mesh) file (at + 2)) _ t (q .1) in
       subst (λ (r : Read Step). ShortStep (r .value)) (accept-inj (a .2)) (list-short (at + 2) (a .0) (a .1))
+  kind-short rank k at ReduceScatter t e =
+      let a = bind-inv (listsAt (length mesh) rank file at) _ t e in
+      subst (λ (r : Read Step). ShortStep (r .value)) (accept-inj (a .2)) (lists-short rank at (a .0) (a .1))
   kind-short rank k at Unknown t e = absurd (never e)
 
   step-short : (rank k at : ℕ) (t : Read Step) → stepAt (length mesh) rank k file at ≡ accept t → ShortStep (t .value)
@@ -157,19 +160,19 @@ module _ (mesh sizes file : List ℕ) (few : length mesh ≤ mostAxes) where
   by-short false inner g k at s w e = plain-short k at s w e
   by-short true inner g k at s w e = repeat-short inner g k at s w e
 
-  item-short : (repeats : Bool) (depth : ℕ) → Shortens (itemAt repeats mesh sizes file depth)
+  item-short : (kinds : ℕ → Bool) (depth : ℕ) → Shortens (itemAt kinds mesh sizes file depth)
   unfolding itemAt
-  item-short repeats zero k at s w e =
-      by-short (repeats && isRepeat file at) (tooDeep k) (λ count k′ at′ s′ w′ e′. absurd (never e′)) k at s w e
-  item-short repeats (suc depth) k at s w e =
-      by-short (repeats && isRepeat file at) (stepsAt (itemAt repeats mesh sizes file depth))
-      (steps-short (itemAt repeats mesh sizes file depth) (item-short repeats depth)) k at s w e
+  item-short kinds zero k at s w e =
+      by-short (isRepeat file at) (tooDeep k) (λ count k′ at′ s′ w′ e′. absurd (never e′)) k at s w (need-inv k (kinds (getD file at 0)) 20 _ w e .1)
+  item-short kinds (suc depth) k at s w e =
+      by-short (isRepeat file at) (stepsAt (itemAt kinds mesh sizes file depth))
+      (steps-short (itemAt kinds mesh sizes file depth) (item-short kinds depth)) k at s w (need-inv k (kinds (getD file at 0)) 20 _ w e .1)
 
-  outermost-short : (repeats : Bool) (ran count k at : ℕ) (s : Sharding) (o : Outermost) → outermostAt repeats mesh sizes file ran count k at s ≡ accept o
+  outermost-short : (kinds : ℕ → Bool) (ran count k at : ℕ) (s : Sharding) (o : Outermost) → outermostAt kinds mesh sizes file ran count k at s ≡ accept o
       → ShortRecords (o .records)
-  outermost-short repeats ran count k at s o e =
-      steps-short (itemAt repeats mesh sizes file mostDepth) (item-short repeats mostDepth) count k at s (readBy mesh sizes file s o)
-      (outermost-steps mesh sizes file repeats ran count k at s o e)
+  outermost-short kinds ran count k at s o e =
+      steps-short (itemAt kinds mesh sizes file mostDepth) (item-short kinds mostDepth) count k at s (readBy mesh sizes file s o)
+      (outermost-steps mesh sizes file kinds ran count k at s o e)
 
 -- ---- records have a list for each dimension
 
@@ -183,6 +186,7 @@ module _ (rank : ℕ) (few : rank ≤ mostDims) where
   kind-ranked AllGather t e = dims-ranked (t .lists) e
   kind-ranked AllReduce t e = tt
   kind-ranked AllToAll t e = tt
+  kind-ranked ReduceScatter t e = dims-ranked (t .lists) e
   kind-ranked Unknown t e = tt
 
   record-ranked : (bytes : List ℕ) (at : ℕ) → Ranked rank (givenAt rank bytes at)
@@ -271,7 +275,7 @@ accepted-encodable mesh order sizes start bytes p e =
     let g : r .steps ≡ map known (ts .0 .records) =
     all-given mesh sizes (stepsBytes (r .steps)) everyKind 0 1 0 (r .start) (r .steps) (ts .0) (given-ranked (length sizes) (o .rank) bytes)
     (from-all (stepsBytes (r .steps))) (ts .1) .0 in
-    let short = outermost-short mesh sizes (stepsBytes (r .steps)) (o .axes) true 0 (outermost (r .steps)) 1 0 (r .start) (ts .0) (ts .1) in (
+    let short = outermost-short mesh sizes (stepsBytes (r .steps)) (o .axes) everyKind 0 (outermost (r .steps)) 1 0 (r .start) (ts .0) (ts .1) in (
       record {
         axes = o .axes;
         devices = o .order;

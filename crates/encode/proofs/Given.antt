@@ -16,7 +16,7 @@ use Rattle.rules.specs.declared.AxisList.{AxisList}
 use Rattle.rules.specs.declared.DimLists.{DimLists}
 use Rattle.rules.specs.declared.Sharding as code
 use Rattle.rules.specs.declared.Kind.{Kind}
-use Rattle.rules.specs.declared.Kind.the-variants.{AllSlice, AllGather, AllReduce, AllToAll, Unknown}
+use Rattle.rules.specs.declared.Kind.the-variants.{AllSlice, AllGather, AllReduce, AllToAll, ReduceScatter, Unknown}
 use Rattle.rules.specs.declared.Step.{Step}
 use Rattle.rules.proofs.Lists.{nT→false}
 use Rattle.records.specs.Records.{Given, known, listBytes, listsBytes, replicatedBytes, shardingBytes, stepBytes, givenBytes, stepsBytes}
@@ -137,6 +137,7 @@ module _ (rank : ℕ) (bytes : List ℕ) (from : ℕ) where
   kind-few AllGather t h f = omega (arith, lists-few rank (t .lists) h f)
   kind-few AllReduce t h f = omega (arith, f)
   kind-few AllToAll t h f = omega (arith, f)
+  kind-few ReduceScatter t h f = omega (arith, lists-few rank (t .lists) h f)
   kind-few Unknown t h f = omega arith
 
   -- a record by whether it is a repeat

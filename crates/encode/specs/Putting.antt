@@ -7,7 +7,7 @@ use lib.ListN.{length, getD}
 use lib.Seq.{sets}
 use Rattle.rules.specs.Limits.{mostAxes, mostDevices, mostDims, mostSteps, leastBytes, mostBytes}
 use Rattle.rules.specs.Sharding.{Sharding}
-use Rattle.rules.specs.Collectives.{Step, allSlice, allGather, allReduce, allToAll}
+use Rattle.rules.specs.Collectives.{Step, allSlice, allGather, allReduce, allToAll, reduceScatter}
 use Rattle.rules.specs.PlanFile.{plain, repeat}
 use Rattle.rules.specs.declared.Sharding as code
 use Rattle.records.specs.Records.{Given, known, unknown, u16sBytes, shardingBytes, outermost, fileLength}
@@ -40,6 +40,7 @@ ShortStep (allSlice Ss) = ShortLists Ss
 ShortStep (allGather Gs) = ShortLists Gs
 ShortStep (allReduce L) = length L ≤ mostAxes
 ShortStep (allToAll source target L) = length L ≤ mostAxes
+ShortStep (reduceScatter Ss) = ShortLists Ss
 
 abbrev pub ShortGiven : Given → Type 0
 ShortGiven (known (plain t)) = ShortStep t

@@ -184,6 +184,7 @@ fn put_step(out: &mut [u8], at: usize, step: Step, rank: usize) -> usize
         Kind::AllGather => put_per_dim(out, at, 2, lists, rank),
         Kind::AllReduce => put_reduce(out, at, list),
         Kind::AllToAll => put_to_all(out, at, step.source, step.target, list),
+        Kind::ReduceScatter => put_per_dim(out, at, 5, lists, rank),
         Kind::Unknown => put_byte(out, at, 0),
     }
 }

@@ -16,7 +16,7 @@ use Rattle.rules.specs.Collectives as rules
 use Rattle.rules.specs.PlanFile.{kindOf, plain, repeat, StepsRead, judgeStep, plainAt, isRepeat}
 use Rattle.rules.specs.Types.{ofKind, stepOf}
 use Rattle.rules.specs.declared.Kind.{Kind}
-use Rattle.rules.specs.declared.Kind.the-variants.{AllSlice, AllGather, AllReduce, AllToAll, Unknown}
+use Rattle.rules.specs.declared.Kind.the-variants.{AllSlice, AllGather, AllReduce, AllToAll, ReduceScatter, Unknown}
 use Rattle.rules.specs.declared.Step.{Step}
 use Rattle.rules.proofs.Lists.{T-and}
 use Rattle.records.specs.Records.{Given, known, stepsBytes}
@@ -68,6 +68,7 @@ module _ (rank : ℕ) (h : rank ≤ mostDims) where
   kind-ranked AllGather bytes at = sym (dims-length rank (stepRecord bytes at .lists) refl h)
   kind-ranked AllReduce bytes at = tt
   kind-ranked AllToAll bytes at = tt
+  kind-ranked ReduceScatter bytes at = sym (dims-length rank (stepRecord bytes at .lists) refl h)
   kind-ranked Unknown bytes at = tt
 
   given-ranked : (bytes : List ℕ) (at : ℕ) → Ranked rank (givenAt rank bytes at)
@@ -99,6 +100,7 @@ stepGiven AllSlice rank t = rules.allSlice (dimsGiven rank (t .lists))
 stepGiven AllGather rank t = rules.allGather (dimsGiven rank (t .lists))
 stepGiven AllReduce rank t = rules.allReduce (listGiven (t .list))
 stepGiven AllToAll rank t = rules.allToAll (t .source .0) (t .target .0) (listGiven (t .list))
+stepGiven ReduceScatter rank t = rules.reduceScatter (dimsGiven rank (t .lists))
 stepGiven Unknown rank t = rules.allReduce []
 
 -- one that passes 8 is the step of its places
@@ -111,6 +113,7 @@ step-fits n k rank AllReduce t h e =
 step-fits n k rank AllToAll t h e =
     let p = counts-inv n (listGiven (t .list)) [] e in
     ap (λ (l : List ℕ). rules.allToAll (t .source .0) (t .target .0) l) (list-fits (t .list) (omega (arith, p .0)))
+step-fits n k rank ReduceScatter t h e = ap (λ (l : List (List ℕ)). rules.reduceScatter l) (lists-fit n rank (t .lists) h e)
 step-fits n k rank Unknown t h e = refl
 
 module _ (mesh sizes : List ℕ) (rank : ℕ) (rank-is : length sizes ≡ rank) (few : rank ≤ mostDims) (steps : List ℕ) (i : ℕ) where
@@ -136,6 +139,7 @@ module _ (mesh sizes : List ℕ) (rank : ℕ) (rank-is : length sizes ≡ rank) 
       of-kind AllToAll rest d r =
           let u = stepRecord steps (recordBytes * i) in
           read-plain mesh sizes gs i (rules.allToAll (u .source .0) (u .target .0) (listGiven (u .list))) rest d tt .0
+      of-kind ReduceScatter rest d r = read-plain mesh sizes gs i (rules.reduceScatter (dimsGiven rank (stepRecord steps (recordBytes * i) .lists))) rest d (r ∙ sym rank-is) .0
       of-kind Unknown rest d r = read-unknown mesh sizes gs i rest d .0
 
       go : Dec (i < recordCount steps) → isRepeat (stepsBytes gs) (placeOf gs i) ≡ false
@@ -181,6 +185,7 @@ module _ (mesh sizes : List ℕ) (rank : ℕ) (rank-is : length sizes ≡ rank) 
         go AllGather d r = read-plain mesh sizes gs i (stepGiven AllGather rank t) (drop (i + 1) gs) d (ranked AllGather r) .1 (i + 1) s
         go AllReduce d r = read-plain mesh sizes gs i (stepGiven AllReduce rank t) (drop (i + 1) gs) d (ranked AllReduce r) .1 (i + 1) s
         go AllToAll d r = read-plain mesh sizes gs i (stepGiven AllToAll rank t) (drop (i + 1) gs) d (ranked AllToAll r) .1 (i + 1) s
+        go ReduceScatter d r = read-plain mesh sizes gs i (stepGiven ReduceScatter rank t) (drop (i + 1) gs) d (ranked ReduceScatter r) .1 (i + 1) s
         go Unknown d r = read-unknown mesh sizes gs i (drop (i + 1) gs) d .1 (i + 1) s
 
     module _ (n : ℕ) (n-is : length mesh ≡ n) (n-few : n ≤ mostAxes) (u : Step) (u-is : u ≡ t) where

@@ -56,6 +56,7 @@ listsIn (rules.allSlice Ss) = Ss
 listsIn (rules.allGather Gs) = Gs
 listsIn (rules.allReduce L) = L ∷ []
 listsIn (rules.allToAll source target L) = L ∷ []
+listsIn (rules.reduceScatter Ss) = Ss
 
 -- what is judged of a record with number k before its step is: 20, and 8 over its lists
 abbrev pub judgeForm : (n k : ℕ) → Given → Judged (Unit {0})

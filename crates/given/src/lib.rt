@@ -220,6 +220,7 @@ fn judge_form(step: Step, k: u16, rank: usize, n: usize) -> Verdict
         Kind::AllGather => judge_counts(step.lists, rank, n),
         Kind::AllReduce => judge_count(step.list, n),
         Kind::AllToAll => judge_count(step.list, n),
+        Kind::ReduceScatter => judge_counts(step.lists, rank, n),
         Kind::Unknown => refused(Reason::UnknownKind, k),
     }
 }
