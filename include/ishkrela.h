@@ -4,8 +4,9 @@
  * most 65,536 words of 32 bits) is spread over it: each dimension is split along some of the axes.
  * How it is spread is its sharding. A plan is a small file that names the mesh's sizes, the
  * table's sizes, the sharding at the start, and up to 64 steps that change it: all-slice,
- * all-gather, all-reduce (by sum) and all-to-all, and repeats of blocks of steps. State 0 is the
- * start, state k is after the k-th of these steps, where a repeat with all that is in it is one.
+ * all-gather, all-reduce (by sum), all-to-all and reduce-scatter, and repeats of blocks of steps.
+ * State 0 is the start, state k is after the k-th of these steps, where a repeat with all that is in
+ * it is one.
  *
  * These calls judge a plan, say where its shards lie, run it, and list device groups. Their code is
  * proved to answer what the rules define on every input: any bytes may be handed over, nothing
@@ -49,6 +50,7 @@
  *                    1 all-slice, 2 all-gather   a list for each dimension
  *                    3 all-reduce                one list
  *                    4 all-to-all                source dimension, target dimension (bytes), one list
+ *                    5 reduce-scatter            a list for each dimension
  *                    9 repeat                    count, number of inner steps (bytes), these steps
  *
  * A list is a count byte and that many axis bytes. A plan has one file: its edition is 3 where its
@@ -57,7 +59,7 @@
  * them, test by test.
  *
  *
- * THE FOUR STEPS
+ * THE FIVE STEPS
  *
  * Numbers in parentheses are refusals. Every step names at least one axis (21), and axes of the
  * mesh alone (22). No step changes the replicated list. docs/COLLECTIVES.md draws each step before
@@ -76,6 +78,11 @@
  * all-to-all  moves a split from a source dimension to another, the target (28). Its one list is
  *             gathered off the source (24) and then sliced on the target (25), as one step: there
  *             is no state between, and no room is needed for one
+ * reduce-scatter
+ *             adds and splits. It has a list for each dimension, of unreduced axes (27), each named
+ *             once in the step (23). It is an all-reduce along all of them and then the all-slice
+ *             with its lists (25), as one step: the axes leave the unreduced list and join the ends of
+ *             their dimensions' lists
  *
  *
  * REPEATS
@@ -83,7 +90,7 @@
  * A repeat runs a block, its inner steps, as often as its count says: 1 to 255 times (44), a block of
  * 1 to 255 steps (44). These may be repeats themselves, down to depth 4 (42); an outermost repeat has
  * depth 1. After the block the sharding is the one before it, list for list (41). A plan runs at most
- * 4,096 plain steps, the four above, each counted as often as it is run (43). State numbers and the
+ * 4,096 plain steps, the five above, each counted as often as it is run (43). State numbers and the
  * numbers of steps in the header and in the check's answer count outermost steps alone.
  *
  *
@@ -113,11 +120,12 @@
  *     19  the order is no rearrangement of 0 to D-1, or it is the plain one
  *     20  unknown kind of step                21  a step names no axis
  *     22  step: no such axis
- *     23  all-slice: the axis is in a list of the sharding, or was named earlier in this step
+ *     23  all-slice: the axis is in a list of the sharding, or was named earlier in this step;
+ *         reduce-scatter: it was named earlier in this step
  *     24  the gathered list is not the tail of the dimension's list
  *     25  a dimension's shard size is not divisible
  *     26  all-reduce: list not strictly increasing
- *     27  all-reduce: an axis is not unreduced
+ *     27  all-reduce, reduce-scatter: an axis is not unreduced
  *     28  all-to-all: source or target is no dimension, or they are equal
  *     30  work is shorter than the room       31  spare is shorter than the room
  *     32  no such device                      34  no such state

@@ -52,7 +52,7 @@ from dataclasses import dataclass
 from typing import Any, Iterable, Iterator, List, Optional, Sequence, Tuple, Union
 
 __all__ = [
-    "AllGather", "AllReduce", "AllSlice", "AllToAll", "Checked", "Placed", "Refused", "Repeat", "Sharding",
+    "AllGather", "AllReduce", "AllSlice", "AllToAll", "Checked", "Placed", "ReduceScatter", "Refused", "Repeat", "Sharding",
     "check", "groups", "moved", "picture", "place", "plan_file", "run", "spread",
 ]
 
@@ -83,11 +83,12 @@ TEXTS = {
     20: "unknown kind of step",
     21: "a step names no axis",
     22: "step: no such axis",
-    23: "all-slice: the axis is in a list of the sharding, or was named earlier in this step",
+    23: "all-slice: the axis is in a list of the sharding, or was named earlier in this step; "
+        "reduce-scatter: it was named earlier in this step",
     24: "the gathered list is not the tail of the dimension's list",
     25: "a dimension's shard size is not divisible",
     26: "all-reduce: list not strictly increasing",
-    27: "all-reduce: an axis is not unreduced",
+    27: "all-reduce, reduce-scatter: an axis is not unreduced",
     28: "all-to-all: source or target is no dimension, or they are equal",
     30: "work is shorter than the room",
     31: "spare is shorter than the room",
@@ -271,6 +272,19 @@ class AllToAll:
 
 
 @dataclass(frozen=True)
+class ReduceScatter:
+    """Adds the shards along unreduced axes, and splits each dimension further along them: a list for each dimension."""
+
+    lists: Lists
+
+    def __post_init__(self) -> None:
+        _keep(self, lists=_tuples(self.lists))
+
+    def encode(self) -> bytes:
+        return b"\5" + _lists(self.lists)
+
+
+@dataclass(frozen=True)
 class Repeat:
     """Runs a block of steps so many times, up to 255. The block has up to 255 steps, which may be repeats themselves
     down to depth 4, and ends in the sharding that it begins with."""
@@ -285,7 +299,7 @@ class Repeat:
         return b"\x09" + _bytes([self.count, len(self.steps)]) + b"".join(step.encode() for step in self.steps)
 
 
-Step = Union[AllSlice, AllGather, AllReduce, AllToAll, Repeat]
+Step = Union[AllSlice, AllGather, AllReduce, AllToAll, ReduceScatter, Repeat]
 
 
 def plan_file(
@@ -310,7 +324,7 @@ def plan_file(
             raise ValueError(f"edition {edition} has no place for {part}: leave the edition out, or {part}")
     _count_lists("the sharding", start.dims, len(table))
     for number, step in enumerate(_in_file_order(steps), 1):
-        if isinstance(step, (AllSlice, AllGather)):
+        if isinstance(step, (AllSlice, AllGather, ReduceScatter)):
             _count_lists(f"step {number}, {type(step).__name__},", step.lists, len(table))
     sections = [
         _numbers(mesh + order),

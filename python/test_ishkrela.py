@@ -17,7 +17,7 @@ import typing
 import unittest
 
 import ishkrela
-from ishkrela import AllGather, AllReduce, AllSlice, AllToAll, Refused, Repeat, Sharding
+from ishkrela import AllGather, AllReduce, AllSlice, AllToAll, ReduceScatter, Refused, Repeat, Sharding
 from ishkrela import check, groups, moved, picture, place, plan_file, run, spread
 
 W1 = bytes.fromhex("0100020002000100120016001a001f002300" "02000200" "04000400" "0100010100" "02000101")
@@ -89,6 +89,17 @@ class Worked(Case):
     def test_w8_rows_to_columns(self):
         file = plan_file([2], [2, 2], Sharding([[0], []]), [AllToAll(0, 1, [0])])
         self.assertEqual(moved(file, [1, 2, 3, 4]), [1, 3, 2, 4])
+
+    def test_reduce_scatter_as_000_draws_it(self):
+        file = plan_file([2], [4], Sharding([[]], [0]), [ReduceScatter([[0]])])
+        self.assertEqual(moved(file, [1, 2, 3, 4, 5, 6, 7, 8]), [6, 8, 10, 12])
+        self.assertEqual(check(file).sharding, Sharding([[0]]))
+
+    def test_reduce_scatter_refused(self):
+        for number, table, unreduced, axes in ((21, 4, [0, 1], []), (22, 4, [0, 1], [2]), (23, 4, [0, 1], [0, 0]),
+                                               (23, 4, [], [1, 1]), (27, 4, [0], [1]), (27, 3, [0], [1]), (25, 3, [0], [0])):
+            file = plan_file([2, 2], [table], Sharding([[]], unreduced), [ReduceScatter([axes])])
+            self.assertRefused(number, 1, check, file)
 
     def test_w9_divides(self):
         self.assertRefused(17, 0, check, plan_file([4], [6], Sharding([[0]])))
@@ -530,6 +541,7 @@ class Given(Case):
             (Sharding([[0]]), [], "the sharding has 1 list for a table of 2 dimensions"),
             (Sharding([[0], [1], []]), [], "the sharding has 3 lists"),
             (both, [AllGather([[]])], "step 1, AllGather, has 1 list"),
+            (both, [ReduceScatter([[]])], "step 1, ReduceScatter, has 1 list"),
             (both, [AllGather([[], [1]]), AllSlice([])], "step 2, AllSlice, has 0 lists"),
             (both, [Repeat(2, [AllReduce([0]), AllSlice([[]])])], "step 3, AllSlice, has 1 list"),
             (both, [Repeat(2, [Repeat(2, [AllReduce([0])])]), AllGather([[]])], "step 4, AllGather, has 1 list"),
@@ -562,11 +574,12 @@ class Given(Case):
         self.assertEqual(moved(w4(), bytes([4, 3, 2, 1])), [4, 3, 2, 1])
 
     def test_steps_are_values(self):
-        steps = [AllSlice([[], [1]]), AllGather([[], [1]]), AllReduce([0]), AllToAll(0, 1, [0])]
-        again = [AllSlice(((), (1,))), AllGather([(), [1]]), AllReduce((0,)), AllToAll(0, 1, iter([0]))]
+        steps = [AllSlice([[], [1]]), AllGather([[], [1]]), AllReduce([0]), AllToAll(0, 1, [0]), ReduceScatter([[], [1]])]
+        again = [AllSlice(((), (1,))), AllGather([(), [1]]), AllReduce((0,)), AllToAll(0, 1, iter([0])),
+                 ReduceScatter(((), iter([1])))]
         steps, again = [*steps, Repeat(2, steps)], [*again, Repeat(2, iter(again))]
         self.assertEqual(steps, again)
-        self.assertEqual(len({*steps, *again}), 5)
+        self.assertEqual(len({*steps, *again}), 6)
         self.assertEqual(Sharding([[0], []]), Sharding(((0,), ()), [], iter([])))
         self.assertEqual(eval(repr(steps)), steps)
 

@@ -26,6 +26,7 @@ pub enum StepRecord {
     Gather(Lists),
     Reduce(Vec<Axis>),
     AllToAll(Dim, Dim, Vec<Axis>),
+    Scatter(Lists),
     /// A block that is run `count` times; its `steps` steps are the records behind it.
     Repeat {
         count: u8,
@@ -47,7 +48,9 @@ impl StepRecord {
     /// All its axes in file order.
     pub fn axes(&self) -> Vec<Axis> {
         match self {
-            StepRecord::Slice(lists) | StepRecord::Gather(lists) => lists.concat(),
+            StepRecord::Slice(lists) | StepRecord::Gather(lists) | StepRecord::Scatter(lists) => {
+                lists.concat()
+            }
             StepRecord::Reduce(axes) | StepRecord::AllToAll(_, _, axes) => axes.clone(),
             StepRecord::Repeat { .. } | StepRecord::Unknown(_) => Vec::new(),
         }
@@ -87,6 +90,7 @@ fn flatten(step: &Step, records: &mut Vec<StepRecord>) {
         Step::AllToAll(source, target, axes) => {
             StepRecord::AllToAll(*source, *target, axes.clone())
         }
+        Step::Scatter(lists) => StepRecord::Scatter(lists.clone()),
         Step::Repeat(count, block) => StepRecord::Repeat {
             count: *count,
             steps: block.len() as u8,

@@ -1,5 +1,5 @@
-//! Document 01 with the limits, the editions and the repeats of document 02 in plain Rust, written
-//! from these documents alone. `records` has its writer and its planner.
+//! Document 01 with the limits, the editions, the repeats and the reduce-scatters of document 02 in
+//! plain Rust, written from these documents alone. `records` has its writer and its planner.
 //!
 //! A file is judged into a `Plan`, which holds the state after every outermost step. The calls read
 //! their answers off the plan. A run moves the words between the two lent buffers, step by step; the
@@ -538,6 +538,7 @@ impl Source for Reader<'_> {
                 target: Dim(self.byte()?),
                 axes: self.list(axes)?,
             },
+            5 => Step::Scatter(self.lists(axes, rank)?),
             _ => return Ok(None),
         };
         Ok(Some(step))
@@ -755,6 +756,25 @@ impl State {
         Ok(next)
     }
 
+    fn scattered(&self, mesh: &Mesh, lists: &DimLists) -> Result<State, u8> {
+        let named: Vec<Axis> = lists.iter().flatten().copied().collect();
+        if (1..named.len()).any(|at| named[..at].contains(&named[at])) {
+            return Err(23);
+        }
+        let unreduced = self.sharding.unreduced;
+        if named.iter().any(|axis| !unreduced.contains(axis)) {
+            return Err(27);
+        }
+        let mut next = *self;
+        next.shard = divided(mesh, &self.shard, lists).ok_or(25)?;
+        let kept = unreduced.iter().filter(|axis| !named.contains(axis));
+        next.sharding.unreduced = kept.copied().collect();
+        for (dim, list) in next.sharding.dims.iter_mut().zip(lists) {
+            dim.extend(list);
+        }
+        Ok(next)
+    }
+
     fn gathered(&self, mesh: &Mesh, lists: &DimLists) -> Result<State, u8> {
         let mut next = *self;
         for (dim, list) in next.sharding.dims.iter_mut().zip(lists) {
@@ -806,13 +826,15 @@ enum Step {
         target: Dim,
         axes: AxisList,
     },
+    /// A reduction along all its axes, and then a slice.
+    Scatter(DimLists),
 }
 
 impl Step {
     /// All axes of the step, in file order.
     fn axes(&self) -> &[AxisList] {
         match self {
-            Step::Slice(lists) | Step::Gather(lists) => lists,
+            Step::Slice(lists) | Step::Gather(lists) | Step::Scatter(lists) => lists,
             Step::Reduce(axes) | Step::AllToAll { axes, .. } => std::slice::from_ref(axes),
         }
     }
@@ -838,6 +860,7 @@ impl Step {
                 let (gathered, sliced) = self.movement(rank);
                 state.gathered(mesh, &gathered)?.sliced(mesh, &sliced)
             }
+            Step::Scatter(lists) => state.scattered(mesh, lists),
         }
     }
 
@@ -846,7 +869,7 @@ impl Step {
         let none: DimLists = (0..rank).map(|_| AxisList::new()).collect();
         let (mut gathered, mut sliced) = (none, none);
         match self {
-            Step::Slice(lists) => sliced = *lists,
+            Step::Slice(lists) | Step::Scatter(lists) => sliced = *lists,
             Step::Gather(lists) => gathered = *lists,
             Step::Reduce(_) => {}
             Step::AllToAll {
@@ -865,18 +888,28 @@ impl Step {
     fn apply(&self, mesh: &Mesh, before: &State, after: &State, old: &[u32], new: &mut [u32]) {
         match self {
             Step::Reduce(axes) => reduce(mesh, axes, before.words(), old, new),
-            _ => {
-                let (gathered, sliced) = self.movement(before.shard.len());
-                let moved = Move {
-                    mesh,
-                    before,
-                    after,
-                    gathered,
-                    sliced,
-                };
-                moved.apply(old, new);
+            Step::Scatter(lists) => {
+                let mut axes: Vec<Axis> = lists.iter().flatten().copied().collect();
+                axes.sort();
+                let mut sums = vec![0; mesh.devices * before.words()];
+                reduce(mesh, &axes, before.words(), old, &mut sums);
+                self.moves(mesh, before, after, &sums, new);
             }
+            _ => self.moves(mesh, before, after, old, new),
         }
+    }
+
+    /// Gathers and slices.
+    fn moves(&self, mesh: &Mesh, before: &State, after: &State, old: &[u32], new: &mut [u32]) {
+        let (gathered, sliced) = self.movement(before.shard.len());
+        let moved = Move {
+            mesh,
+            before,
+            after,
+            gathered,
+            sliced,
+        };
+        moved.apply(old, new);
     }
 }
 

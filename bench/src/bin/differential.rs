@@ -56,7 +56,7 @@ struct Tally {
     runs_at_a_limit: usize,
     runs_at_most_room: usize,
     /// Slices, gathers, reductions, all-to-alls.
-    steps: [usize; 4],
+    steps: [usize; 5],
     longer_buffers: usize,
     refused_runs: usize,
     faithful: usize,
@@ -96,6 +96,7 @@ impl Tally {
                 Step::Gather(_) => self.steps[1] += 1,
                 Step::Reduce(_) => self.steps[2] += 1,
                 Step::AllToAll(..) => self.steps[3] += 1,
+                Step::Scatter(_) => self.steps[4] += 1,
                 Step::Repeat(..) | Step::Bytes(_) => {}
             }
         }
@@ -673,7 +674,7 @@ fn is_cleared(layout: &Layout, work: &[u32], spare: &[u32]) -> bool {
 impl fmt::Display for Tally {
     fn fmt(&self, f: &mut fmt::Formatter) -> fmt::Result {
         let files = self.accepted + self.broken + self.damaged + self.limits;
-        let [slices, gathers, reductions, all_to_alls] = self.steps;
+        let [slices, gathers, reductions, all_to_alls, scatters] = self.steps;
         writeln!(f, "{files} files checked")?;
         writeln!(f, "    {} accepted", self.accepted)?;
         writeln!(f, "    {} broken in a chosen way", self.broken)?;
@@ -719,7 +720,10 @@ impl fmt::Display for Tally {
             "    {repeats} with repeats, {most} of {MOST_RUN} plain steps"
         )?;
         writeln!(f, "    {slices} slices, {gathers} gathers")?;
-        writeln!(f, "    {reductions} reductions, {all_to_alls} all-to-alls")?;
+        writeln!(
+            f,
+            "    {reductions} reductions, {all_to_alls} all-to-alls, {scatters} reduce-scatters"
+        )?;
         let any = self.runs - self.faithful;
         let (refused, longer) = (self.refused_runs, self.longer_buffers);
         writeln!(

@@ -415,11 +415,12 @@ fn json_step(step: &Json) -> Option<StepRecord> {
             let (source, target) = (dim(source)?, dim(target)?);
             Some(StepRecord::AllToAll(source, target, json_axes(axes)?))
         }
+        (5, [lists]) => Some(StepRecord::Scatter(lists.list(json_axes)?)),
         (9, [count, steps]) => {
             let (count, steps) = (count.number()?, steps.number()?);
             Some(StepRecord::Repeat { count, steps })
         }
-        (1..=4 | 9, _) => None,
+        (1..=5 | 9, _) => None,
         _ => Some(StepRecord::Unknown(kind)),
     }
 }
