@@ -120,8 +120,7 @@
  *     19  the order is no rearrangement of 0 to D-1, or it is the plain one
  *     20  unknown kind of step                21  a step names no axis
  *     22  step: no such axis
- *     23  all-slice: the axis is in a list of the sharding, or was named earlier in this step;
- *         reduce-scatter: it was named earlier in this step
+ *     23  an axis was named earlier in this step or, by an all-slice, is in a list of the sharding
  *     24  the gathered list is not the tail of the dimension's list
  *     25  a dimension's shard size is not divisible
  *     26  all-reduce: list not strictly increasing
