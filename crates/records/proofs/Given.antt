@@ -1,7 +1,7 @@
 -- Steps read from the bytes of records are these records, all of them where as many outermost ones are read as there are (`all-given`). Assumes nothing.
 use Prim.Native.Nat.{ℕ, zero, suc, _+_, _<_, _≤_}
 use mathlib.Core.Path.{_≡_, refl, sym, ap, ap₂, _∙_, subst}
-use mathlib.Core.Bool.{Bool, true, false, _&&_}
+use mathlib.Core.Bool.{Bool, true, false}
 use mathlib.Core.List.{List, [], _∷_, _++_, map, append-assoc, append-nil}
 use native.Mathlib.Omega.{arith}
 use lib.ListN.{length, getD, length-append}
@@ -35,7 +35,7 @@ use Rattle.rules.specs.PlanFile.{
   outermostAt,
 }
 use Rattle.rules.specs.declared.Kind.the-variants.{Unknown}
-use Rattle.rules.proofs.Lists.{T-and, T→true}
+use Rattle.rules.proofs.Lists.{T→true}
 use Rattle.rules.proofs.Judging.{never, accept-inj, need-inv, then-inv, bind-inv}
 use Rattle.rules.proofs.Repeats.{IsRepeat, repeat-inv, positive-inv, readBy, outermost-steps}
 use Rattle.records.specs.Records.{Given, known, unknown, outermostFrom, outermost, stepBytes, givenBytes, stepsBytes}

@@ -2,7 +2,7 @@
 use Prim.Native.Nat.{ℕ, zero, suc, _+_, _*_, _/_, _%_, _≤_, _<_}
 use mathlib.Core.Path.{_≡_, refl, sym, ap, ap₂, _∙_, subst}
 use mathlib.Core.Logic.{_⊎_, inl, inr, ⊎-elim}
-use mathlib.Core.Bool.{Bool, true, false, not, _&&_}
+use mathlib.Core.Bool.{Bool, true, false, not}
 use mathlib.Core.List.{List, [], _∷_, _++_, map, append-assoc, append-nil}
 use native.Mathlib.Omega.{arith}
 use native.Mathlib.Numerals.{add-one}
@@ -12,7 +12,7 @@ use lib.Arith.{digits-div, digits-mod}
 use lib.Dec.{T, ltb, leb, eqb, ltb→lt, leb→le, eqb→eq}
 use Rattle.rules.specs.Lists.{tab, pick}
 use Rattle.rules.specs.Sharding.{Sharding}
-use Rattle.rules.specs.Collectives.{Step, allSlice, allGather, allReduce, allToAll, reduceScatter}
+use Rattle.rules.specs.Collectives.{Step, allSlice, allGather, allReduce, allToAll}
 use Rattle.rules.specs.Limits.{mostDepth}
 use Rattle.rules.specs.Refusals.{Judged, accept, refuse, _>>=_, _>>_}
 use Rattle.rules.specs.PlanFile.{
@@ -44,7 +44,7 @@ use Rattle.rules.specs.PlanFile.{
 }
 use Rattle.rules.specs.declared.Kind.{Kind}
 use Rattle.rules.specs.declared.Kind.the-variants.{AllSlice, AllGather, AllReduce, AllToAll, ReduceScatter, Unknown}
-use Rattle.rules.proofs.Lists.{T?, T-and}
+use Rattle.rules.proofs.Lists.{T?}
 use Rattle.rules.proofs.Judging.{never, accept-inj, need-inv, bind-inv}
 use Rattle.rules.proofs.Repeats.{IsRepeat, repeat-inv, positive-inv}
 use Rattle.records.specs.Records.{

@@ -2,7 +2,6 @@
 // stands, in every round again. No plan is named; specs/Rounds.antt says what each part asks for and leaves, in the judgements of
 // rules/specs/PlanFile.antt.
 ghost use mathlib.Core.Path.{_≡_};
-ghost use mathlib.Core.Bool.{true};
 ghost use lib.ListN.{length};
 ghost use Rattle.rules.specs.Lists.{pick};
 ghost use Rattle.rules.specs.Types.{meshOf, sizesOf};

@@ -6,7 +6,7 @@ use mathlib.Core.Path.{_≡_, sym, ap, _∙_, subst}
 use Prim.Native.Nat.{ℕ}
 use borrow.Author.Tests.{not-true, not-false}
 use lib.Dec.{T}
-use lib.ListN.{length, length-map, take}
+use lib.ListN.{length-map, take}
 use lib.Seq.{length-take-le}
 use Rattle.rules.specs.Lists.{flat}
 use Rattle.rules.specs.Sharding.{Sharding}

@@ -1,5 +1,4 @@
 use borrow.Author.Needs.{needs}
-use mathlib.Core.Path.{_≡_}
 use denote.Ref.{now}
 use Rattle.rules.specs.Spread.{addWords}
 use Rattle.step.proofs.Kernels.{one-word, axes-asked, sums-asked, slice-asked, scatter-leaves}
