@@ -6,10 +6,11 @@ use mathlib.Core.List.{List, [], _∷_}
 use lib.ListN.{length, getD}
 use lib.Dec.{T}
 use Rattle.rules.specs.Mesh.{devices}
+use Rattle.rules.specs.Sharding.{Sharding}
 use Rattle.rules.specs.Collectives.{Step, allSlice, allGather, allReduce, allToAll}
-use Rattle.rules.specs.Limits.{mostBytes}
+use Rattle.rules.specs.Limits.{mostAxes, mostBytes}
 use Rattle.rules.specs.Refusals.{accept, refuse}
-use Rattle.rules.specs.PlanFile.{plain, repeat, some, Plan, judge}
+use Rattle.rules.specs.PlanFile.{Record, plain, repeat, some, Plan, judge}
 use Rattle.records.specs.Records.{Given, known, unknown, Records, recordsOf, fileLength, fileOf}
 use Rattle.records.specs.Writing.{judgeRecords, writeOf}
 
@@ -35,6 +36,30 @@ Ranked rank unknown = Unit {0}
 abbrev pub AllRanked : ℕ → List Given → Type 0
 AllRanked rank [] = Unit {0}
 AllRanked rank (g ∷ gs) = Ranked rank g × AllRanked rank gs
+
+-- no more axes in a list than there are places for them
+abbrev pub ShortLists : List (List ℕ) → Type 0
+ShortLists ls = (d : ℕ) → length (getD ls d []) ≤ mostAxes
+
+pub record ShortSharding (s : Sharding) : Type 0 where
+  pub dims : ShortLists (s .dims)
+  pub unreduced : length (s .unreduced) ≤ mostAxes
+  pub replicated : length (s .replicated) ≤ mostAxes
+
+abbrev pub ShortStep : Step → Type 0
+ShortStep (allSlice Ss) = ShortLists Ss
+ShortStep (allGather Gs) = ShortLists Gs
+ShortStep (allReduce L) = length L ≤ mostAxes
+ShortStep (allToAll source target L) = length L ≤ mostAxes
+
+abbrev pub ShortGiven : Given → Type 0
+ShortGiven (known (plain t)) = ShortStep t
+ShortGiven (known (repeat count number)) = Unit {0}
+ShortGiven unknown = Unit {0}
+
+abbrev pub AllShort : List Record → Type 0
+AllShort [] = Unit {0}
+AllShort (g ∷ gs) = ShortGiven (known g) × AllShort gs
 
 -- What every call's records are by their form: 16-bit sizes and device numbers, and lists for each dimension of the table.
 pub record Proper (r : Records) : Type 0 where
