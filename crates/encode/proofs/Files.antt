@@ -31,7 +31,8 @@ use Rattle.records.specs.Records.{
 }
 use Rattle.records.specs.Forms.{listGiven, dimsGiven, shardingGiven, stepsGiven, recordsGiven}
 use Rattle.records.proofs.Written.{length-u16s}
-use Rattle.encode.specs.Putting.{Put, ShortSharding, Encodable, Writable, frontBytes, headerOf}
+use Rattle.records.specs.RoundTrip.{ShortSharding}
+use Rattle.encode.specs.Putting.{Put, Encodable, Writable, frontBytes, headerOf}
 use Rattle.encode.proofs.Puts.{put-both}
 use Rattle.encode.proofs.Given.{list-given, lists-few}
 

@@ -31,8 +31,9 @@ use Rattle.records.specs.Forms.{
   recordCount,
   stepsGiven,
 }
+use Rattle.records.specs.RoundTrip.{ShortLists, ShortSharding, ShortGiven}
 use Rattle.records.proofs.Lists.{is-le, is-eq}
-use Rattle.encode.specs.Putting.{Put, ShortLists, ShortSharding, ShortGiven}
+use Rattle.encode.specs.Putting.{Put}
 use Rattle.encode.proofs.Puts.{put-none, put-both}
 
 pub list-given : (l : AxisList) → length (listGiven l) ≤ mostAxes → listGiven l ≡ axesOf l

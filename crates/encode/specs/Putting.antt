@@ -3,15 +3,14 @@
 use Prim.Native.Nat.{ℕ, zero, suc, _+_, _*_, _≤_, _<_}
 use mathlib.Core.Path.{_≡_}
 use mathlib.Core.List.{List, [], _∷_, _++_}
-use lib.ListN.{length, getD}
+use lib.ListN.{length}
 use lib.Seq.{sets}
 use Rattle.rules.specs.Limits.{mostAxes, mostDevices, mostDims, mostSteps, leastBytes, mostBytes}
 use Rattle.rules.specs.Sharding.{Sharding}
-use Rattle.rules.specs.Collectives.{Step, allSlice, allGather, allReduce, allToAll}
-use Rattle.rules.specs.PlanFile.{plain, repeat}
 use Rattle.rules.specs.declared.Sharding as code
-use Rattle.records.specs.Records.{Given, known, unknown, u16sBytes, shardingBytes, outermost, fileLength}
+use Rattle.records.specs.Records.{u16sBytes, shardingBytes, outermost, fileLength}
 use Rattle.records.specs.Writing.{mostRecords}
+use Rattle.records.specs.RoundTrip.{ShortSharding, ShortGiven}
 use Rattle.records.specs.Forms.{shardingGiven, recordBytes, recordCount, givenAt, stepsGiven, recordsGiven}
 
 -- ---- what is left
@@ -26,25 +25,6 @@ abbrev pub farthest : ℕ
 farthest = 4000000
 
 -- ---- what is asked
-
-abbrev pub ShortLists : List (List ℕ) → Type 0
-ShortLists ls = (d : ℕ) → length (getD ls d []) ≤ mostAxes
-
-pub record ShortSharding (s : Sharding) : Type 0 where
-  pub dims : ShortLists (s .dims)
-  pub unreduced : length (s .unreduced) ≤ mostAxes
-  pub replicated : length (s .replicated) ≤ mostAxes
-
-abbrev pub ShortStep : Step → Type 0
-ShortStep (allSlice Ss) = ShortLists Ss
-ShortStep (allGather Gs) = ShortLists Gs
-ShortStep (allReduce L) = length L ≤ mostAxes
-ShortStep (allToAll source target L) = length L ≤ mostAxes
-
-abbrev pub ShortGiven : Given → Type 0
-ShortGiven (known (plain t)) = ShortStep t
-ShortGiven (known (repeat count number)) = Unit {0}
-ShortGiven unknown = Unit {0}
 
 -- each of the records
 abbrev pub ShortSteps : (rank : ℕ) → List ℕ → Type 0

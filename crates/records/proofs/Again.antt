@@ -135,7 +135,7 @@ edition-again (suc (suc (suc (suc e)))) o v l m x y z = absurd (omega arith)
 -- ---- steps have a list for each dimension
 
 module _ (mesh sizes : List ℕ) (pos : (a : ℕ) → 0 < getD mesh a 1) where
-  rank-is : (s : Sharding) → IsSharding mesh sizes s → length sizes ≡ length (s .dims)
+  pub rank-is : (s : Sharding) → IsSharding mesh sizes s → length sizes ≡ length (s .dims)
   rank-is s h = both-length _ sizes (s .dims) (h .divides)
 
   step-ranked : (t : Step) (s : Sharding) → IsSharding mesh sizes s → AcceptedStep mesh sizes t s → RankedStep (length sizes) t
@@ -146,7 +146,7 @@ module _ (mesh sizes : List ℕ) (pos : (a : ℕ) → 0 < getD mesh a 1) where
   step-ranked (allReduce L) s h f = tt
   step-ranked (allToAll source target L) s h f = tt
 
-  pass-ranked : (s : Sharding) (records : List Record) → IsSharding mesh sizes s → Fine mesh sizes s (onePass records) → AllRanked (length sizes) (map known records)
+  pub pass-ranked : (s : Sharding) (records : List Record) → IsSharding mesh sizes s → Fine mesh sizes s (onePass records) → AllRanked (length sizes) (map known records)
   pass-ranked s [] h f = tt
   pass-ranked s (plain t ∷ records) h f =
       (step-ranked t s h (f .0), pass-ranked (after t s) records (after-sharding mesh sizes pos t s h (f .0)) (f .1))

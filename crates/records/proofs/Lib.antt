@@ -8,6 +8,7 @@ pub mod Written
 pub mod Spelled
 pub mod Again
 pub mod Readback
+pub mod Short
 pub mod Reread
 pub mod Cutting
 pub mod Accepting

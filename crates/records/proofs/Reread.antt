@@ -2,37 +2,44 @@
 -- what is read of an accepted file stands for its records (`read-again`). Assumes nothing.
 use Prim.Native.Nat.{ℕ, zero, suc, _+_, _*_, _/_, _≤_, _<_}
 use mathlib.Core.Path.{_≡_, refl, sym, ap, _∙_, subst}
+use mathlib.Core.Bool.{true}
 use mathlib.Core.List.{List, [], _∷_, _++_, map}
 use native.Mathlib.Omega.{arith}
-use lib.ListN.{length, getD, take, drop, length-append, length-map}
+use lib.ListN.{length, getD, drop, length-append, length-map}
 use lib.Seq.{drop-nil, drop-append-add, getD-drop, ext-getD}
 use lib.Arith.{digits-div}
-use lib.Dec.{lit<}
-use Rattle.rules.specs.Lists.{tab, pick}
+use lib.Dec.{eqb, lit<}
+use Rattle.rules.specs.Lists.{tab, flat, In}
+use Rattle.rules.specs.Sharding.{Sharding, varying, IsSharding}
+use Rattle.rules.specs.Refusals.{accept}
 use Rattle.rules.specs.Limits.{mostAxes, mostDims}
 use Rattle.rules.specs.Collectives.{allSlice, allGather, allReduce, allToAll}
-use Rattle.rules.specs.PlanFile.{kindOf, Record, plain, repeat}
-use Rattle.rules.specs.Types.{axesOf, listFrom, listsFrom}
-use Rattle.rules.specs.declared.Axis.{Axis}
-use Rattle.rules.proofs.Lists.{length-tab, getD-tab}
+use Rattle.rules.specs.PlanFile.{Record, plain, repeat, stepCount, outermostAt, judgeFront, Plan, judge, judgeBy}
+use Rattle.rules.specs.Types.{listFrom, listsFrom, shardingFrom}
+use Rattle.rules.proofs.Lists.{length-tab, getD-tab, in-left, in-right, at-flat, distinct-split, distinct-at, few-distinct}
+use Rattle.rules.proofs.Judging.{accept-inj, need-inv, bind-inv}
+use Rattle.rules.proofs.Accepted.{AcceptedPlan, accepted, front-accepted}
 use Rattle.rules.proofs.Types.{list-axes}
-use Rattle.records.specs.Records.{Given, known, unknown}
+use Rattle.records.specs.Records.{Given, known, unknown, recordsOf}
 use Rattle.records.specs.Forms.{
   listGiven,
   dimsGiven,
+  shardingGiven,
   recordBytes,
   axisAt,
   listRecord,
-  stepRecord,
-  givenKind,
   givenAt,
   recordCount,
   stepsGiven,
+  recordsGiven,
   recordOf,
   recordsBytes,
 }
-use Rattle.records.specs.RoundTrip.{Ranked, AllRanked, ShortLists, ShortGiven, AllShort}
+use Rattle.records.specs.RoundTrip.{Ranked, AllRanked, ShortLists, ShortSharding, ShortGiven, AllShort}
+use Rattle.records.specs.Reading.{orderRead}
 use Rattle.records.proofs.Lists.{is-le}
+use Rattle.records.proofs.Short.{outermost-short}
+use Rattle.records.proofs.Again.{rank-is, pass-ranked}
 
 -- ---- lists in their places
 
@@ -51,6 +58,13 @@ dims-whole (a ∷ b ∷ c ∷ d ∷ e ∷ ls) h s = absurd (omega (arith, h))
 
 pub dims-again : (rank : ℕ) (ls : List (List ℕ)) → length ls ≡ rank → rank ≤ mostDims → ShortLists ls → dimsGiven rank (listsFrom ls) ≡ ls
 dims-again rank ls e few short = subst (λ (n : ℕ). dimsGiven n (listsFrom ls) ≡ ls) e (dims-whole ls (omega (arith, e, few)) short)
+
+pub sharding-again : (rank : ℕ) (s : Sharding) → length (s .dims) ≡ rank → rank ≤ mostDims → ShortSharding s → shardingGiven rank (shardingFrom s) ≡ s
+sharding-again rank s e few short = λ i. record {
+  dims = dims-again rank (s .dims) e few (short .dims) i;
+  unreduced = list-again (s .unreduced) (short .unreduced) i;
+  replicated = list-again (s .replicated) (short .replicated) i;
+}
 
 -- ---- one record
 
@@ -141,3 +155,46 @@ module _ (rank : ℕ) (few : rank ≤ mostDims) where
       (let less : i < n = omega (arith, h, length-tab n f) in
       getD-tab n i f unknown less ∙ record-from (recordsBytes gs) (recordBytes * i) rank
       ∙ ap (λ (l : List ℕ). givenAt rank l 0) (records-drop gs i) ∙ entry-again gs i (omega (arith, less, records-count gs)) ranked short))
+
+-- ---- an accepted plan
+
+sharding-short : (mesh sizes : List ℕ) (s : Sharding) → length mesh ≤ mostAxes → IsSharding mesh sizes s → ShortSharding s
+sharding-short mesh sizes s h is =
+    let n : ℕ = length mesh in
+    let x = distinct-split (varying s) (s .replicated) (is .once) in
+    let y = distinct-split (flat (s .dims)) (s .unreduced) (x .0) in
+    let below : (a : ℕ) → In a (varying s) → a < n = λ a i. is .of-mesh a (in-left a (varying s) (s .replicated) i) in
+    record {
+      dims = λ d. omega (
+        arith,
+        few-distinct n (getD (s .dims) d []) (distinct-at (s .dims) d (y .0))
+            (λ a i. below a (in-left a (flat (s .dims)) (s .unreduced) (at-flat a (s .dims) d i))),
+        h,
+      );
+      unreduced = omega (arith, few-distinct n (s .unreduced) (y .1) (λ a i. below a (in-right a (flat (s .dims)) (s .unreduced) i)), h);
+      replicated = omega (arith, few-distinct n (s .replicated) (x .1) (λ a i. is .of-mesh a (in-right a (varying s) (s .replicated) i)), h);
+    }
+
+module _ (file : List ℕ) (p : Plan) (e : judge file ≡ accept p) where
+  records-short : AllShort (p .records)
+  unfolding judgeBy
+  records-short =
+      let f = bind-inv (judgeFront file) _ p e in
+      let ts = bind-inv (outermostAt true (f .0 .mesh) (f .0 .sizes) file 0 (stepCount file) 1 (f .0 .next) (f .0 .start)) _ p (f .2) in
+      let z = need-inv 0 (eqb (ts .0 .next) (length file)) 9 _ p (ts .2) in
+      subst (λ (q : Plan). AllShort (q .records)) (accept-inj (z .1))
+      (outermost-short (f .0 .mesh) (f .0 .sizes) file (front-accepted file (f .0) (f .1) .within .axes-few) true 0 (stepCount file) 1 (f .0 .next) (f .0 .start)
+      (ts .0) (ts .1))
+
+  -- WHAT IS READ OF AN ACCEPTED FILE STANDS FOR ITS RECORDS
+  pub read-again : recordsGiven (p .mesh) (orderRead p) (p .sizes) (shardingFrom (p .start)) (recordsBytes (p .records)) ≡ recordsOf p
+  read-again =
+      let a : AcceptedPlan p = accepted file p e in
+      let rank : ℕ = length (p .sizes) in
+      let ranked : length (p .start .dims) ≡ rank = sym (rank-is (p .mesh) (p .sizes) (a .within .sizes-pos) (p .start) (a .start-is)) in
+      let start : shardingGiven rank (shardingFrom (p .start)) ≡ p .start =
+      sharding-again rank (p .start) ranked (a .within .rank-few) (sharding-short (p .mesh) (p .sizes) (p .start) (a .within .axes-few) (a .start-is)) in
+      let steps : stepsGiven rank (recordsBytes (p .records)) ≡ map known (p .records) =
+      steps-again rank (a .within .rank-few) (p .records)
+      (pass-ranked (p .mesh) (p .sizes) (a .within .sizes-pos) (p .start) (p .records) (a .start-is) (a .pass-fine)) records-short in
+      λ i. record { mesh = p .mesh; order = orderRead p; sizes = p .sizes; start = start i; steps = steps i }
