@@ -215,7 +215,7 @@ pub fn words(table: Table) -> usize
 }
 
 // The list of a dimension, no axes past the rank.
-fn list_at(lists: DimLists, rank: usize, d: usize) -> AxisList
+pub fn list_at(lists: DimLists, rank: usize, d: usize) -> AxisList
     requires { ⌜ d < mostDims ⌝ }
     ensures { λ r. ⌜ axesOf r ≡ getD (take rank (dimsOf lists)) d [] ⌝ }
 {

@@ -46,7 +46,7 @@ impl StepRecord {
 }
 
 // One byte, and where the next one goes.
-fn put_byte(out: &mut [u8], at: usize, byte: u8) -> usize
+pub fn put_byte(out: &mut [u8], at: usize, byte: u8) -> usize
     requires { ⌜ at + 1 ≤ farthest ⌝ }
     ensures { λ r. ⌜ Put (now (out .entry)) (now (out .exit)) at r (byte ∷ []) ⌝ }
 {
@@ -154,7 +154,7 @@ fn put_reduce(out: &mut [u8], at: usize, list: AxisList) -> usize
 }
 
 // Three bytes: an all-to-all up to its list, or a repeat.
-fn put_three(out: &mut [u8], at: usize, kind: u8, first: u8, second: u8) -> usize
+pub fn put_three(out: &mut [u8], at: usize, kind: u8, first: u8, second: u8) -> usize
     requires { ⌜ at + 3 ≤ farthest ⌝ }
     ensures { λ r. ⌜ Put (now (out .entry)) (now (out .exit)) at r (kind ∷ first ∷ second ∷ []) ⌝ }
 {

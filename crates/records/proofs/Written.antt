@@ -201,7 +201,7 @@ unfolding fileOf fileLength stepsStart header
 length-file r = simp (length-append, length-u16s) (omega arith)
 
 -- each step has a byte, and an outermost one is one of them
-given-some : (g : Given) → 1 ≤ length (givenBytes g)
+pub given-some : (g : Given) → 1 ≤ length (givenBytes g)
 unfolding givenBytes stepBytes
 given-some (known (plain (allSlice Ss))) = omega arith
 given-some (known (plain (allGather Gs))) = omega arith
@@ -210,7 +210,7 @@ given-some (known (plain (allToAll source target L))) = omega arith
 given-some (known (repeat count number)) = omega arith
 given-some unknown = omega arith
 
-steps-some : (gs : List Given) → length gs ≤ length (stepsBytes gs)
+pub steps-some : (gs : List Given) → length gs ≤ length (stepsBytes gs)
 unfolding stepsBytes
 steps-some [] = omega arith
 steps-some (g ∷ gs) = omega (arith, steps-some gs, length-append (givenBytes g) (stepsBytes gs), given-some g)
@@ -258,7 +258,7 @@ module _ (r : Records) (fits : Fits r) where
   field : (i : ℕ) → i < length (header r) → u16At file (0 + 2 * i) ≡ getD (header r) i 0
   field i h = number-from file 0 (header r) tail₁ header-shorts whole i h
 
-  is-edition : u16At file 0 ≡ editionOf r
+  pub is-edition : u16At file 0 ≡ editionOf r
   unfolding header
   is-edition = field 0 (lit< tt)
 

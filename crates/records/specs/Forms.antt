@@ -98,26 +98,26 @@ recordHead (plain (allReduce L)) = 3 ∷ 0 ∷ 0 ∷ []
 recordHead (plain (allToAll source target L)) = 4 ∷ source ∷ target ∷ []
 recordHead (repeat count number) = 9 ∷ count ∷ number ∷ []
 
--- the five lists
+-- the five lists: those by dimension, then the one
+abbrev pub fiveLists : List (List ℕ) → List ℕ → List (List ℕ)
+fiveLists ls l = fourPlaces [] ls ++ l ∷ []
+
 abbrev pub recordLists : Record → List (List ℕ)
-recordLists (plain (allSlice Ss)) = fourPlaces [] Ss ++ [] ∷ []
-recordLists (plain (allGather Gs)) = fourPlaces [] Gs ++ [] ∷ []
-recordLists (plain (allReduce L)) = fourPlaces [] [] ++ L ∷ []
-recordLists (plain (allToAll source target L)) = fourPlaces [] [] ++ L ∷ []
-recordLists (repeat count number) = fourPlaces [] [] ++ [] ∷ []
+recordLists (plain (allSlice Ss)) = fiveLists Ss []
+recordLists (plain (allGather Gs)) = fiveLists Gs []
+recordLists (plain (allReduce L)) = fiveLists [] L
+recordLists (plain (allToAll source target L)) = fiveLists [] L
+recordLists (repeat count number) = fiveLists [] []
 
--- how many axes each has, and the axes, in six places each
-abbrev pub recordCounts : Record → List ℕ
-recordCounts g = map length (recordLists g)
-
+-- how many axes each has, then the axes, in six places each
 abbrev pub sixPlaces : List ℕ → List ℕ
 sixPlaces l = tab mostAxes (λ i. getD l i 0)
 
-abbrev pub recordAxes : Record → List ℕ
-recordAxes g = flat (map sixPlaces (recordLists g))
+abbrev pub formBytes : (head : List ℕ) → (lists : List (List ℕ)) → List ℕ
+formBytes head lists = head ++ (map length lists ++ flat (map sixPlaces lists))
 
 unfoldable pub recordOf : Record → List ℕ
-recordOf g = recordHead g ++ (recordCounts g ++ recordAxes g)
+recordOf g = formBytes (recordHead g) (recordLists g)
 
 unfoldable pub recordsBytes : List Record → List ℕ
 unfolding recordOf

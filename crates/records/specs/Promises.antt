@@ -36,17 +36,23 @@ pub record WritePromise (mesh order sizes : List ℕ) (start : code.Sharding) (s
 
 -- ---- the reading call
 
--- Its answer and what it leaves are the definition's. "every accepted file, read and written again, comes out byte for byte": what it answers and leaves are
--- arguments of the writer that stand for the file's records, and these are written as the file. After a refusal both lists are as they were.
+-- "every accepted file, read and written again, comes out byte for byte": what the call answers and leaves are arguments of the writer that stand for the
+-- file's records, and these are written as the file; entries behind them stay
+pub record ReadAgain (file order steps : List ℕ) (r : Opened) (orderAfter stepsAfter : List ℕ) (a : ReadAnswer) : Type 0 where
+  pub plan : Plan
+  pub judged : judge file ≡ accept plan
+  pub written : fileOf (recordsOf plan) ≡ file
+  pub given : recordsGiven (a .mesh) (take (a .order) orderAfter) (a .sizes) (r .start) (take (a .steps) stepsAfter) ≡ recordsOf plan
+  pub order-stays : drop (a .order) orderAfter ≡ drop (a .order) order
+  pub steps-stay : drop (a .steps) stepsAfter ≡ drop (a .steps) steps
+
+-- Its answer and what it leaves are the definition's. After a refusal both lists are as they were.
 pub record ReadPromise (file order steps : List ℕ) (r : Opened) (orderAfter stepsAfter : List ℕ) : Type 0 where
   pub answers : r ≡ openedOf (readOf file order steps)
   pub leaves-order : orderAfter ≡ readLeavesOrder file order steps
   pub leaves-steps : stepsAfter ≡ readLeavesSteps file order steps
   pub refused : (n k : ℕ) → readOf file order steps ≡ refuse n k → (orderAfter ≡ order) × (stepsAfter ≡ steps)
-  pub again : (a : ReadAnswer) → readOf file order steps ≡ accept a
-      → (p : Plan) × (judge file ≡ accept p) × (fileOf (recordsOf p) ≡ file)
-      × (recordsGiven (a .mesh) (take (a .order) orderAfter) (a .sizes) (r .start) (take (a .steps) stepsAfter) ≡ recordsOf p)
-      × (drop (a .order) orderAfter ≡ drop (a .order) order) × (drop (a .steps) stepsAfter ≡ drop (a .steps) steps)
+  pub again : (a : ReadAnswer) → readOf file order steps ≡ accept a → ReadAgain file order steps r orderAfter stepsAfter a
 
 -- ---- the planner
 

@@ -1,0 +1,2 @@
+-- What the reading functions ask for.
+pub mod Decoding
