@@ -24,8 +24,9 @@ pub record Stands (file : List ℕ) (at rank : ℕ) (g : Record) : Type 0 where
   pub ranked : Ranked rank (known g)
   pub short : ShortGiven (known g)
 
-abbrev pub SomeStands : (file : List ℕ) (at rank : ℕ) → Type 0
-SomeStands file at rank = (g : Record) × Stands file at rank g
+pub record SomeStands (file : List ℕ) (at rank : ℕ) : Type 0 where
+  pub one : Record
+  pub stands : Stands file at rank one
 
 -- its 38 bytes were stored from `to` on, and `next` is behind its bytes in the file
 pub record Copied (entry exit : List ℕ) (to at next : ℕ) (g : Record) : Type 0 where

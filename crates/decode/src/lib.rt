@@ -6,7 +6,7 @@ ghost use Prim.Native.Nat.{_+_, _*_, _≤_};
 ghost use lib.ListN.{length, getD, take, drop};
 ghost use Rattle.rules.specs.Lists.{tab, pick, flat};
 ghost use Rattle.rules.specs.Limits.{mostAxes, mostDevices, mostDims};
-ghost use Rattle.rules.specs.Refusals.{accept, refusedAs};
+ghost use Rattle.rules.specs.Refusals.{accept, refuse, refusedAs};
 ghost use Rattle.rules.specs.PlanFile.{u16At, edition, carriesOrder, plain, repeat};
 ghost use Rattle.rules.specs.Types.{axesOf, dimsOf, meshOf, stepOf};
 ghost use Rattle.records.specs.Forms.{recordBytes, fiveLists, sixPlaces, formBytes, recordOf, recordsBytes};
@@ -233,6 +233,14 @@ fn refused(refusal: Refusal) -> Opened
     }
 }
 
+// 33: a lent list is too short.
+fn too_short() -> Opened
+    ensures { λ r. ⌜ r ≡ openedOf (refuse 33 0) ⌝ }
+{
+    let reason = Reason::OutputTooShort;
+    refused(Refusal { reason, step: 0 })
+}
+
 // The answer for a plan that passed, of which so many device numbers and bytes of records are written.
 fn opened(whole: Whole, order: usize, steps: usize) -> Opened
     requires { ⌜ Counted (whole .devices) (whole .mesh) (whole .table) ⌝ }
@@ -268,9 +276,11 @@ pub fn read(file: &[u8], order: &mut [u16], steps: &mut [u8]) -> Opened
     let n = whole.mesh.n;
     let numbers = order_length(file, whole.devices);
     let bytes = records_length(file, at, rank);
-    if order.len() < numbers || steps.len() < bytes {
-        let reason = Reason::OutputTooShort;
-        return refused(Refusal { reason, step: 0 });
+    if order.len() < numbers {
+        return too_short();
+    }
+    if steps.len() < bytes {
+        return too_short();
     }
     put_order(file, n, numbers, order);
     put_records(steps, file, at, rank);

@@ -22,7 +22,7 @@ use Rattle.rules.proofs.Lists.{length-tab, getD-tab, in-left, in-right, at-flat
 use Rattle.rules.proofs.Judging.{accept-inj, need-inv, bind-inv}
 use Rattle.rules.proofs.Accepted.{AcceptedPlan, accepted, front-accepted}
 use Rattle.rules.proofs.Types.{list-axes}
-use Rattle.records.specs.Records.{Given, known, unknown, recordsOf, editionOf, fileOf}
+use Rattle.records.specs.Records.{Given, known, unknown, recordsOf, editionOf}
 use Rattle.records.specs.Forms.{
   listGiven,
   dimsGiven,
@@ -38,7 +38,7 @@ use Rattle.records.specs.Forms.{
   recordsBytes,
 }
 use Rattle.records.specs.RoundTrip.{Bytes, Ranked, AllRanked, ShortLists, ShortSharding, ShortGiven, AllShort}
-use Rattle.records.specs.Reading.{ReadAnswer, orderRead, readOf, readLeavesOrder, readLeavesSteps, openedOf}
+use Rattle.records.specs.Reading.{ReadAnswer, orderRead, readAnswer, readOf, readLeavesOrder, readLeavesSteps, openedOf}
 use Rattle.records.specs.Promises.{ReadAgain, ReadPromise}
 use Rattle.records.specs.declared.Opened.{Opened}
 use Rattle.records.proofs.Lists.{is-le}
@@ -181,7 +181,7 @@ sharding-short mesh sizes s h is =
     }
 
 module _ (file : List ℕ) (p : Plan) (e : judge file ≡ accept p) where
-  records-short : AllShort (p .records)
+  pub records-short : AllShort (p .records)
   unfolding judgeBy
   records-short =
       let f = bind-inv (judgeFront file) _ p e in
@@ -236,17 +236,8 @@ module _ (file : List ℕ) (p : Plan) (e : judge file ≡ accept p) where
 -- ---- the call
 
 module _ (file order steps : List ℕ) where
-  abbrev answer : Plan → ReadAnswer
-  answer p = record {
-    mesh = p .mesh;
-    sizes = p .sizes;
-    start = p .start;
-    order = length (orderRead p);
-    steps = recordBytes * length (p .records);
-  }
-
   module _ (p : Plan) (e : judge file ≡ accept p) where
-    pub read-passed : length (orderRead p) ≤ length order → recordBytes * length (p .records) ≤ length steps → readOf file order steps ≡ accept (answer p)
+    pub read-passed : length (orderRead p) ≤ length order → recordBytes * length (p .records) ≤ length steps → readOf file order steps ≡ accept (readAnswer p)
     unfolding readOf
     read-passed h k = rw (e, is-le (length (orderRead p)) (length order) h, is-le (recordBytes * length (p .records)) (length steps) k) refl
 
@@ -258,11 +249,11 @@ module _ (file order steps : List ℕ) where
     unfolding readOf
     short-steps h k = rw (e, is-le (length (orderRead p)) (length order) h, lt-leb (recordBytes * length (p .records)) (length steps) k) refl
 
-    pub left-order : readOf file order steps ≡ accept (answer p) → readLeavesOrder file order steps ≡ orderRead p ++ drop (length (orderRead p)) order
+    pub left-order : readOf file order steps ≡ accept (readAnswer p) → readLeavesOrder file order steps ≡ orderRead p ++ drop (length (orderRead p)) order
     unfolding readLeavesOrder
     left-order q = rw (q, e) refl
 
-    pub left-steps : readOf file order steps ≡ accept (answer p)
+    pub left-steps : readOf file order steps ≡ accept (readAnswer p)
         → readLeavesSteps file order steps ≡ recordsBytes (p .records) ++ drop (recordBytes * length (p .records)) steps
     unfolding readLeavesSteps
     left-steps q = rw (q, e) refl
@@ -275,7 +266,7 @@ module _ (file order steps : List ℕ) where
   unfolding readLeavesOrder readLeavesSteps
   left-all q = (rw q refl, rw q refl)
 
-  read-inv : (a : ReadAnswer) → readOf file order steps ≡ accept a → (p : Plan) × (judge file ≡ accept p) × (answer p ≡ a)
+  read-inv : (a : ReadAnswer) → readOf file order steps ≡ accept a → (p : Plan) × (judge file ≡ accept p) × (readAnswer p ≡ a)
   unfolding readOf
   read-inv a q =
       let p = bind-inv (judge file) _ a q in
@@ -295,7 +286,7 @@ module _ (file order steps : List ℕ) where
         subst (ReadAgain file order steps r orderAfter stepsAfter) (i .2) (whole (i .0) (i .1) (q ∙ ap accept (sym (i .2)))));
   }
     where
-      whole : (p : Plan) → judge file ≡ accept p → readOf file order steps ≡ accept (answer p) → ReadAgain file order steps r orderAfter stepsAfter (answer p)
+      whole : (p : Plan) → judge file ≡ accept p → readOf file order steps ≡ accept (readAnswer p) → ReadAgain file order steps r orderAfter stepsAfter (readAnswer p)
       whole p e q =
           let O : List ℕ = orderRead p in
           let S : List ℕ = recordsBytes (p .records) in

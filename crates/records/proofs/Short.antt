@@ -1,7 +1,7 @@
--- What is read has no more axes in a list than there are places, for 8 is given otherwise (`outermost-short`, `counts-short`). Assumes nothing.
+-- What is read has no more axes in a list than there are places, for 8 is given otherwise (`outermost-short`, `counts-short`), and the other way (`short-counts`). Assumes nothing.
 use Prim.Native.Nat.{ℕ, zero, suc, _+_, _≤_}
 use mathlib.Core.Bool.{Bool, true, false, _&&_}
-use mathlib.Core.Path.{_≡_, ap, subst}
+use mathlib.Core.Path.{_≡_, refl, ap, subst}
 use mathlib.Core.List.{List, [], _∷_, _++_}
 use native.Mathlib.Omega.{arith}
 use lib.Dec.{leb, leb→le, ltb}
@@ -38,6 +38,7 @@ use Rattle.rules.proofs.Judging.{never, accept-inj, need-inv, bind-inv}
 use Rattle.rules.proofs.Repeats.{IsRepeat, repeat-inv, readBy, outermost-steps}
 use Rattle.records.specs.Writing.{judgeCounts}
 use Rattle.records.specs.RoundTrip.{ShortLists, ShortStep, AllShort}
+use Rattle.records.proofs.Lists.{is-le}
 
 short-cons : (l : List ℕ) (ls : List (List ℕ)) → length l ≤ mostAxes → ShortLists ls → ShortLists (l ∷ ls)
 short-cons l ls h g zero = h
@@ -141,3 +142,9 @@ counts-short n [] h e = λ d. omega arith
 counts-short n (l ∷ ls) h e =
     let p = need-inv 0 (leb (length l) n) 8 (judgeCounts n ls) tt e in
     short-cons l ls (omega (arith, leb→le (length l) n (p .0), h)) (counts-short n ls h (p .1))
+
+-- 8 is not given for lists that have a place for each of their axes, where there are so many axes
+pub short-counts : (ls : List (List ℕ)) → ShortLists ls → judgeCounts mostAxes ls ≡ accept tt
+unfolding judgeCounts
+short-counts [] h = refl
+short-counts (l ∷ ls) h = rw (is-le (length l) mostAxes (h 0)) (short-counts ls (λ d. h (suc d)))

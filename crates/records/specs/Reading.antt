@@ -4,8 +4,6 @@ use Prim.Native.Nat.{ℕ, _*_}
 use mathlib.Core.List.{List, [], _++_}
 use lib.ListN.{length, drop}
 use lib.Dec.{leb}
-use Rattle.rules.specs.Lists.{tab}
-use Rattle.rules.specs.Limits.{mostAxes}
 use Rattle.rules.specs.Sharding.{Sharding}
 use Rattle.rules.specs.Refusals.{Judged, accept, refuse, _>>=_, _>>_, need, refusalOf}
 use Rattle.rules.specs.PlanFile.{Plan, judge, judgeBy}
@@ -26,6 +24,15 @@ pub record ReadAnswer : Type 0 where
 abbrev pub orderRead : Plan → List ℕ
 orderRead p = recordsOf p .order
 
+abbrev pub readAnswer : Plan → ReadAnswer
+readAnswer p = record {
+  mesh = p .mesh;
+  sizes = p .sizes;
+  start = p .start;
+  order = length (orderRead p);
+  steps = recordBytes * length (p .records);
+}
+
 -- the check's refusals, then 33 where a lent list is shorter than what it is to hold: the order's, then that of the step records
 unfoldable pub readOf : (file order steps : List ℕ) → Judged ReadAnswer
 unfolding judgeBy
@@ -33,13 +40,7 @@ readOf file order steps = do
   p ← judge file
   need (leb (length (orderRead p)) (length order)) 33
   need (leb (recordBytes * length (p .records)) (length steps)) 33
-  accept (record {
-    mesh = p .mesh;
-    sizes = p .sizes;
-    start = p .start;
-    order = length (orderRead p);
-    steps = recordBytes * length (p .records);
-  })
+  accept (readAnswer p)
 
 -- the numbers and the bytes are written at the front; what stands behind them stays, and on a refusal all does
 abbrev pub orderOut : Judged ReadAnswer → Judged Plan → (order : List ℕ) → List ℕ

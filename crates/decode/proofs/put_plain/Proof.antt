@@ -1,0 +1,37 @@
+use borrow.Author.Needs.{needs}
+use mathlib.Core.List.{[], _∷_}
+use lib.ListN.{take}
+use Rattle.rules.specs.Types.{dimsOf}
+use Rattle.records.specs.Forms.{recordOf}
+use Rattle.decode.proofs.Forms.{without-list}
+use Rattle.decode.proofs.put_plain.Statement.{statement}
+use Rattle.decode.proofs.put_plain.Tie as tie
+
+pub put-plain-spec : {M : Type 1} → statement M
+unfolding recordOf
+put-plain-spec =
+    tie.close
+    (tie.spec
+    (λ c κs. search needs)
+    (λ c. search needs)
+    (λ c κs. search needs)
+    (λ c. search needs)
+    (λ c κs. search needs)
+    (λ c. search needs)
+    (λ c κs. search needs)
+    (λ c. search needs)
+    (λ c κs. search needs)
+    (λ c. search needs)
+    (λ c κs. search needs)
+    (λ c. search needs)
+    (λ c. let a = c .before .before .before .before .before .before .before .before .before .before .args in
+    simp (c .before .before .before .before .enum-told .given .1) (without-list (1 ∷ 0 ∷ 0 ∷ []) (take (a .rank) (dimsOf (a .step .lists))) (c .before .before .before .before .before .before .empty .ensures) (c .before .before .put-form .ensures)))
+    (λ c. search needs)
+    (λ c. let a = c .before .before .before .before .before .before .before .before .before .before .args in
+    simp (c .before .before .before .before .enum-told2 .given .1) (without-list (2 ∷ 0 ∷ 0 ∷ []) (take (a .rank) (dimsOf (a .step .lists))) (c .before .before .before .before .before .before .empty .ensures) (c .before .before .put-form2 .ensures)))
+    (λ c. search needs)
+    (λ c. simp (c .before .before .before .before .enum-told3 .given .1) (c .before .before .put-form3 .ensures))
+    (λ c. search needs)
+    (λ c. simp (c .before .before .before .before .enum-told4 .given .1) (c .before .before .put-form4 .ensures))
+    (λ c. search needs)
+    (λ c. simp (c .before .before .before .before .enum-told5 .given .1) (without-list (3 ∷ 0 ∷ 0 ∷ []) [] (c .before .before .before .before .before .before .empty .ensures) (c .before .before .put-form5 .ensures))))
