@@ -1,4 +1,4 @@
--- What the writer's definitions promise of themselves, and the worked cases of writer and planner. Assumes nothing.
+-- What the writer's definitions promise of themselves, and the worked cases of the writer, the reading call and the planner. Assumes nothing.
 use Prim.Native.Nat.{ℕ, _≤_}
 use mathlib.Core.Path.{_≡_, refl}
 use mathlib.Core.Bool.{Bool, true, false}
@@ -10,6 +10,7 @@ use Rattle.rules.specs.Refusals.{Judged, accept, refuse, _>>_, need}
 use Rattle.records.specs.Records.{fileLength}
 use Rattle.records.specs.Writing.{writeOf}
 use Rattle.records.specs.RoundTrip.{RecordsPromise}
+use Rattle.records.specs.WorkedReading as reading
 use Rattle.records.specs.WorkedRecords as worked
 use Rattle.records.specs.WorkedRecords.{PastLimit, WorkedPromise}
 use Rattle.records.proofs.Written as written
@@ -42,4 +43,5 @@ worked-promise = record {
   past-limit = past-limit;
   given = worked.formed;
   planning = worked.planned-as;
+  reading = reading.read-as;
 }

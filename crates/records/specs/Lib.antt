@@ -7,4 +7,5 @@ pub mod Reading
 pub mod Planning
 pub mod PlanAnswer
 pub mod Promises
+pub mod WorkedReading
 pub mod WorkedRecords

@@ -17,6 +17,7 @@ use Rattle.records.specs.Records.{Given, known, unknown, Records, fileLe
 use Rattle.records.specs.Writing.{judgeRecords, writeOf, writeLeaves}
 use Rattle.records.specs.Forms.{stepsGiven, recordsGiven}
 use Rattle.records.specs.Planning.{planOf}
+use Rattle.records.specs.WorkedReading as reading
 
 -- ---- cases
 
@@ -444,3 +445,4 @@ pub record WorkedPromise : Type 0 where
   pub past-limit : PastLimit
   pub given : All Holds forms
   pub planning : All Holds plannings
+  pub reading : All reading.Holds reading.reads
