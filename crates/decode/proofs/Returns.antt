@@ -25,8 +25,8 @@ use Rattle.records.specs.Promises.{ReadPromise}
 use Rattle.records.specs.declared.Opened.{Opened}
 use Rattle.records.proofs.Spelled.{Spells, steps-spell, item-spells}
 use Rattle.records.proofs.Again.{pass-ranked}
-use Rattle.records.proofs.Reread as again
-use Rattle.records.proofs.Reread.{records-length, records-short, order-carried, order-none, read-passed, short-order, short-steps, left-order, left-steps, left-all, read-promise}
+use Rattle.records.proofs.Reread.{records-length, records-short}
+use Rattle.records.proofs.Reading.{order-carried, order-none, read-passed, short-order, short-steps, left-order, left-steps, left-all, read-promise}
 use Rattle.encode.specs.Putting.{Put}
 use Rattle.decode.specs.Decoding.{recordsIn, recordsRead, StepsStand, answerOf}
 

@@ -38,6 +38,7 @@ Copies file at rank entry exit to next = (g : Record) → Stands file at rank g 
 
 -- ---- all records
 
+-- those of an accepted file
 abbrev pub recordsRead : Judged Plan → List Record
 recordsRead (accept p) = p .records
 recordsRead (refuse n k) = []
@@ -45,7 +46,7 @@ recordsRead (refuse n k) = []
 unfoldable pub recordsIn : List ℕ → List Record
 recordsIn file = recordsRead (judge file)
 
--- an accepted file of a table of a rank, whose records stand from a place on up to its end
+-- they stand from a place on up to the file's end, in the form that `Stands` asks of each
 pub record StepsStand (file : List ℕ) (at rank : ℕ) : Type 0 where
   pub is : drop at file ≡ stepsBytes (map known (recordsIn file))
   pub inside : at ≤ length file

@@ -137,8 +137,8 @@ fn put_repeat(out: &mut [u8], at: usize, count: u8, number: u8) -> usize
     put_form(out, at, 9, count, number, lists, 0, none)
 }
 
-// The record of what stands at a kind byte; it answers where the next kind byte is. The axes of the file were judged before, so that every list that has a
-// place for its axes is read.
+// The record of what stands at a kind byte; it answers where the next kind byte is. The file was judged before: here every list is read that has places for
+// its axes, and none is refused.
 fn copy_record(out: &mut [u8], to: usize, file: &[u8], at: usize, rank: usize) -> usize
     requires { ⌜ (to + recordBytes ≤ farthest) × (rank ≤ mostDims) × SomeStands (now file) at rank ⌝ }
     ensures { λ r. ⌜ Copies (now (file .entry)) at rank (now (out .entry)) (now (out .exit)) to r ⌝ }

@@ -10,6 +10,7 @@ pub mod Again
 pub mod Readback
 pub mod Short
 pub mod Reread
+pub mod Reading
 pub mod Cutting
 pub mod Accepting
 pub mod Arrives

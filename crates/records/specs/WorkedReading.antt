@@ -126,6 +126,12 @@ exchange = 4 ∷ 1 ∷ 2 ∷ 0 ∷ 0 ∷ 0 ∷ 0 ∷ 1 ∷ (zeros 24 ++ (1 ∷ z
 abbrev pub orderedOpened : Opened
 orderedOpened = opened 3 3 6 38 (3 ∷ 2 ∷ 1 ∷ zeros 3) (1 ∷ 4 ∷ 6 ∷ 0 ∷ []) (startOf none (one 1) none none none (one 2))
 
+-- six axes on the last of four dimensions
+abbrev pub full : List ℕ
+full =
+    0x01 ∷ 0 ∷ 0x06 ∷ 0 ∷ 0x04 ∷ 0 ∷ 0x01 ∷ 0 ∷ 0x12 ∷ 0 ∷ 0x1e ∷ 0 ∷ 0x26 ∷ 0 ∷ 0x2b ∷ 0 ∷ 0x36 ∷ 0 ∷ 1 ∷ 0 ∷ 1 ∷ 0 ∷ 1 ∷ 0 ∷ 1 ∷ 0 ∷ 1 ∷ 0 ∷ 1 ∷ 0
+    ∷ 3 ∷ 0 ∷ 5 ∷ 0 ∷ 7 ∷ 0 ∷ 9 ∷ 0 ∷ 0 ∷ 0 ∷ 0 ∷ 0 ∷ 0 ∷ 1 ∷ 0 ∷ 0 ∷ 0 ∷ 6 ∷ 5 ∷ 4 ∷ 3 ∷ 2 ∷ 1 ∷ 0 ∷ []
+
 -- a block in a block in a block
 abbrev pub nested : List ℕ
 nested =
@@ -151,6 +157,12 @@ reads =
       answer = opened 2 1 0 38 (3 ∷ 2 ∷ zeros 4) (1 ∷ zeros 3) (startOf none none none none (one 1) none);
       order = [];
       steps = 3 ∷ 0 ∷ 0 ∷ 0 ∷ 0 ∷ 0 ∷ 0 ∷ 1 ∷ (zeros 24 ++ (1 ∷ zeros 5 ++ nines 1));
+    })
+    -- every place of a list, of the mesh and of the table
+    ∷ read full [] (nines 38) (record {
+      answer = opened 6 4 0 38 (replicate 6 1) (3 ∷ 5 ∷ 7 ∷ 9 ∷ []) (startOf none none none none none none);
+      order = [];
+      steps = 1 ∷ 0 ∷ 0 ∷ 0 ∷ 0 ∷ 0 ∷ 6 ∷ 0 ∷ (zeros 18 ++ (5 ∷ 4 ∷ 3 ∷ 2 ∷ 1 ∷ 0 ∷ zeros 6));
     })
     -- editions 2 and 3: the replicated list; the order, of two numbers and of six. A plan of no steps needs no byte
     ∷ read replicating [] [] (record {
@@ -186,4 +198,4 @@ pub read-as : All Holds reads
 unfolding reasonOf listsFrom readOf readLeavesOrder readLeavesSteps
 read-as =
     refl & refl & refl & refl & refl & refl & refl & refl & refl & refl & refl & refl
-    & refl & refl & refl & refl & done
+    & refl & refl & refl & refl & refl & done

@@ -10,17 +10,23 @@ copy-record-spec =
     (tie.spec
     (λ c. omega (arith, stands-inside (c .before .before .before .pre .2 .stands)))
     (λ c. search needs)
-    (λ c. omega (arith, repeat-bytes _ (c .before .before .before .before .before .before .pre .2 .stands) (c .before .before .if1 .taken)))
+    (λ c. let f = c .before .before in omega (arith, repeat-bytes _ (f .before .before .before .before .pre .2 .stands) (f .if1 .taken)))
     (λ c. search needs)
-    (λ c. omega (arith, repeat-bytes _ (c .before .before .before .before .before .before .before .pre .2 .stands) (c .before .before .before .if1 .taken)))
+    (λ c. let f = c .before .before .before in omega (arith, repeat-bytes _ (f .before .before .before .before .pre .2 .stands) (f .if1 .taken)))
     (λ c κs. search needs)
     (λ c. search needs)
     (λ c. search needs)
-    (λ c. repeat-copied (c .before .before .before .before .before .before .if1 .taken) (c .before .before .put-repeat .ensures))
+    (λ c. let p = c .before .before in repeat-copied (p .before .before .before .before .if1 .taken) (p .put-repeat .ensures))
     (λ c κs. search needs)
     (λ c. search needs)
     (λ c. search needs)
-    (λ c. let s = c .before .before .before .before .before .before .before in absurd (never-refused (c .before .before .read-step .result) 0 (c .before .before .before .if1 .left) (c .before .before .read-step .ensures) (c .enum-told .given .1) _ (s .pre .2 .stands)))
+    (λ c. let r = c .before .before in
+    let f = r .before in
+    absurd (never-refused (r .read-step .result) 0 (f .if1 .left) (r .read-step .ensures) (c .enum-told .given .1) _
+    (f .before .before .before .before .pre .2 .stands)))
     (λ c κs. search needs)
     (λ c. search needs)
-    (λ c. plain-copied (c .before .before .before .before .before .before .before .before .read-step .result) 0 (c .before .before .before .before .before .before .before .before .before .if1 .left) (c .before .before .before .before .before .before .before .before .read-step .ensures) (c .before .before .before .before .before .before .next .given .1) (c .before .before .put-plain .ensures)))
+    (λ c. let p = c .before .before in
+    let t = p .before .before .before .before in
+    let r = t .before .before in
+    plain-copied (r .read-step .result) 0 (r .before .if1 .left) (r .read-step .ensures) (t .next .given .1) (p .put-plain .ensures)))

@@ -13,4 +13,6 @@ mesh-within-spec =
     (λ c κs. search needs)
     (λ c κs. search needs)
     (λ c κs. search needs)
-    (λ c. λ i. c .before .before .before .before .before .size-in .ensures i ∷ c .before .before .before .before .size-in2 .ensures i ∷ c .before .before .before .size-in3 .ensures i ∷ c .before .before .size-in4 .ensures i ∷ c .before .size-in5 .ensures i ∷ c .size-in6 .ensures i ∷ []))
+    (λ c. let d = c .before .before .before in
+    (λ i. d .before .before .size-in .ensures i ∷ d .before .size-in2 .ensures i ∷ d .size-in3 .ensures i ∷ c .before .before .size-in4 .ensures i
+    ∷ c .before .size-in5 .ensures i ∷ c .size-in6 .ensures i ∷ [])))

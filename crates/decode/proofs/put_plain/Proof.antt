@@ -24,14 +24,19 @@ put-plain-spec =
     (λ c. search needs)
     (λ c κs. search needs)
     (λ c. search needs)
-    (λ c. let a = c .before .before .before .before .before .before .before .before .before .before .args in
-    simp (c .before .before .before .before .enum-told .given .1) (without-list (1 ∷ 0 ∷ 0 ∷ []) (take (a .rank) (dimsOf (a .step .lists))) (c .before .before .before .before .before .before .empty .ensures) (c .before .before .put-form .ensures)))
+    (λ c. let e = c .before .before .before .before in
+    let a = e .before .before .before .before .before .before .args in
+    simp (e .enum-told .given .1)
+    (without-list (1 ∷ 0 ∷ 0 ∷ []) (take (a .rank) (dimsOf (a .step .lists))) (e .before .before .empty .ensures) (c .before .before .put-form .ensures)))
     (λ c. search needs)
-    (λ c. let a = c .before .before .before .before .before .before .before .before .before .before .args in
-    simp (c .before .before .before .before .enum-told2 .given .1) (without-list (2 ∷ 0 ∷ 0 ∷ []) (take (a .rank) (dimsOf (a .step .lists))) (c .before .before .before .before .before .before .empty .ensures) (c .before .before .put-form2 .ensures)))
+    (λ c. let e = c .before .before .before .before in
+    let a = e .before .before .before .before .before .before .args in
+    simp (e .enum-told2 .given .1)
+    (without-list (2 ∷ 0 ∷ 0 ∷ []) (take (a .rank) (dimsOf (a .step .lists))) (e .before .before .empty .ensures) (c .before .before .put-form2 .ensures)))
     (λ c. search needs)
     (λ c. simp (c .before .before .before .before .enum-told3 .given .1) (c .before .before .put-form3 .ensures))
     (λ c. search needs)
     (λ c. simp (c .before .before .before .before .enum-told4 .given .1) (c .before .before .put-form4 .ensures))
     (λ c. search needs)
-    (λ c. simp (c .before .before .before .before .enum-told5 .given .1) (without-list (3 ∷ 0 ∷ 0 ∷ []) [] (c .before .before .before .before .before .before .empty .ensures) (c .before .before .put-form5 .ensures))))
+    (λ c. let e = c .before .before .before .before in
+    simp (e .enum-told5 .given .1) (without-list (3 ∷ 0 ∷ 0 ∷ []) [] (e .before .before .empty .ensures) (c .before .before .put-form5 .ensures))))

@@ -19,13 +19,15 @@ put-records-spec =
     Inv-loop
     μ-loop
     (λ c. walk-start _ (c .before .before .pre))
-    (λ c. omega (arith, walk-few (c .before .before .loop .inv) (c .before .before .before .before .before .pre .limited)))
-    (λ c κs. let s = c .before .before .before .before .before in
-    let l = c .before .before .loop in
-    (walk-few (l .inv) (s .pre .limited), s .pre .few, walk-stands (l .inv) (c .before .loop-test .taken)))
-    (λ c. omega (arith, walk-few (c .before .before .before .before .before .loop .inv) (c .before .before .before .before .before .before .before .before .pre .limited)))
-    (λ c. walk-step (c .before .before .before .before .before .loop .inv) (c .before .before .before .before .loop-test .taken) (c .before .before .copy-record .ensures) .1)
-    (λ c. walk-step (c .before .before .before .before .before .loop .inv) (c .before .before .before .before .loop-test .taken) (c .before .before .copy-record .ensures) .0)
-    (λ c. omega (arith, walk-few (c .before .loop .inv) (c .before .before .before .before .pre .limited)))
+    (λ c. let l = c .before .before in omega (arith, walk-few (l .loop .inv) (l .before .before .before .pre .limited)))
+    (λ c κs. let l = c .before .before in
+    let s = l .before .before .before in
+    (walk-few (l .loop .inv) (s .pre .limited), s .pre .few, walk-stands (l .loop .inv) (c .before .loop-test .taken)))
+    (λ c. let l = c .before .before .before .before .before in omega (arith, walk-few (l .loop .inv) (l .before .before .before .pre .limited)))
+    (λ c. let t = c .before .before .before .before in
+    walk-step (t .before .loop .inv) (t .loop-test .taken) (c .before .before .copy-record .ensures) .1)
+    (λ c. let t = c .before .before .before .before in
+    walk-step (t .before .loop .inv) (t .loop-test .taken) (c .before .before .copy-record .ensures) .0)
+    (λ c. let l = c .before in omega (arith, walk-few (l .loop .inv) (l .before .before .before .pre .limited)))
     (λ c. put-length (walk-done (c .before .loop .inv) (omega (arith, c .loop-test .left))))
     (λ c. walk-done (c .before .loop .inv) (omega (arith, c .loop-test .left))))
