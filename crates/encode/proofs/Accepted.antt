@@ -1,5 +1,5 @@
--- RECORDS THAT THE WRITER'S JUDGEMENT ACCEPTS CAN BE WRITTEN (`accepted-encodable`): every list that passes 8 has no more axes than there are places.
--- Assumes nothing.
+-- RECORDS THAT THE WRITER'S JUDGEMENT ACCEPTS CAN BE WRITTEN (`accepted-encodable`): every list that passes 8 has no more axes than there are places. Those of
+-- a call are what every call's are by their form (`accepted-proper`). Assumes nothing.
 use Prim.Native.Nat.{ℕ, zero, suc, _+_, _*_, _≤_}
 use mathlib.Core.Bool.{Bool, true, false}
 use mathlib.Core.Path.{_≡_, refl, sym, subst}
@@ -20,7 +20,7 @@ use Rattle.rules.specs.declared.Sharding as code
 use Rattle.rules.specs.declared.Kind.{Kind}
 use Rattle.rules.specs.declared.Kind.the-variants.{AllSlice, AllGather, AllReduce, AllToAll, Unknown}
 use Rattle.rules.specs.declared.Step as records
-use Rattle.rules.proofs.Lists.{T-and, getD-tab}
+use Rattle.rules.proofs.Lists.{T-and, getD-tab, both-length}
 use Rattle.rules.proofs.Judging.{need-inv, then-inv, bind-inv}
 use Rattle.rules.proofs.Accepted.{sizes-facts}
 use Rattle.records.specs.Records.{Given, known, unknown, Records, outermost, stepsBytes}
@@ -36,7 +36,7 @@ use Rattle.records.specs.Forms.{
   stepsGiven,
   recordsGiven,
 }
-use Rattle.records.specs.RoundTrip.{Ranked, AllRanked, ShortGiven, AllShort}
+use Rattle.records.specs.RoundTrip.{Shorts, Ranked, AllRanked, ShortGiven, AllShort, Proper}
 use Rattle.records.proofs.Places.{from-all}
 use Rattle.records.proofs.Given.{all-given}
 use Rattle.records.proofs.Readback.{order-passed}
@@ -149,3 +149,19 @@ accepted-encodable mesh order sizes start bytes p e =
       },
       o .few,
     )
+
+-- AND ARE PROPER, where their sizes and device numbers have 16 bits
+pub accepted-proper : (mesh order sizes : List ℕ) (start : code.Sharding) (bytes : List ℕ) → Shorts mesh → Shorts order → Shorts sizes → (p : Plan)
+    → judgeRecords (recordsGiven mesh order sizes start bytes) ≡ accept p → Proper (recordsGiven mesh order sizes start bytes)
+unfolding judgeRecords
+accepted-proper mesh order sizes start bytes m d t p e =
+    let r : Records = recordsGiven mesh order sizes start bytes in
+    let o : Opened r = opened r (then-inv (judgeOpening r) _ p e .0 .1) in
+    let s = sharding-facts mesh sizes (r .start) (o .sharding) in
+    record {
+      mesh-shorts = m;
+      order-shorts = d;
+      sizes-shorts = t;
+      dims-ranked = sym (both-length _ sizes (r .start .dims) (s .is .divides));
+      steps-ranked = given-ranked (length sizes) (o .rank) bytes;
+    }

@@ -1,20 +1,28 @@
--- The writer, test by test: what is answered, and what the buffer holds. Assumes nothing.
+-- The writer, test by test: what is answered, and what the buffer holds; and its promise (`write-promise`). Assumes nothing.
 use Prim.Native.Nat.{ℕ, _≤_, _<_}
 use mathlib.Core.Path.{_≡_, refl, sym, ap, ap₂, _∙_}
 use mathlib.Core.List.{List, _++_}
 use borrow.Author.Tests.{le-leb, lt-leb}
-use lib.ListN.{length, drop}
+use lib.ListN.{length, take, drop}
+use lib.Seq.{take-at, drop-at}
 use Rattle.rules.specs.Limits.{mostBytes}
 use Rattle.rules.specs.Refusals.{Judged, accept, refuse, refusedAs}
-use Rattle.rules.specs.PlanFile.{Plan}
+use Rattle.rules.specs.PlanFile.{Plan, judge}
 use Rattle.rules.specs.declared.Refusal.{Refusal}
-use Rattle.rules.proofs.Judging.{never}
+use Rattle.rules.specs.declared.Sharding as code
+use Rattle.rules.proofs.Judging.{never, then-inv}
 use Rattle.start.specs.Start.{meaning}
 use Rattle.start.specs.declared.Verdict.{Verdict}
 use Rattle.start.specs.declared.Verdict.the-variants as verdict
 use Rattle.given.specs.Given.{verdictOf}
-use Rattle.records.specs.Records.{Records, fileLength, fileOf}
+use Rattle.records.specs.Records.{Records, recordsOf, fileLength, fileOf}
 use Rattle.records.specs.Writing.{judgeRecords, writeOf, writeOut, writeLeaves}
+use Rattle.records.specs.Forms.{recordsGiven}
+use Rattle.records.specs.RoundTrip.{Shorts}
+use Rattle.records.specs.Promises.{writeMeaning, WritePromise}
+use Rattle.records.specs.declared.WriteOutcome.{WriteOutcome}
+use Rattle.records.proofs.Readback.{reads-back}
+use Rattle.encode.proofs.Accepted.{accepted-proper}
 
 -- what the judgement of records answered
 pub judged-fine : (j : Judged Plan) (v : Verdict) → meaning v ≡ verdictOf j → v ≡ verdict.Fine → (p : Plan) × (j ≡ accept p)
@@ -61,3 +69,33 @@ module _ (r : Records) (out : List ℕ) where
 
       pub file-written : n ≤ length out → {out′ : List ℕ} → out′ ≡ fileOf r ++ drop n out → out′ ≡ writeLeaves r out
       file-written h q = q ∙ sym (leaves-by (written h))
+
+-- ---- the promise
+
+module _ (mesh order sizes : List ℕ) (start : code.Sharding) (steps out : List ℕ) (m : Shorts mesh) (d : Shorts order) (t : Shorts sizes) where
+  abbrev R : Records
+  R = recordsGiven mesh order sizes start steps
+
+  module _ {out′ : List ℕ} (l : out′ ≡ writeLeaves R out) (n : ℕ) (e : writeOf R out ≡ accept n) where
+    back : (p : Plan) × (judge (fileOf R) ≡ accept p) × (recordsOf p ≡ R) × (length (fileOf R) ≡ n)
+    unfolding writeOf
+    back = let j = then-inv (judgeRecords R) _ n e .0 in reads-back R (accepted-proper mesh order sizes start steps m d t (j .0) (j .1)) out n e
+
+    left : out′ ≡ fileOf R ++ drop n out
+    left = l ∙ leaves-by R out e
+
+    behind : drop n out′ ≡ drop n out
+    behind = ap (drop n) left ∙ drop-at (fileOf R) (drop n out) n (back .3)
+
+    again : (p : Plan) × (judge (take n out′) ≡ accept p) × (recordsOf p ≡ R)
+    again = (back .0, ap judge (ap (take n) left ∙ take-at (fileOf R) (drop n out) n (back .3)) ∙ back .1, back .2)
+
+  pub write-promise : (o : WriteOutcome) (out′ : List ℕ) → writeMeaning o ≡ writeOf R out → out′ ≡ writeLeaves R out
+      → WritePromise mesh order sizes start steps out o out′
+  write-promise o out′ a l = record {
+    answers = a;
+    leaves = l;
+    stay = λ n e. behind l n (sym a ∙ e);
+    refused = λ n k e. l ∙ sym (nothing-written R out (sym a ∙ e));
+    reads-back = λ n e. again l n (sym a ∙ e);
+  }

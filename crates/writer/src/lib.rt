@@ -1,9 +1,8 @@
-// The writer: a plan given as records, judged and written into a lent buffer, as records/specs/Writing.antt defines it.
+// The writer: a plan given as records, judged and written into a lent buffer, as records/specs/Writing.antt defines it;
+// records/specs/Promises.antt is its promise.
 ghost use mathlib.Core.Path.{_≡_};
 ghost use Rattle.rules.specs.Refusals.{refuse, numberOf};
-ghost use Rattle.records.specs.Writing.{writeOf, writeLeaves};
-ghost use Rattle.records.specs.Forms.{recordsGiven};
-ghost use Rattle.records.specs.Promises.{writeMeaning};
+ghost use Rattle.records.specs.Promises.{writeMeaning, WritePromise};
 use encode::file_length;
 use encode::put_file;
 use given::judge_records;
@@ -31,8 +30,7 @@ pub fn write<'a>(
     steps: &[u8],
     file: &mut [u8],
 ) -> WriteOutcome
-    ensures answers { λ r. ⌜ writeMeaning r ≡ writeOf (recordsGiven (now (mesh .entry)) (now (order .entry)) (now (table .entry)) start (now (steps .entry))) (now (file .entry)) ⌝ }
-    ensures leaves { λ r. ⌜ now (file .exit) ≡ writeLeaves (recordsGiven (now (mesh .entry)) (now (order .entry)) (now (table .entry)) start (now (steps .entry))) (now (file .entry)) ⌝ }
+    ensures { λ r. ⌜ WritePromise (now (mesh .entry)) (now (order .entry)) (now (table .entry)) start (now (steps .entry)) (now (file .entry)) r (now (file .exit)) ⌝ }
 {
     let verdict = judge_records(mesh, order, table, start, steps);
     let Verdict::Fine = verdict else {
