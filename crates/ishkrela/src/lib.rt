@@ -1,6 +1,11 @@
 // The library as its users see it: the calls, and the types of what they take and answer.
-// No call asks anything of its input; what each promises is in rules/specs/Promises.antt.
+// No call asks anything of its input; what each promises is in rules/specs/Promises.antt, and of the calls on records in records/specs/Promises.antt.
 ghost use Rattle.rules.specs.Promises.{CheckPromise, PlacePromise, GroupsPromise, GroupsOrderedPromise, RunPromise};
+ghost use Rattle.records.specs.Promises.{WritePromise, PlanPromise};
+pub use records::PlanOutcome;
+pub use records::Planned;
+pub use records::Steps;
+pub use records::WriteOutcome;
 pub use rules::Axis;
 pub use rules::AxisList;
 pub use rules::CheckOutcome;
@@ -9,12 +14,14 @@ pub use rules::Device;
 pub use rules::Dim;
 pub use rules::DimLists;
 pub use rules::GroupsOutcome;
+pub use rules::Kind;
 pub use rules::PlaceOutcome;
 pub use rules::Placed;
 pub use rules::Reason;
 pub use rules::Refusal;
 pub use rules::RunOutcome;
 pub use rules::Sharding;
+pub use rules::Step;
 pub use rules::Totals;
 
 // Judges a plan file: the room, D, the number of steps, the rank, the final sharding and its shard sizes, or the refusal.
@@ -50,4 +57,32 @@ pub fn run(file: &[u8], work: &mut [u32], spare: &mut [u32]) -> RunOutcome
     ensures { λ r. ⌜ RunPromise (now (file .entry)) (now (work .entry)) (now (spare .entry)) r (now (work .exit)) (now (spare .exit)) ⌝ }
 {
     run::run(file, work, spare)
+}
+
+// Writes the file of a plan that is given as records: mesh, order of the devices (none where it has no numbers), table, start, and step records of 38 bytes
+// each. Answers how many bytes were written.
+pub fn write<'a>(
+    mesh: &'a [u16],
+    order: &'a [u16],
+    table: &'a [u16],
+    start: Sharding,
+    steps: &[u8],
+    file: &mut [u8],
+) -> WriteOutcome
+    ensures { λ r. ⌜ WritePromise (now (mesh .entry)) (now (order .entry)) (now (table .entry)) start (now (steps .entry)) (now (file .entry)) r (now (file .exit)) ⌝ }
+{
+    writer::write(mesh, order, table, start, steps, file)
+}
+
+// Makes the plan from one sharding of a table to another: at most three steps.
+pub fn plan<'a>(
+    mesh: &'a [u16],
+    order: &'a [u16],
+    table: &'a [u16],
+    start: Sharding,
+    goal: Sharding,
+) -> Planned
+    ensures { λ r. ⌜ PlanPromise (now (mesh .entry)) (now (order .entry)) (now (table .entry)) start goal r ⌝ }
+{
+    planner::plan(mesh, order, table, start, goal)
 }

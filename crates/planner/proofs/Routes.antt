@@ -1,4 +1,4 @@
--- The planner, test by test. Assumes nothing.
+-- The planner, test by test; and its promise (`plan-promise`). Assumes nothing.
 use Prim.Native.Nat.{ℕ, _≤_}
 use mathlib.Core.Path.{_≡_, refl, sym, ap, _∙_, subst}
 use mathlib.Core.Bool.{Bool, true, false, _&&_}
@@ -22,7 +22,10 @@ use Rattle.start.specs.declared.Verdict.{Verdict}
 use Rattle.start.specs.declared.Verdict.the-variants as verdict
 use Rattle.records.specs.Writing.{judgeCounts, judgeSharding}
 use Rattle.records.specs.Forms.{shardingGiven}
+use Rattle.records.specs.RoundTrip.{Shorts}
 use Rattle.records.specs.Planning.{planSteps, reachable, planOf}
+use Rattle.records.specs.Promises.{PlanPromise}
+use Rattle.records.proofs.Arrives.{planner-promise, plan-again}
 use Rattle.given.specs.Given.{judgeShape, meshFrom, tableFrom}
 use Rattle.given.proofs.Sizes.{mesh-is, table-is}
 use Rattle.given.proofs.Whole.{axes-few, dims-few}
@@ -124,3 +127,14 @@ module _ (mesh order sizes : List ℕ) (start goal : code.Sharding) where
       let g = then-inv (judgeSharding mesh sizes G) _ tt (o .1) in
       ap (λ (z : Steps). record { outcome = outcome.Made; plan = z }) (q ∙ (λ i. stepsFrom (planSteps (sym (fits start n (o .0 .1)) i) (sym (fits goal n (g .0 .1)) i))))
       ∙ sym (ap plannedOf (planned-is ∙ ap (λ (i : Judged (Unit {0})). _>>_ i (accept (planSteps S G))) e))
+
+-- ---- the promise
+
+pub plan-promise : (mesh order sizes : List ℕ) → Shorts mesh → Shorts order → Shorts sizes → (start goal : code.Sharding) (r : Planned)
+    → r ≡ plannedOf (stepsPlanned mesh order sizes start goal) → PlanPromise mesh order sizes start goal r
+plan-promise mesh order sizes m o t start goal r e = record {
+  answers = e;
+  reaches = λ rs a.
+      let p = planner-promise mesh order sizes m o t (S mesh order sizes start goal) (G mesh order sizes start goal) rs a in
+      (p .0, p .1, plan-again mesh order sizes (S mesh order sizes start goal) (G mesh order sizes start goal) rs a);
+}

@@ -1,5 +1,5 @@
 // The plan from one sharding to another, as records/specs/Planning.antt defines it: an all-reduce, an all-gather and an all-slice, each left out where it
-// names no axis.
+// names no axis. records/specs/Promises.antt is its promise.
 ghost use mathlib.Core.Path.{_≡_};
 ghost use mathlib.Core.List.{List, [], _∷_, _++_};
 ghost use Prim.Native.Nat.{ℕ, _≤_, _<_};
@@ -11,7 +11,8 @@ ghost use Rattle.rules.specs.Collectives as rules;
 ghost use Rattle.rules.specs.Types.{axesOf, dimsOf, shardingOf};
 ghost use Rattle.start.specs.Start.{meaning};
 ghost use Rattle.records.specs.Planning.{common as commonOf, restOfStart, planSteps, reachable};
-ghost use Rattle.records.specs.PlanAnswer.{stepFrom, stepsFrom, stepsPlanned, plannedOf};
+ghost use Rattle.records.specs.PlanAnswer.{stepFrom, stepsFrom};
+ghost use Rattle.records.specs.Promises.{PlanPromise};
 ghost use Rattle.planner.specs.Routes.{judgeRoute};
 use axes::all_in;
 use axes::without;
@@ -229,7 +230,7 @@ pub fn plan<'a>(
     start: Sharding,
     goal: Sharding,
 ) -> Planned
-    ensures { λ r. ⌜ r ≡ plannedOf (stepsPlanned (now (mesh .entry)) (now (order .entry)) (now (table .entry)) start goal) ⌝ }
+    ensures { λ r. ⌜ PlanPromise (now (mesh .entry)) (now (order .entry)) (now (table .entry)) start goal r ⌝ }
 {
     let verdict = judge_route(mesh, order, table, start, goal);
     let Verdict::Fine = verdict else {

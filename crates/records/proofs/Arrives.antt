@@ -1,5 +1,5 @@
 -- Document 02, Ask 10: the records that the planner makes are taken, their file is accepted, it ends at the goal, and a run of it turns a faithful spread
--- under the start into one under the goal (`planner-promise`). Assumes nothing.
+-- under the start into one under the goal (`planner-promise`); and its steps' records are what the writer takes (`plan-again`). Assumes nothing.
 use Prim.Native.Nat.{ℕ, zero, suc, _+_, _*_, _≤_, _<_}
 use mathlib.Core.Path.{_≡_, refl, sym, ap, _∙_, subst}
 use mathlib.Core.Bool.{Bool, true, false, _&&_}
@@ -25,12 +25,15 @@ use Rattle.rules.proofs.Whole.{whole-plan}
 use Rattle.records.specs.Records.{known, Records, outermost, outermostFrom, u16sBytes, listBytes, listsBytes, editionOf, replicatedBytes, shardingBytes, stepsBytes, stepsStart, fileLength, fileOf}
 use Rattle.records.specs.Writing.{judgeCounts, judgeSharding, judgeOrder, orderOf, judgeOpening, mostRecords, judgeRecords}
 use Rattle.records.specs.RoundTrip.{Shorts, Fits}
+use Rattle.records.specs.Forms.{stepsGiven, recordsBytes}
 use Rattle.records.specs.Planning.{planSteps, reachable, planOf, Reaches, PlannerPromise}
 use Rattle.records.proofs.Places.{from-all}
 use Rattle.records.proofs.Lists.{is-le}
 use Rattle.records.proofs.Written.{file-judged}
 use Rattle.records.proofs.Readback.{order-passed}
-use Rattle.records.proofs.Accepting.{Judges, sharding-facts, counts-few, givenOf, Goes, plan-goes, plan-few}
+use Rattle.records.proofs.Accepting.{Judges, sharding-facts, counts-few, givenOf, plainRead, Goes, plan-goes, plan-few}
+use Rattle.records.proofs.Short.{outermost-short}
+use Rattle.records.proofs.Reread.{steps-again}
 
 -- plain steps are all outermost
 outermost-plain : (ts : List Step) → outermost (givenOf ts) ≡ length ts
@@ -126,6 +129,15 @@ module _ (mesh order sizes : List ℕ) (start goal : Sharding) where
         plan-goes mesh sizes (fm .each-pos) start goal (sharding-facts mesh sizes start (j .start-is)) (sharding-facts mesh sizes goal (j .goal-is))
         (allIn-in (goal .unreduced) (start .unreduced) (j .fewer)) (j .kept)
 
+    few-axes : length mesh ≤ mostAxes
+    few-axes = leb→le (length mesh) mostAxes (T-and (leb 1 (length mesh)) (leb (length mesh) mostAxes) (j .axes) .1)
+
+    few-dims : length sizes ≤ mostDims
+    few-dims = leb→le (length sizes) mostDims (T-and (leb 1 (length sizes)) (leb (length sizes) mostDims) (j .rank) .1)
+
+    reads : outermostAt true mesh sizes (stepsBytes (givenOf steps)) 0 (length steps) 1 0 start ≡ accept (plainRead 0 steps)
+    reads = goes .accepts (stepsBytes (givenOf steps)) 0 1 0 (from-all (stepsBytes (givenOf steps))) (omega (arith, plan-few start goal))
+
     taken : judgeRecords made ≡ accept plan
     unfolding judgeRecords judgeOpening
     taken =
@@ -140,15 +152,18 @@ module _ (mesh order sizes : List ℕ) (start goal : Sharding) where
           j .sizes-are,
           j .start-is,
           is-le (length (givenOf steps)) mostRecords (omega (arith, few-given steps, plan-few start goal)),
-          goes .accepts (stepsBytes (givenOf steps)) 0 1 0 (from-all (stepsBytes (givenOf steps))) (omega (arith, plan-few start goal)),
+          reads,
         ) refl
+
+    given-again : stepsGiven (length sizes) (recordsBytes (map plain steps)) ≡ givenOf steps
+    given-again =
+        steps-again (length sizes) few-dims (map plain steps) (goes .ranked)
+        (outermost-short mesh sizes (stepsBytes (givenOf steps)) few-axes true 0 (length steps) 1 0 start (plainRead 0 steps) reads)
 
     fits : Shorts mesh → Shorts order → Shorts sizes → Fits made
     unfolding fileLength stepsStart
     fits m o t =
         let hs : Judges mesh sizes start = sharding-facts mesh sizes start (j .start-is) in
-        let n : length mesh ≤ mostAxes = leb→le (length mesh) mostAxes (T-and (leb 1 (length mesh)) (leb (length mesh) mostAxes) (j .axes) .1) in
-        let k : length sizes ≤ mostDims = leb→le (length sizes) mostDims (T-and (leb 1 (length sizes)) (leb (length sizes) mostDims) (j .rank) .1) in
         let ranked : length (start .dims) ≡ length sizes = sym (both-length _ sizes (start .dims) (hs .is .divides)) in
         let all = order-passed (devices mesh) order (j .order-is) .0 in
         let fm : SizesFacts mostDevices 1 mesh = sizes-facts mostDevices 10 11 1 mesh (lit< tt) (lit≤ tt) (j .mesh-is) in
@@ -158,8 +173,10 @@ module _ (mesh order sizes : List ℕ) (start goal : Sharding) where
           short = omega (
             arith,
             many,
-            sharding-few mesh sizes (editionOf made) start n (omega (arith, ranked)) hs,
-            goes .short n k,
+            sharding-few mesh sizes (editionOf made) start few-axes (omega (arith, ranked, few-dims)) hs,
+            goes .short few-axes few-dims,
+            few-axes,
+            few-dims,
             plan-few start goal,
           );
           order-all = all;
@@ -201,3 +218,16 @@ planner-promise mesh order sizes m o t start goal r e =
         arrives = arrives mesh order sizes start goal (j .0) a;
       }),
     )
+
+-- THE RECORDS OF ITS STEPS ARE WHAT THE WRITER TAKES
+pub plan-again : (mesh order sizes : List ℕ) (start goal : Sharding) (r : Records) → planOf mesh order sizes start goal ≡ accept r
+    → record {
+      mesh = mesh;
+      order = order;
+      sizes = sizes;
+      start = start;
+      steps = stepsGiven (length sizes) (recordsBytes (map plain (planSteps start goal)));
+    } ≡ r
+plan-again mesh order sizes start goal r e =
+    let j = judged mesh order sizes start goal r e in
+    (λ i. record { mesh = mesh; order = order; sizes = sizes; start = start; steps = given-again mesh order sizes start goal (j .0) i }) ∙ j .1

@@ -1,9 +1,21 @@
 use borrow.Author.Needs.{needs}
+use mathlib.Core.Path.{_≡_}
 use denote.Ref.{now}
+use Rattle.records.specs.PlanAnswer.{stepsPlanned, plannedOf}
+use Rattle.records.specs.Promises.{PlanPromise}
+use Rattle.records.specs.declared.Planned.{Planned}
 use Rattle.start.proofs.Verdicts.{passed}
-use Rattle.planner.proofs.Routes.{route-rank, plan-refused, plan-made}
+use Rattle.planner.proofs.Routes.{route-rank, plan-refused, plan-made, plan-promise}
 use Rattle.planner.proofs.plan.Statement.{statement}
 use Rattle.planner.proofs.plan.Tie as tie
+
+-- the sizes and the device numbers have 16 bits
+promised : (s : tie.After-shared-slice-known3) → (let a = s .before .before .before .args in
+    (r : Planned) → r ≡ plannedOf (stepsPlanned (now (a .mesh)) (now (a .order)) (now (a .table)) (a .start) (a .goal))
+    → PlanPromise (now (a .mesh)) (now (a .order)) (now (a .table)) (a .start) (a .goal) r)
+promised s =
+    plan-promise _ _ _ (λ i. s .before .before .shared-slice-known .given i .fits) (λ i. s .before .shared-slice-known2 .given i .fits)
+    (λ i. s .shared-slice-known3 .given i .fits) _ _
 
 enum-told : tie.Need-enum-told
 enum-told c = search needs
@@ -23,12 +35,12 @@ plan-spec =
     (λ c. let e = c .before .before in
     let j = e .before .before in
     let a = j .before .before .before .before .args in
-    plan-refused (now (a .mesh)) (now (a .order)) (now (a .table)) (a .start) (a .goal) (j .judge-route .result) _ (j .judge-route .ensures) (e .enum-told2 .given .1)
-    (c .before .refusal-of .ensures) (c .no-steps .ensures))
+    promised (j .before) _ (plan-refused (now (a .mesh)) (now (a .order)) (now (a .table)) (a .start) (a .goal) (j .judge-route .result) _ (j .judge-route .ensures) (e .enum-told2 .given .1)
+    (c .before .refusal-of .ensures) (c .no-steps .ensures)))
     (λ c κs. let j = c .before .before in
     let a = j .before .before .before .before .args in
     route-rank (now (a .mesh)) (now (a .order)) (now (a .table)) (a .start) (a .goal) (passed (j .judge-route .ensures) (c .enum-told .given .1)))
     (λ c. let e = c .before in
     let j = e .before .before in
     let a = j .before .before .before .before .args in
-    plan-made (now (a .mesh)) (now (a .order)) (now (a .table)) (a .start) (a .goal) (passed (j .judge-route .ensures) (e .enum-told .given .1)) (c .plan-steps .ensures)))
+    promised (j .before) _ (plan-made (now (a .mesh)) (now (a .order)) (now (a .table)) (a .start) (a .goal) (passed (j .judge-route .ensures) (e .enum-told .given .1)) (c .plan-steps .ensures))))
