@@ -1,16 +1,14 @@
--- Laws of the boundary: the six lists, all and one by one, their places, and the library's answers in numbers (`check-told`, `place-told`).
--- Assumes nothing.
-use Prim.Native.Nat.{ℕ, zero, suc, _+_, _*_, _/_, _%_, _<_, _≤_}
+-- Laws of the boundary: the library's answers in numbers (`check-told`, `place-told`, `plan-told`). Assumes nothing.
+use Prim.Native.Nat.{ℕ, _≤_}
 use mathlib.Core.Path.{_≡_, refl, sym, ap, subst, _∙_}
 use mathlib.Core.List.{List, [], _∷_, map}
 use native.Mathlib.Omega.{arith}
 use lib.ListN.{length, getD}
-use lib.Arith.{digits-div, digits-mod}
-use Rattle.rules.specs.Lists.{tab}
-use Rattle.rules.specs.Limits.{mostAxes, mostDims}
+use Rattle.rules.specs.Limits.{mostDims}
 use Rattle.rules.specs.Sharding.{Sharding}
-use Rattle.rules.specs.Refusals.{Judged, accept, refuse}
-use Rattle.rules.specs.Types.{axesOf, dimsOf, shardingOf, fourPlaces, listFrom, listsFrom, shardingFrom}
+use Rattle.rules.specs.Collectives.{Step}
+use Rattle.rules.specs.Refusals.{Judged, accept, refuse, refusedAs, _>>_}
+use Rattle.rules.specs.Types.{fourPlaces}
 use Rattle.rules.specs.Calls.{CheckAnswer, checkOf, checkedOf, PlaceAnswer, placeOf, placedOf}
 use Rattle.rules.specs.Promises.{CheckPromise, PlacePromise}
 use Rattle.rules.specs.declared.Checked.{Checked}
@@ -19,47 +17,30 @@ use Rattle.rules.specs.declared.CheckOutcome.{CheckOutcome}
 use Rattle.rules.specs.declared.CheckOutcome.the-variants as check
 use Rattle.rules.specs.declared.PlaceOutcome.{PlaceOutcome}
 use Rattle.rules.specs.declared.PlaceOutcome.the-variants as place
-use Rattle.rules.proofs.Lists.{tab-cong}
-use Rattle.rules.proofs.Types.{list-axes}
+use Rattle.rules.specs.declared.Refusal.{Refusal}
+use Rattle.rules.specs.declared.Sharding as code
+use Rattle.rules.specs.declared.Step as declared
+use Rattle.rules.proofs.Judging.{accept-inj, then-inv}
 use Rattle.rules.proofs.Answers.{InPlaces, check-in-places, check-listed, place-in-places, place-listed}
-use Rattle.capi.specs.Boundary.{places, listsOf, listOf, axisIn, shardingReply, checkReply, placeReply, checkedReply, placedReply}
+use Rattle.records.specs.Forms.{shardingGiven}
+use Rattle.records.specs.RoundTrip.{ShortSharding}
+use Rattle.records.specs.Planning.{planSteps, planOf}
+use Rattle.records.specs.PlanAnswer.{stepsFrom, stepsPlanned, plannedOf}
+use Rattle.records.specs.Promises.{PlanPromise}
+use Rattle.records.specs.declared.Steps.{Steps}
+use Rattle.records.specs.declared.Planned.{Planned}
+use Rattle.records.specs.declared.PlanOutcome.{PlanOutcome}
+use Rattle.records.specs.declared.PlanOutcome.the-variants as plan
+use Rattle.records.proofs.Accepting.{plan-few}
+use Rattle.records.proofs.Arrives.{plan-short}
+use Rattle.marshal.specs.Structs.{stepNumbers}
+use Rattle.marshal.specs.declared.StepReply.{StepReply}
+use Rattle.marshal.proofs.Structs.{sharding-of, step-at}
+use Rattle.capi.specs.Boundary.{checkReply, placeReply, checkedReply, placedReply, plannedReply, madeReply}
 
--- ---- the six lists
-
-pub list-unreduced : (s : Sharding) (d : ℕ) → d ≡ mostDims → s .unreduced ≡ listOf s d
-list-unreduced s d e = rw e refl
-
-pub list-replicated : (s : Sharding) (d : ℕ) → d ≡ mostDims + 1 → s .replicated ≡ listOf s d
-list-replicated s d e = rw e refl
-
-pub list-dim : (s : Sharding) (d : ℕ) → d < mostDims → getD (s .dims) d [] ≡ listOf s d
-list-dim s zero h = refl
-list-dim s (suc zero) h = refl
-list-dim s (suc (suc zero)) h = refl
-list-dim s (suc (suc (suc zero))) h = refl
-list-dim s (suc (suc (suc (suc d)))) h = absurd (omega (arith, h))
-
--- the six places of a list among all
-pub six-places : (s : Sharding) (d : ℕ) (l : List ℕ) → l ≡ listOf s d
-    → tab mostAxes (λ i. getD l i 0) ≡ tab mostAxes (λ i. axisIn s (d * mostAxes + i))
-six-places s d l e =
-    tab-cong mostAxes (λ i. getD l i 0) (λ i. axisIn s (d * mostAxes + i)) (λ i h. rw (digits-div d h, digits-mod d h, e))
-
--- the lists of an answer of the library, where each has a place for its axes
-module _ {rank : ℕ} {s : Sharding} (f : InPlaces rank s) where
-  lists-of : listsOf (shardingOf mostDims (shardingFrom s)) ≡ listsOf s
-  unfolding dimsOf listsFrom
-  lists-of =
-      let list : (d : ℕ) → axesOf (listFrom (getD (s .dims) d [])) ≡ getD (s .dims) d [] = λ d. list-axes (getD (s .dims) d []) (f .lists-few d) in
-      (λ i. list 0 i ∷ list 1 i ∷ list 2 i ∷ list 3 i ∷ list-axes (s .unreduced) (f .unreduced-few) i ∷ list-axes (s .replicated) (f .replicated-few) i ∷ [])
-
-  sharding-of : shardingReply (shardingOf mostDims (shardingFrom s)) ≡ shardingReply s
-  sharding-of =
-      let counts : List (List ℕ) → List ℕ = λ ls. map (λ (l : List ℕ). length l) ls in
-      let axes : List (List ℕ) → List ℕ = λ ls. tab places (λ i. getD (getD ls (i / mostAxes) []) (i % mostAxes) 0) in
-      (λ i. record { counts = counts (lists-of i); axes = axes (lists-of i) })
-
--- ---- the library's answers, in numbers
+-- each list of an answer has a place for its axes
+in-places : {rank : ℕ} (s : Sharding) → InPlaces rank s → ShortSharding s
+in-places s f = record { dims = f .lists-few; unreduced = f .unreduced-few; replicated = f .replicated-few }
 
 -- the rank of an answer, 0 beside a refusal
 abbrev pub checkedRank : CheckOutcome → ℕ
@@ -82,7 +63,7 @@ module _ (file : List ℕ) where
           steps = a .steps;
           rank = a .rank;
           shard = fourPlaces 0 (a .shard);
-          sharding = sharding-of f i;
+          sharding = sharding-of (a .sharding) (in-places (a .sharding) f) i;
         }),
         f .rank-few,
       )
@@ -106,7 +87,7 @@ module _ (file : List ℕ) (state device : ℕ) where
           rank = a .rank;
           shard = fourPlaces 0 (a .shard);
           first = fourPlaces 0 (a .first);
-          sharding = sharding-of f i;
+          sharding = sharding-of (a .sharding) (in-places (a .sharding) f) i;
         }),
         f .rank-few,
       )
@@ -119,3 +100,53 @@ module _ (file : List ℕ) (state device : ℕ) where
 
     pub place-rank : placedRank o ≤ mostDims
     place-rank = subst (λ (x : PlaceOutcome). placedRank x ≤ mostDims) (ap (λ (c : Placed). c .outcome) (sym p) ∙ e) (placed (placeOf file state device) refl .1)
+
+-- ---- the planner
+
+-- three steps, one by one
+pub three-steps : (l : List declared.Step) (none : declared.Step) → length l ≡ 3
+    → stepNumbers (getD l 0 none) ∷ stepNumbers (getD l 1 none) ∷ stepNumbers (getD l 2 none) ∷ [] ≡ map stepNumbers l
+three-steps [] none e = absurd (omega arith)
+three-steps (a ∷ []) none e = absurd (omega arith)
+three-steps (a ∷ b ∷ []) none e = absurd (omega arith)
+three-steps (a ∷ b ∷ c ∷ []) none e = refl
+three-steps (a ∷ b ∷ c ∷ d ∷ l) none e = absurd (omega arith)
+
+made-refused : {x : Refusal} → plan.Made ≡ plan.Refused x → ⊥
+made-refused e = let z : _≡_ {A = ℕ} 0 1 = cc in omega arith
+
+module _ (mesh order sizes : List ℕ) (start goal : code.Sharding) where
+  abbrev answer : Judged (List Step)
+  answer = stepsPlanned mesh order sizes start goal
+
+  -- a plan that is made
+  made : (ts : List Step) → answer ≡ accept ts → (madeReply plan.Made (stepsFrom ts) ≡ plannedReply (accept ts)) × (length ts ≤ 3)
+  unfolding stepsFrom
+  made ts e =
+      let s = shardingGiven (length sizes) start in
+      let g = shardingGiven (length sizes) goal in
+      let j = then-inv (planOf mesh order sizes s g) _ ts e in
+      subst (λ (l : List Step). (madeReply plan.Made (stepsFrom l) ≡ plannedReply (accept l)) × (length l ≤ 3)) (accept-inj (j .1))
+      (let h = plan-short mesh order sizes s g (j .0 .0) (j .0 .1) in
+      let l = planSteps s g in (
+        (λ i. record { refusal = 0; count = length l; steps = step-at l 0 h i ∷ step-at l 1 h i ∷ step-at l 2 h i ∷ [] }),
+        plan-few s g,
+      ))
+
+  module _ {r : Planned} (p : PlanPromise mesh order sizes start goal r) where
+    pub plan-told : (o : PlanOutcome) → r .outcome ≡ o → madeReply o (r .plan) ≡ plannedReply answer
+    plan-told (plan.Refused x) e = ap plannedReply (sym (p .refused x e))
+    plan-told plan.Made e = go answer refl
+      where
+        go : (j : Judged (List Step)) → answer ≡ j → madeReply plan.Made (r .plan) ≡ plannedReply j
+        go (accept ts) q =
+            ap (λ (z : Planned). madeReply plan.Made (z .plan)) (p .answers ∙ ap plannedOf q) ∙ made ts q .0
+        go (refuse n k) q = absurd (made-refused (sym e ∙ ap (λ (z : Planned). z .outcome) (p .answers ∙ ap plannedOf q)))
+
+    pub plan-count : r .plan .count ≤ 3
+    unfolding stepsFrom
+    plan-count = go answer refl
+      where
+        go : (j : Judged (List Step)) → answer ≡ j → r .plan .count ≤ 3
+        go (accept ts) q = subst (λ (z : Planned). z .plan .count ≤ 3) (sym (p .answers ∙ ap plannedOf q)) (made ts q .1)
+        go (refuse n k) q = subst (λ (z : Planned). z .plan .count ≤ 3) (sym (p .answers ∙ ap plannedOf q)) (omega arith)

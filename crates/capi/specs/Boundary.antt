@@ -1,11 +1,12 @@
--- What the calls for C answer: the numbers that stand for an answer of the library (rules/specs/Calls.antt), every field of them.
--- Assumes nothing.
-use Prim.Native.Nat.{ℕ, _+_, _*_, _/_, _%_}
-use mathlib.Core.List.{List, [], _∷_, _++_, map}
+-- What the calls for C answer: the numbers that stand for an answer of the library (rules/specs/Calls.antt, records/specs), every field of them.
+-- marshal/specs/Structs.antt has those of a sharding and of a step. Assumes nothing.
+use Prim.Native.Nat.{ℕ, _+_, _*_}
+use mathlib.Core.List.{List, map}
 use lib.ListN.{length, getD, replicate}
 use Rattle.rules.specs.Lists.{tab}
-use Rattle.rules.specs.Limits.{mostAxes, mostDims}
-use Rattle.rules.specs.Sharding.{Sharding}
+use Rattle.rules.specs.Limits.{mostDims}
+use Rattle.rules.specs.Collectives.{Step}
+use Rattle.rules.specs.PlanFile.{plain}
 use Rattle.rules.specs.Refusals.{Judged, accept, refuse, refusedAs}
 use Rattle.rules.specs.Types.{fourPlaces, shardingOf}
 use Rattle.rules.specs.Calls.{CheckAnswer, PlaceAnswer}
@@ -15,46 +16,19 @@ use Rattle.rules.specs.declared.CheckOutcome.the-variants as check
 use Rattle.rules.specs.declared.Placed.{Placed}
 use Rattle.rules.specs.declared.PlaceOutcome.{PlaceOutcome}
 use Rattle.rules.specs.declared.PlaceOutcome.the-variants as place
-use Rattle.capi.specs.declared.ShardingReply.{ShardingReply}
+use Rattle.records.specs.declared.Steps.{Steps}
+use Rattle.records.specs.declared.PlanOutcome.{PlanOutcome}
+use Rattle.records.specs.declared.PlanOutcome.the-variants as plan
+use Rattle.marshal.specs.Structs.{shardingReply, noSharding, stepReply, noStep, stepNumbers}
 use Rattle.capi.specs.declared.CheckReply.{CheckReply}
 use Rattle.capi.specs.declared.PlaceReply.{PlaceReply}
+use Rattle.capi.specs.declared.WriteReply.{WriteReply}
+use Rattle.capi.specs.declared.PlanReply.{PlanReply}
 
 -- the refusal as one number: 0 for none, else the refusal number and 256 times the step
 abbrev pub refusalCode : {A : Type 0} → Judged A → ℕ
 refusalCode (accept a) = 0
 refusalCode (refuse n k) = n + 256 * k
-
--- how many lists a sharding has, and the places of their axes
-abbrev pub lists : ℕ
-lists = mostDims + 2
-
-abbrev pub places : ℕ
-places = lists * mostAxes
-
--- six lists: those of dimensions 0 to 3, no axes past the rank, then the unreduced axes, then the replicated ones
-abbrev pub listsOf : Sharding → List (List ℕ)
-listsOf s = fourPlaces [] (s .dims) ++ s .unreduced ∷ s .replicated ∷ []
-
-abbrev pub listOf : Sharding → ℕ → List ℕ
-listOf s d = getD (listsOf s) d []
-
--- how many axes each list has
-abbrev pub listCounts : Sharding → List ℕ
-listCounts s = map length (listsOf s)
-
--- the axes of each list, in six places; places not used are 0
-abbrev pub axisIn : Sharding → ℕ → ℕ
-axisIn s i = getD (listOf s (i / mostAxes)) (i % mostAxes) 0
-
-abbrev pub listAxes : Sharding → List ℕ
-listAxes s = tab places (axisIn s)
-
--- a sharding; and none, beside a refusal
-abbrev pub shardingReply : Sharding → ShardingReply
-shardingReply s = record { counts = listCounts s; axes = listAxes s }
-
-abbrev pub noSharding : ShardingReply
-noSharding = record { counts = replicate lists 0; axes = replicate places 0 }
 
 -- the check's answer; every field but the refusal is 0 where there is one
 abbrev pub checkReply : Judged CheckAnswer → CheckReply
@@ -94,6 +68,16 @@ placeReply (refuse n k) = record {
   sharding = noSharding;
 }
 
+-- the writer's answer: the bytes of the file
+abbrev pub writtenReply : Judged ℕ → WriteReply
+writtenReply (accept n) = record { refusal = 0; bytes = n }
+writtenReply (refuse n k) = record { refusal = n + 256 * k; bytes = 0 }
+
+-- the planner's: at most three steps as records, no step in the places past the last
+abbrev pub plannedReply : Judged (List Step) → PlanReply
+plannedReply (accept ts) = record { refusal = 0; count = length ts; steps = tab 3 (λ i. getD (map (λ (t : Step). stepReply (plain t)) ts) i noStep) }
+plannedReply (refuse n k) = record { refusal = n + 256 * k; count = 0; steps = replicate 3 noStep }
+
 -- ---- the same numbers, from the library's own answers
 
 abbrev pub checkedReply : CheckOutcome → Checked → CheckReply
@@ -117,3 +101,7 @@ placedReply (place.Found rank) c = record {
   sharding = shardingReply (shardingOf mostDims (c .sharding));
 }
 placedReply (place.Refused r) c = placeReply (refusedAs r)
+
+abbrev pub madeReply : PlanOutcome → Steps → PlanReply
+madeReply plan.Made p = record { refusal = 0; count = p .count; steps = map stepNumbers (p .steps) }
+madeReply (plan.Refused r) p = plannedReply (refusedAs r)

@@ -6,7 +6,7 @@ use mathlib.Core.List.{List, [], _∷_, _++_}
 use lib.ListN.{replicate}
 use Rattle.rules.specs.Calls.{checkOf, placeOf, groupsOf, runOf}
 use Rattle.rules.specs.Ledger.{fileIn, fileOf, w4}
-use Rattle.capi.specs.Boundary.{refusalCode, checkReply, placeReply}
+use Rattle.capi.specs.Boundary.{refusalCode, checkReply, placeReply, writtenReply, plannedReply}
 
 abbrev zeros : ℕ → List ℕ
 zeros n = replicate n 0

@@ -1,16 +1,15 @@
 // The library's calls for C, Rust and Python; include/ishkrela.h declares them.
-// What they answer is defined in specs/Boundary.antt, from the definitions of the library's calls (rules/specs/Calls.antt).
+// What they answer is defined in specs/Boundary.antt, from the definitions of the library's calls (rules/specs/Calls.antt, records/specs).
 ghost use mathlib.Core.Path.{_≡_};
-ghost use Prim.Native.Nat.{_≤_, _<_, _+_, _*_};
-ghost use lib.ListN.{length, getD};
-ghost use Rattle.rules.specs.Lists.{tab};
-ghost use Rattle.rules.specs.Limits.{mostAxes, mostDims};
+ghost use Prim.Native.Nat.{_≤_, _+_, _*_};
+ghost use Rattle.rules.specs.Limits.{mostDims};
 ghost use Rattle.rules.specs.Refusals.{numberOf, refusedAs};
-ghost use Rattle.rules.specs.Types.{axesOf, shardingOf};
 ghost use Rattle.rules.specs.Calls.{checkOf, placeOf, groupsOf, groupsLeave, groupsOrderedOf, groupsOrderedLeave, runOf};
-ghost use Rattle.capi.specs.Boundary.{refusalCode, lists, listOf, listCounts, listAxes, shardingReply, noSharding, checkReply, placeReply, checkedReply, placedReply};
-use ishkrela::Axis;
-use ishkrela::AxisList;
+ghost use Rattle.records.specs.Writing.{writeOf, writeLeaves};
+ghost use Rattle.records.specs.Forms.{recordsGiven};
+ghost use Rattle.records.specs.PlanAnswer.{stepsPlanned};
+ghost use Rattle.marshal.specs.Structs.{shardingIn};
+ghost use Rattle.capi.specs.Boundary.{refusalCode, checkReply, placeReply, checkedReply, placedReply, writtenReply, plannedReply, madeReply};
 use ishkrela::CheckOutcome;
 use ishkrela::Checked;
 use ishkrela::Device;
@@ -18,24 +17,20 @@ use ishkrela::Dim;
 use ishkrela::GroupsOutcome;
 use ishkrela::PlaceOutcome;
 use ishkrela::Placed;
+use ishkrela::PlanOutcome;
 use ishkrela::Refusal;
 use ishkrela::RunOutcome;
-use ishkrela::Sharding;
+use ishkrela::Steps;
 use ishkrela::Totals;
+use ishkrela::WriteOutcome;
+use marshal::ShardingReply;
+use marshal::StepReply;
+use marshal::no_sharding;
+use marshal::no_step;
+use marshal::sharding_in;
+use marshal::sharding_reply;
+use marshal::step_reply;
 use reasons::number_of;
-
-// A list for each dimension, the unreduced axes, and the replicated ones.
-const LISTS: usize = Dim::MOST + 2;
-
-// The places of their axes.
-const PLACES: usize = LISTS * Axis::MOST;
-
-// C's ishkrela_sharding: how many axes each list has, and the axes of each in six places.
-#[repr(C)]
-pub struct ShardingReply {
-    pub counts: [u8; LISTS],
-    pub axes: [u8; PLACES],
-}
 
 // C's ishkrela_checked: the numbers that stand for the check's answer.
 #[repr(C)]
@@ -59,6 +54,21 @@ pub struct PlaceReply {
     pub sharding: ShardingReply,
 }
 
+// C's ishkrela_written: the numbers that stand for the writer's answer.
+#[repr(C)]
+pub struct WriteReply {
+    pub refusal: u32,
+    pub bytes: usize,
+}
+
+// C's ishkrela_planned: the numbers that stand for the planner's answer.
+#[repr(C)]
+pub struct PlanReply {
+    pub refusal: u32,
+    pub count: u32,
+    pub steps: [StepReply; 3],
+}
+
 // The refusal as one number.
 fn code_of(refusal: Refusal) -> u32
     ensures { λ r. ⌜ r ≡ numberOf (refusal .reason) + 256 * refusal .step ⌝ }
@@ -66,88 +76,6 @@ fn code_of(refusal: Refusal) -> u32
     let reason = refusal.reason;
     let number = number_of(reason);
     number as u32 + 256 * (refusal.step as u32)
-}
-
-// One of the six lists: that of a dimension, then the unreduced axes, then the replicated ones.
-fn list_of(sharding: Sharding, d: usize) -> AxisList
-    requires { ⌜ d < lists ⌝ }
-    ensures { λ r. ⌜ axesOf r ≡ listOf (shardingOf mostDims sharding) d ⌝ }
-{
-    if d == Dim::MOST {
-        return sharding.unreduced;
-    }
-    if d == Dim::MOST + 1 {
-        return sharding.replicated;
-    }
-    let dims = sharding.dims;
-    dims.at(Dim(d as u8))
-}
-
-fn count_of(sharding: Sharding, d: usize) -> u8
-    requires { ⌜ d < lists ⌝ }
-    ensures { λ r. ⌜ r ≡ length (listOf (shardingOf mostDims sharding) d) ⌝ }
-{
-    let list = list_of(sharding, d);
-    list.len() as u8
-}
-
-fn list_counts(sharding: Sharding) -> [u8; LISTS]
-    ensures { λ r. ⌜ r ≡ listCounts (shardingOf mostDims sharding) ⌝ }
-{
-    [
-        count_of(sharding, 0),
-        count_of(sharding, 1),
-        count_of(sharding, 2),
-        count_of(sharding, 3),
-        count_of(sharding, 4),
-        count_of(sharding, 5),
-    ]
-}
-
-// The axes of a list in its six places.
-fn put_axes(places: &mut [u8], list: AxisList)
-    requires { ⌜ length (now places) ≡ mostAxes ⌝ }
-    ensures { λ _. ⌜ now (places .exit) ≡ tab mostAxes (λ i. getD (axesOf list) i 0) ⌝ }
-{
-    let mut i: usize = 0;
-    while i < Axis::MOST {
-        let axis = list.at(i);
-        places[i] = axis.0;
-        i += 1;
-    }
-}
-
-fn list_axes(sharding: Sharding) -> [u8; PLACES]
-    ensures { λ r. ⌜ r ≡ listAxes (shardingOf mostDims sharding) ⌝ }
-{
-    let mut axes = [0u8; PLACES];
-    let mut d: usize = 0;
-    while d < LISTS {
-        let first = d * Axis::MOST;
-        let end = first + Axis::MOST;
-        put_axes(&mut axes[first..end], list_of(sharding, d));
-        d += 1;
-    }
-    axes
-}
-
-// A sharding in numbers.
-fn sharding_reply(sharding: Sharding) -> ShardingReply
-    ensures { λ r. ⌜ r ≡ shardingReply (shardingOf mostDims sharding) ⌝ }
-{
-    let counts = list_counts(sharding);
-    let axes = list_axes(sharding);
-    ShardingReply { counts, axes }
-}
-
-// No axes, beside a refusal.
-fn no_sharding() -> ShardingReply
-    ensures { λ r. ⌜ r ≡ noSharding ⌝ }
-{
-    ShardingReply {
-        counts: [0; LISTS],
-        axes: [0; PLACES],
-    }
 }
 
 fn check_refused(refusal: Refusal) -> CheckReply
@@ -279,5 +207,78 @@ pub extern "C" fn ishkrela_run(file: &[u8], work: &mut [u32], spare: &mut [u32])
     match outcome {
         RunOutcome::Finished => 0,
         RunOutcome::Refused(refusal) => code_of(refusal),
+    }
+}
+
+// The write of a plan file from records.
+#[no_mangle]
+pub extern "C" fn ishkrela_write<'a>(
+    mesh: &'a [u16],
+    order: &'a [u16],
+    table: &'a [u16],
+    start: ShardingReply,
+    steps: &[u8],
+    file: &mut [u8],
+) -> WriteReply
+    ensures answers { λ r. ⌜ r ≡ writtenReply (writeOf (recordsGiven (now (mesh .entry)) (now (order .entry)) (now (table .entry)) (shardingIn start) (now (steps .entry))) (now (file .entry))) ⌝ }
+    ensures leaves { λ r. ⌜ now (file .exit) ≡ writeLeaves (recordsGiven (now (mesh .entry)) (now (order .entry)) (now (table .entry)) (shardingIn start) (now (steps .entry))) (now (file .entry)) ⌝ }
+{
+    let sharding = sharding_in(start);
+    let outcome = ishkrela::write(mesh, order, table, sharding, steps, file);
+    match outcome {
+        WriteOutcome::Written(bytes) => WriteReply { refusal: 0, bytes },
+        WriteOutcome::Refused(refusal) => WriteReply {
+            refusal: code_of(refusal),
+            bytes: 0,
+        },
+    }
+}
+
+fn plan_refused(refusal: Refusal) -> PlanReply
+    ensures { λ r. ⌜ r ≡ plannedReply (refusedAs refusal) ⌝ }
+{
+    let none = no_step();
+    PlanReply {
+        refusal: code_of(refusal),
+        count: 0,
+        steps: [none; 3],
+    }
+}
+
+fn plan_made(plan: Steps) -> PlanReply
+    requires { ⌜ plan .count ≤ 3 ⌝ }
+    ensures { λ r. ⌜ r ≡ madeReply PlanOutcome.Made plan ⌝ }
+{
+    let steps = plan.steps;
+    let records = [
+        step_reply(steps[0]),
+        step_reply(steps[1]),
+        step_reply(steps[2]),
+    ];
+    PlanReply {
+        refusal: 0,
+        count: plan.count as u32,
+        steps: records,
+    }
+}
+
+// The plan from one sharding to another.
+#[no_mangle]
+pub extern "C" fn ishkrela_plan<'a>(
+    mesh: &'a [u16],
+    order: &'a [u16],
+    table: &'a [u16],
+    start: ShardingReply,
+    goal: ShardingReply,
+) -> PlanReply
+    ensures { λ r. ⌜ r ≡ plannedReply (stepsPlanned (now (mesh .entry)) (now (order .entry)) (now (table .entry)) (shardingIn start) (shardingIn goal)) ⌝ }
+{
+    let from = sharding_in(start);
+    let to = sharding_in(goal);
+    let planned = ishkrela::plan(mesh, order, table, from, to);
+    let outcome = planned.outcome;
+    match outcome {
+        PlanOutcome::Made => plan_made(planned.plan),
+        PlanOutcome::Refused(refusal) => plan_refused(refusal),
     }
 }

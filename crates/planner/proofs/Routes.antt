@@ -3,6 +3,7 @@ use Prim.Native.Nat.{ℕ, _≤_}
 use mathlib.Core.Path.{_≡_, refl, sym, ap, _∙_, subst}
 use mathlib.Core.Bool.{Bool, true, false, _&&_}
 use mathlib.Core.List.{List, [], _∷_}
+use native.Mathlib.Omega.{arith}
 use lib.ListN.{length}
 use Rattle.rules.specs.Limits.{mostAxes, mostDims}
 use Rattle.rules.specs.Sharding.{Sharding}
@@ -64,6 +65,13 @@ sharding-judged mesh order sizes h m t s a b v e =
     let q = table-is sizes (dims-few mesh order sizes 0 h) b in
     e ∙ (λ i. judgeSharding (p .0 i) (q .0 i) (shardingGiven (q .1 i) s))
 
+-- outcomes
+same-refusal : {x y : Refusal} → outcome.Refused x ≡ outcome.Refused y → x ≡ y
+same-refusal p = cc
+
+made-refused : {x : Refusal} → outcome.Made ≡ outcome.Refused x → ⊥
+made-refused p = let z : _≡_ {A = ℕ} 0 1 = cc in omega arith
+
 -- ---- the tests in turn
 
 module _ (mesh order sizes : List ℕ) (start goal : code.Sharding) where
@@ -101,39 +109,52 @@ module _ (mesh order sizes : List ℕ) (start goal : code.Sharding) where
 
   -- ---- the answer
 
+  -- in every place, and a refusal's number
+  abbrev pub Answered : Planned → Type 0
+  Answered r =
+      (r ≡ plannedOf (stepsPlanned mesh order sizes start goal))
+      × ((x : Refusal) → r .outcome ≡ outcome.Refused x → stepsPlanned mesh order sizes start goal ≡ refusedAs x)
+
   -- the definition makes the same tests
   planned-is : stepsPlanned mesh order sizes start goal ≡ _>>_ (judgeRoute mesh order sizes start goal) (accept (planSteps S G))
   unfolding planOf
   planned-is = simp then-assoc refl
 
-  pub plan-refused : (v : Verdict) (x : Refusal) {t : Refusal} → meaning v ≡ judgeRoute mesh order sizes start goal → v ≡ verdict.Refused x → t ≡ verdicts.refusalOf v
-      → {none : Steps} → none ≡ stepsFrom [] → record { outcome = outcome.Refused t; plan = none } ≡ plannedOf (stepsPlanned mesh order sizes start goal)
-  plan-refused v x {t} e f q {none} n =
-      let j : judgeRoute mesh order sizes start goal ≡ refusedAs x = sym e ∙ ap meaning f in
-      let w : t ≡ refusalOf (numberOf (x .reason)) (x .step) = q ∙ ap verdicts.refusalOf f ∙ sym (refusal-told x) in
-      (λ i. record { outcome = outcome.Refused (w i); plan = n i })
-      ∙ sym (ap plannedOf (planned-is ∙ ap (λ (i : Judged (Unit {0})). _>>_ i (accept (planSteps S G))) j))
+  module _ (v : Verdict) (x : Refusal) (e : meaning v ≡ judgeRoute mesh order sizes start goal) (f : v ≡ verdict.Refused x) where
+    plan-stops : stepsPlanned mesh order sizes start goal ≡ refusedAs x
+    plan-stops = planned-is ∙ ap (λ (i : Judged (Unit {0})). _>>_ i (accept (planSteps S G))) (sym e ∙ ap meaning f)
+
+    pub plan-refused : {t : Refusal} → t ≡ verdicts.refusalOf v → {none : Steps} → none ≡ stepsFrom [] → Answered (record { outcome = outcome.Refused t; plan = none })
+    plan-refused {t} q {none} n =
+        let w : t ≡ x = q ∙ ap verdicts.refusalOf f in
+        let u : t ≡ refusalOf (numberOf (x .reason)) (x .step) = w ∙ sym (refusal-told x) in (
+          (λ i. record { outcome = outcome.Refused (u i); plan = n i }) ∙ sym (ap plannedOf plan-stops),
+          (λ y p. plan-stops ∙ ap (λ (z : Refusal). refusedAs z) (sym w ∙ same-refusal p)),
+        )
 
   pub route-rank : judgeRoute mesh order sizes start goal ≡ accept tt → length sizes ≤ mostDims
   route-rank e = dims-few mesh order sizes 0 (then-inv (judgeShape mesh order sizes 0) _ tt e .0 .1)
 
   pub plan-made : judgeRoute mesh order sizes start goal ≡ accept tt → {made : Steps}
       → made ≡ stepsFrom (planSteps (shardingOf (length sizes) start) (shardingOf (length sizes) goal))
-      → record { outcome = outcome.Made; plan = made } ≡ plannedOf (stepsPlanned mesh order sizes start goal)
+      → Answered (record { outcome = outcome.Made; plan = made })
   plan-made e {made} q =
       let s = then-inv (judgeShape mesh order sizes 0) _ tt e in
       let n : length mesh ≤ mostAxes = axes-few mesh order sizes 0 (s .0 .1) in
       let o = then-inv (judgeSharding mesh sizes S) _ tt (s .1) in
-      let g = then-inv (judgeSharding mesh sizes G) _ tt (o .1) in
-      ap (λ (z : Steps). record { outcome = outcome.Made; plan = z }) (q ∙ (λ i. stepsFrom (planSteps (sym (fits start n (o .0 .1)) i) (sym (fits goal n (g .0 .1)) i))))
-      ∙ sym (ap plannedOf (planned-is ∙ ap (λ (i : Judged (Unit {0})). _>>_ i (accept (planSteps S G))) e))
+      let g = then-inv (judgeSharding mesh sizes G) _ tt (o .1) in (
+        ap (λ (z : Steps). record { outcome = outcome.Made; plan = z }) (q ∙ (λ i. stepsFrom (planSteps (sym (fits start n (o .0 .1)) i) (sym (fits goal n (g .0 .1)) i))))
+            ∙ sym (ap plannedOf (planned-is ∙ ap (λ (i : Judged (Unit {0})). _>>_ i (accept (planSteps S G))) e)),
+        (λ y p. absurd (made-refused p)),
+      )
 
 -- ---- the promise
 
 pub plan-promise : (mesh order sizes : List ℕ) → Shorts mesh → Shorts order → Shorts sizes → (start goal : code.Sharding) (r : Planned)
-    → r ≡ plannedOf (stepsPlanned mesh order sizes start goal) → PlanPromise mesh order sizes start goal r
+    → Answered mesh order sizes start goal r → PlanPromise mesh order sizes start goal r
 plan-promise mesh order sizes m o t start goal r e = record {
-  answers = e;
+  answers = e .0;
+  refused = e .1;
   reaches = λ rs a.
       let p = planner-promise mesh order sizes m o t (S mesh order sizes start goal) (G mesh order sizes start goal) rs a in
       (p .0, p .1, plan-again mesh order sizes (S mesh order sizes start goal) (G mesh order sizes start goal) rs a);

@@ -24,7 +24,7 @@ use Rattle.rules.proofs.Accepted.{SizesFacts, sizes-facts}
 use Rattle.rules.proofs.Whole.{whole-plan}
 use Rattle.records.specs.Records.{known, Records, outermost, outermostFrom, u16sBytes, listBytes, listsBytes, editionOf, replicatedBytes, shardingBytes, stepsBytes, stepsStart, fileLength, fileOf}
 use Rattle.records.specs.Writing.{judgeCounts, judgeSharding, judgeOrder, orderOf, judgeOpening, mostRecords, judgeRecords}
-use Rattle.records.specs.RoundTrip.{Shorts, Fits}
+use Rattle.records.specs.RoundTrip.{Shorts, AllShort, Fits}
 use Rattle.records.specs.Forms.{stepsGiven, recordsBytes}
 use Rattle.records.specs.Planning.{planSteps, reachable, planOf, Reaches, PlannerPromise}
 use Rattle.records.proofs.Places.{from-all}
@@ -155,10 +155,11 @@ module _ (mesh order sizes : List ℕ) (start goal : Sharding) where
           reads,
         ) refl
 
+    short : AllShort (map plain steps)
+    short = outermost-short mesh sizes (stepsBytes (givenOf steps)) few-axes true 0 (length steps) 1 0 start (plainRead 0 steps) reads
+
     given-again : stepsGiven (length sizes) (recordsBytes (map plain steps)) ≡ givenOf steps
-    given-again =
-        steps-again (length sizes) few-dims (map plain steps) (goes .ranked)
-        (outermost-short mesh sizes (stepsBytes (givenOf steps)) few-axes true 0 (length steps) 1 0 start (plainRead 0 steps) reads)
+    given-again = steps-again (length sizes) few-dims (map plain steps) (goes .ranked) short
 
     fits : Shorts mesh → Shorts order → Shorts sizes → Fits made
     unfolding fileLength stepsStart
@@ -231,3 +232,7 @@ pub plan-again : (mesh order sizes : List ℕ) (start goal : Sharding) (r : Reco
 plan-again mesh order sizes start goal r e =
     let j = judged mesh order sizes start goal r e in
     (λ i. record { mesh = mesh; order = order; sizes = sizes; start = start; steps = given-again mesh order sizes start goal (j .0) i }) ∙ j .1
+
+-- and none of its lists has more axes than places
+pub plan-short : (mesh order sizes : List ℕ) (start goal : Sharding) (r : Records) → planOf mesh order sizes start goal ≡ accept r → AllShort (map plain (planSteps start goal))
+plan-short mesh order sizes start goal r e = short mesh order sizes start goal (judged mesh order sizes start goal r e .0)

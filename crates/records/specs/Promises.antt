@@ -6,6 +6,7 @@ use mathlib.Core.List.{List, [], _∷_, map}
 use lib.ListN.{length, take, drop}
 use Rattle.rules.specs.Refusals.{Judged, accept, refuse, refusedAs}
 use Rattle.rules.specs.PlanFile.{plain, Plan, judge}
+use Rattle.rules.specs.declared.Refusal.{Refusal}
 use Rattle.rules.specs.declared.Sharding as code
 use Rattle.records.specs.Records.{Records, recordsOf, fileOf}
 use Rattle.records.specs.Writing.{writeOf, writeLeaves}
@@ -17,6 +18,7 @@ use Rattle.records.specs.declared.WriteOutcome.{WriteOutcome}
 use Rattle.records.specs.declared.WriteOutcome.the-variants as write
 use Rattle.records.specs.declared.Opened.{Opened}
 use Rattle.records.specs.declared.Planned.{Planned}
+use Rattle.records.specs.declared.PlanOutcome.the-variants as plan
 
 -- ---- the writer
 
@@ -56,10 +58,11 @@ pub record ReadPromise (file order steps : List ℕ) (r : Opened) (orderAfter st
 
 -- ---- the planner
 
--- Its answer is the definition's, in every place. Where a plan is made, its steps as records are what the writer takes, and the check accepts the file that is
+-- Its answer is the definition's, in every place, and so is a refusal's number. Where a plan is made, its steps as records are what the writer takes, and the check accepts the file that is
 -- written of them, which ends at the goal and, run to the end, carries a faithful spread of a table from the start to the goal (`Reaches`).
 pub record PlanPromise (mesh order sizes : List ℕ) (start goal : code.Sharding) (r : Planned) : Type 0 where
   pub answers : r ≡ plannedOf (stepsPlanned mesh order sizes start goal)
+  pub refused : (x : Refusal) → r .outcome ≡ plan.Refused x → stepsPlanned mesh order sizes start goal ≡ refusedAs x
   pub reaches : (rs : Records) → planOf mesh order sizes (shardingGiven (length sizes) start) (shardingGiven (length sizes) goal) ≡ accept rs
       → (p : Plan) × Reaches mesh order sizes (shardingGiven (length sizes) start) (shardingGiven (length sizes) goal) rs p
       × (recordsGiven mesh order sizes start

@@ -1,17 +1,15 @@
 use borrow.Author.Needs.{needs}
-use mathlib.Core.Path.{_≡_}
 use denote.Ref.{now}
-use Rattle.records.specs.PlanAnswer.{stepsPlanned, plannedOf}
 use Rattle.records.specs.Promises.{PlanPromise}
 use Rattle.records.specs.declared.Planned.{Planned}
 use Rattle.start.proofs.Verdicts.{passed}
-use Rattle.planner.proofs.Routes.{route-rank, plan-refused, plan-made, plan-promise}
+use Rattle.planner.proofs.Routes.{Answered, route-rank, plan-refused, plan-made, plan-promise}
 use Rattle.planner.proofs.plan.Statement.{statement}
 use Rattle.planner.proofs.plan.Tie as tie
 
 -- the sizes and the device numbers have 16 bits
 promised : (s : tie.After-shared-slice-known3) → (let a = s .before .before .before .args in
-    (r : Planned) → r ≡ plannedOf (stepsPlanned (now (a .mesh)) (now (a .order)) (now (a .table)) (a .start) (a .goal))
+    (r : Planned) → Answered (now (a .mesh)) (now (a .order)) (now (a .table)) (a .start) (a .goal) r
     → PlanPromise (now (a .mesh)) (now (a .order)) (now (a .table)) (a .start) (a .goal) r)
 promised s =
     plan-promise _ _ _ (λ i. s .before .before .shared-slice-known .given i .fits) (λ i. s .before .shared-slice-known2 .given i .fits)

@@ -7,8 +7,8 @@ use Rattle.rules.specs.Lists.{tab}
 use Rattle.rules.specs.Limits.{mostAxes}
 use Rattle.rules.specs.Types.{axesOf}
 use Rattle.rules.proofs.Fronts.{Filled, fill-start, fill-word, fill-end}
-use Rattle.capi.proofs.put_axes.Statement.{statement}
-use Rattle.capi.proofs.put_axes.Tie as tie
+use Rattle.marshal.proofs.put_axes.Statement.{statement}
+use Rattle.marshal.proofs.put_axes.Tie as tie
 
 abbrev Inv-loop : tie.InvT-loop
 Inv-loop places₀ list i₀ places i = Filled (λ k. getD (axesOf list) k 0) places₀ places i × (length places₀ ≡ mostAxes)

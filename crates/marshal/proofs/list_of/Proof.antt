@@ -6,9 +6,9 @@ use mathlib.Core.List.{[]}
 use lib.Seq.{getD-take}
 use Rattle.rules.specs.Limits.{mostDims}
 use Rattle.rules.specs.Types.{dimsOf, shardingOf}
-use Rattle.capi.proofs.Replies.{list-unreduced, list-replicated, list-dim}
-use Rattle.capi.proofs.list_of.Statement.{statement}
-use Rattle.capi.proofs.list_of.Tie as tie
+use Rattle.marshal.proofs.Structs.{list-unreduced, list-replicated, list-dim}
+use Rattle.marshal.proofs.list_of.Statement.{statement}
+use Rattle.marshal.proofs.list_of.Tie as tie
 
 pub list-of-spec : {M : Type 1} → statement M
 list-of-spec =

@@ -1,7 +1,7 @@
 use borrow.Author.Needs.{needs}
 use mathlib.Core.List.{[], _∷_}
-use Rattle.capi.proofs.list_counts.Statement.{statement}
-use Rattle.capi.proofs.list_counts.Tie as tie
+use Rattle.marshal.proofs.list_counts.Statement.{statement}
+use Rattle.marshal.proofs.list_counts.Tie as tie
 
 pub list-counts-spec : {M : Type 1} → statement M
 list-counts-spec =

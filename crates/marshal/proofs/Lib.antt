@@ -1,0 +1,2 @@
+-- The laws of C's structs.
+pub mod Structs
