@@ -7,7 +7,8 @@
  * all-gather, all-reduce (by sum) and all-to-all, and repeats of blocks of steps. State 0 is the
  * start, state k is after the k-th of these steps, where a repeat with all that is in it is one.
  *
- * These calls judge a plan, say where its shards lie, run it, and list device groups. Their code is
+ * These calls judge a plan, say where its shards lie, run it, and list device groups; they write the
+ * file of a plan, and make the plan from one sharding to another. Their code is
  * proved to answer what the rules define on every input: any bytes may be handed over, nothing
  * asks for a valid plan, and no call stops the program. Build (for x86-64 Linux) and link:
  *
@@ -87,6 +88,30 @@
  * numbers of steps in the header and in the check's answer count outermost steps alone.
  *
  *
+ * STEP RECORDS
+ *
+ * The steps of a plan that is to be written are records, one for each kind byte in file order, those
+ * inside a block right after their repeat. A record is an ishkrela_step, 38 bytes: kind, source and
+ * target; how many axes each of five lists has; and six places for each list's axes. The first four
+ * lists are for dimensions 0 to 3, the fifth is the one list of an all-reduce or an all-to-all. A
+ * repeat has its count in source and its number of inner steps in target. What a kind does not use
+ * counts for nothing. Records are handed over as bytes, as many as they take; bytes after the last
+ * whole record count for nothing:
+ *
+ *     ishkrela_step gather = {.kind = ISHKRELA_ALL_GATHER, .counts = {0, 1}, .axes = {[6] = 1}};
+ *     ishkrela_write(mesh, 2, NULL, 0, table, 2, start, (uint8_t *)&gather, sizeof gather, file, 8192);
+ *
+ *
+ * A PLAN IS MADE
+ *
+ * from a start to a goal, two shardings of one table, in at most three steps: an all-reduce of the
+ * start's unreduced axes that are not the goal's; an all-gather that cuts each dimension's list back
+ * to its longest common beginning with the goal's list; an all-slice of what then stands in the goal's
+ * list. A step that would name no axis is left out. The check accepts every such plan, it ends at the
+ * goal, and its run carries a table from the start to the goal. There is none where the goal has an
+ * unreduced axis that is not the start's, or where the replicated lists differ (40).
+ *
+ *
  * REFUSALS
  *
  * Each call answers a refusal as one number, 0 for none. Otherwise it is
@@ -98,17 +123,17 @@
  * of a repeat which alone runs too many plain steps, or else that of the outermost step with which
  * the plan so far does. docs/REFUSALS.md has an example of each number, and what to do.
  *
- *      1  fewer than 18 bytes                  2  more than 8,192 bytes
+ *      1  fewer than 18 bytes                  2  more than 8,192 bytes, given or to be written
  *      3  the edition is none of 1, 2 and 3    4  total length is not the number of bytes given
  *      5  number of axes, rank or number of steps outside its limits
- *      6  an offset is wrong                   7  a section runs past the end
+ *      6  an offset is wrong                   7  a section runs past the end; records end inside a block
  *      8  a list's count is above the number of axes
  *      9  bytes left after the last step
  *     10  a mesh size is 0                    11  the product of mesh sizes passes 1,024
  *     12  a table size is 0                   13  the product of table sizes passes 65,536
- *     14  start: no such axis                 15  start: an axis named before
- *     16  start: unreduced or replicated list not strictly increasing
- *     17  start: a dimension is not divisible
+ *     14  start or goal: no such axis         15  start or goal: an axis named before
+ *     16  start or goal: unreduced or replicated list not strictly increasing
+ *     17  start or goal: a dimension is not divisible
  *     18  start: the replicated list of edition 2 is empty
  *     19  the order is no rearrangement of 0 to D-1, or it is the plain one
  *     20  unknown kind of step                21  a step names no axis
@@ -122,6 +147,8 @@
  *     30  work is shorter than the room       31  spare is shorter than the room
  *     32  no such device                      34  no such state
  *     33  the group output is shorter than the number of devices
+ *     35  the buffer is shorter than the file
+ *     40  the goal has an unreduced axis that is not the start's, or another replicated list
  *     41  repeat: the sharding after the block is not the one before it
  *     42  repeat: deeper than 4
  *     43  more than 4,096 plain steps are run
@@ -141,9 +168,9 @@
  * is 0, so it may be null. The calls keep no state of their own: threads may call at once where none
  * lends memory for writing that another uses.
  *
- * A call takes less than 24 KiB of stack: on the cases of tests/ at most 23,464 bytes for a run, 9,248
- * for a placement, 7,408 for a check, 1,360 for a group listing by an order and 288 for one without
- * (tests/stack.c, which tools/try_c runs).
+ * A call takes less than 24 KiB of stack: on the cases of tests/ at most 23,320 bytes for a run, 9,648
+ * for a placement, 7,808 for a check, 1,232 for a group listing by an order and 144 for one without;
+ * 4,880 for a write and 5,432 for a plan (tests/stack.c, which tools/try_c runs).
  */
 #ifndef ISHKRELA_H
 #define ISHKRELA_H
@@ -159,7 +186,9 @@ extern "C" {
 #define ISHKRELA_STEP(refusal) ((refusal) / 256)
 
 /* The six lists of a sharding: dimensions 0 to 3, the unreduced list, and the list of the axes that
- * are to stay replicated. Axis i of a list is ISHKRELA_AXIS(sharding, list, i). */
+ * are to stay replicated. Axis i of a list is ISHKRELA_AXIS(sharding, list, i). In a sharding that is
+ * handed over, places that are not used count for nothing, and so do lists of dimensions past the
+ * rank; a count above the number of axes, also one above six, is refused (8). */
 #define ISHKRELA_UNREDUCED 4
 #define ISHKRELA_REPLICATED 5
 #define ISHKRELA_AXIS(sharding, list, i) ((sharding).axes[6 * (list) + (i)])
@@ -167,6 +196,22 @@ typedef struct {
     uint8_t counts[6]; /* how many axes each list has; 0 for dimensions past the rank */
     uint8_t axes[36];  /* the axes of each list, in six places; 0 in places not used */
 } ishkrela_sharding;
+
+/* A step record: the lists of dimensions 0 to 3, then the one list. Axis i of a list is
+ * ISHKRELA_AXIS(step, list, i). In an answer places that are not used are 0. */
+#define ISHKRELA_ALL_SLICE 1
+#define ISHKRELA_ALL_GATHER 2
+#define ISHKRELA_ALL_REDUCE 3
+#define ISHKRELA_ALL_TO_ALL 4
+#define ISHKRELA_REPEAT 9
+#define ISHKRELA_ONE_LIST 4
+typedef struct {
+    uint8_t kind;      /* one of the kinds above */
+    uint8_t source;    /* all-to-all: the source dimension; repeat: the count */
+    uint8_t target;    /* all-to-all: the target dimension; repeat: the number of inner steps */
+    uint8_t counts[5]; /* how many axes each list has */
+    uint8_t axes[30];  /* the axes of each list, in six places */
+} ishkrela_step;
 
 /* The answer of the check, of the last state. */
 typedef struct {
@@ -187,6 +232,19 @@ typedef struct {
     uint16_t first[4];           /* where in the table the device's shard begins; 0 past the rank */
     ishkrela_sharding sharding;  /* how the table is spread */
 } ishkrela_placed;
+
+/* The answer of the write. */
+typedef struct {
+    uint32_t refusal; /* 0, or the refusal; bytes is then 0 */
+    size_t bytes;     /* how many bytes the file has */
+} ishkrela_written;
+
+/* The answer of the planner. */
+typedef struct {
+    uint32_t refusal;       /* 0, or the refusal; every other field is then 0 */
+    uint32_t count;         /* the number of steps, 0 to 3 */
+    ishkrela_step steps[3]; /* the steps; those past the count are 0 */
+} ishkrela_planned;
 
 /* Judges a plan file, and announces its last state. Refusals 1 to 28, and 41 to 44. */
 ishkrela_checked ishkrela_check(const uint8_t *file, size_t file_len);
@@ -213,6 +271,21 @@ uint32_t ishkrela_groups_ordered(const uint16_t *mesh, size_t mesh_len, const ui
  * `room` of the check, in words. Refusals of the check; then 30, then 31. */
 uint32_t ishkrela_run(const uint8_t *file, size_t file_len, uint32_t *work, size_t work_len,
                       uint32_t *spare, size_t spare_len);
+
+/* Writes the file of a plan that is given by the sizes of its mesh and of its table, its starting
+ * sharding and its step records; and by the order of its devices, where it has one: an order of no
+ * numbers is none. The file is the one that the check reads as these records, and bytes after it stay;
+ * 8,192 bytes are enough for every plan. Refusals 5, 10, 11, 19, 12, 13, 8, 14 to 17; then those of the
+ * records in turn, 20 to 28, 41 to 44, 8 and 7 among them; then 2, then 35. */
+ishkrela_written ishkrela_write(const uint16_t *mesh, size_t mesh_len, const uint16_t *order, size_t order_len,
+                                const uint16_t *table, size_t table_len, ishkrela_sharding start,
+                                const uint8_t *steps, size_t steps_bytes, uint8_t *file, size_t file_len);
+
+/* Makes the plan from one sharding of a table to another, as step records for the write. Refusals 5,
+ * 10, 11, 19, 12, 13; then 8, 14 to 17 of the start, then of the goal; then 40. */
+ishkrela_planned ishkrela_plan(const uint16_t *mesh, size_t mesh_len, const uint16_t *order, size_t order_len,
+                               const uint16_t *table, size_t table_len, ishkrela_sharding start,
+                               ishkrela_sharding goal);
 
 #ifdef __cplusplus
 }

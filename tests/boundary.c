@@ -28,6 +28,22 @@ FIELD(ishkrela_placed, first, 14, 8);
 FIELD(ishkrela_placed, sharding, 22, 42);
 _Static_assert(sizeof(ishkrela_placed) == 64, "ishkrela_placed");
 
+FIELD(ishkrela_step, kind, 0, 1);
+FIELD(ishkrela_step, source, 1, 1);
+FIELD(ishkrela_step, target, 2, 1);
+FIELD(ishkrela_step, counts, 3, 5);
+FIELD(ishkrela_step, axes, 8, 30);
+_Static_assert(sizeof(ishkrela_step) == 38, "ishkrela_step");
+
+FIELD(ishkrela_written, refusal, 0, 4);
+FIELD(ishkrela_written, bytes, 8, 8);
+_Static_assert(sizeof(ishkrela_written) == 16, "ishkrela_written");
+
+FIELD(ishkrela_planned, refusal, 0, 4);
+FIELD(ishkrela_planned, count, 4, 4);
+FIELD(ishkrela_planned, steps, 8, 114);
+_Static_assert(sizeof(ishkrela_planned) == 124, "ishkrela_planned");
+
 /* mesh 2x2, table of 4, sharding [[1, 0]], gather of [0], and of [1], which is not the tail */
 static const uint8_t tail[] = {1, 0, 2, 0, 1, 0, 1, 0, 18, 0, 22, 0, 24, 0, 28, 0, 31, 0,
                                2, 0, 2, 0, 4, 0, 2, 1, 0, 0, 2, 1, 0};
@@ -225,6 +241,86 @@ static void runs(void)
     assert(memcmp(work, left, sizeof work) == 0 && memcmp(spare, zeros, sizeof spare) == 0);
 }
 
+/* W1: mesh 2x2, table 4x4, sharding [[0], [1]], gather of [1] off dimension 1. */
+static const uint16_t two[] = {2, 2}, four[] = {4, 4};
+static const ishkrela_sharding both = {{1, 1}, {[0] = 0, [6] = 1}};
+static const uint8_t w1[] = {1, 0, 2, 0, 2, 0, 1, 0, 18, 0, 22, 0, 26, 0, 31, 0, 35, 0,
+                             2, 0, 2, 0, 4, 0, 4, 0, 1, 0, 1, 1, 0, 2, 0, 1, 1};
+
+static ishkrela_written write_w1(ishkrela_sharding start, const void *steps, size_t bytes, uint8_t *file, size_t len)
+{
+    return ishkrela_write(two, 2, NULL, 0, four, 2, start, steps, bytes, file, len);
+}
+
+/* What is not used of the records counts for nothing; a refusal leaves the buffer. */
+static void writes(void)
+{
+    const ishkrela_step gather = {ISHKRELA_ALL_GATHER, 7, 7, {0, 1, 7, 7, 7}, {[6] = 1, [7] = 7, [12] = 7, [29] = 7}};
+    ishkrela_sharding unused = both, seven = both, past = both;
+    uint8_t file[40], given[40];
+    unused.counts[2] = unused.counts[3] = unused.axes[1] = unused.axes[35] = 7;
+    seven.counts[ISHKRELA_UNREDUCED] = 7;
+    past.axes[6] = 2;
+    memset(file, 0x55, sizeof file);
+    memset(given, 0x55, sizeof given);
+    ishkrela_written written = write_w1(both, &gather, 38, file, 34);
+    assert(written.refusal == 35 && written.bytes == 0);
+    assert(write_w1(seven, &gather, 38, file, 40).refusal == 8 && write_w1(past, &gather, 38, file, 40).refusal == 14);
+    assert(memcmp(file, given, sizeof file) == 0);
+    written = write_w1(unused, &gather, 75, file, 40);
+    assert(written.refusal == 0 && written.bytes == 35 && memcmp(file, w1, sizeof w1) == 0);
+    assert(memcmp(file + 35, given + 35, 5) == 0);
+    assert(write_w1(both, &gather, 37, file, 40).bytes == 31 && ishkrela_check(file, 31).steps == 0);
+}
+
+/* The records of a repeat, with and without its inner steps; an order makes edition 3. */
+static void writes_blocks(void)
+{
+    const ishkrela_step steps[] = {
+        {.kind = ISHKRELA_REPEAT, .source = 3, .target = 2},
+        {.kind = ISHKRELA_ALL_SLICE, .counts = {1}},
+        {.kind = ISHKRELA_ALL_GATHER, .counts = {1}},
+        {.kind = 5},
+    };
+    const uint16_t mesh[] = {2}, table[] = {2}, cables[] = {1, 0}, unmoved[] = {0, 1};
+    const ishkrela_sharding whole = {0};
+    const uint8_t *records = (const uint8_t *)steps;
+    uint8_t file[64];
+    ishkrela_written written = ishkrela_write(mesh, 1, NULL, 0, table, 1, whole, records, 3 * 38, file, 64);
+    assert(written.refusal == 0 && written.bytes == sizeof block && memcmp(file, block, sizeof block) == 0);
+    assert(ishkrela_write(mesh, 1, NULL, 0, table, 1, whole, records, 2 * 38, file, 64).refusal == 7);
+    assert(ishkrela_write(mesh, 1, NULL, 0, table, 1, whole, records, 4 * 38, file, 64).refusal == 20 + 256 * 4);
+    assert(ishkrela_write(mesh, 1, unmoved, 2, table, 1, whole, records, 3 * 38, file, 64).refusal == 19);
+    written = ishkrela_write(mesh, 1, cables, 2, table, 1, whole, records, 3 * 38, file, 64);
+    assert(written.refusal == 0 && written.bytes == 38 && file[0] == 3 && file[20] == 1 && file[22] == 0);
+    assert(ishkrela_check(file, 38).steps == 1);
+}
+
+/* Mesh 2x2x2, table of 8: from [[2]] with unreduced [0, 1] to [[0]] with unreduced [1], in three steps. */
+static void plans(void)
+{
+    const uint16_t mesh[] = {2, 2, 2}, table[] = {8};
+    const ishkrela_sharding start = {{1, 0, 0, 0, 2}, {[0] = 2, [24] = 0, [25] = 1}}, goal = {{1, 0, 0, 0, 1}, {[24] = 1}};
+    const ishkrela_step steps[3] = {
+        {.kind = ISHKRELA_ALL_REDUCE, .counts = {[ISHKRELA_ONE_LIST] = 1}},
+        {.kind = ISHKRELA_ALL_GATHER, .counts = {1}, .axes = {2}},
+        {.kind = ISHKRELA_ALL_SLICE, .counts = {1}},
+    };
+    uint8_t file[64];
+    ishkrela_planned none = {0}, planned = ishkrela_plan(mesh, 3, NULL, 0, table, 1, start, goal);
+    assert(planned.refusal == 0 && planned.count == 3 && memcmp(planned.steps, steps, sizeof steps) == 0);
+    ishkrela_written written =
+        ishkrela_write(mesh, 3, NULL, 0, table, 1, start, (uint8_t *)planned.steps, 38 * planned.count, file, 64);
+    assert(written.refusal == 0);
+    ishkrela_checked checked = ishkrela_check(file, written.bytes);
+    assert(checked.refusal == 0 && memcmp(&checked.sharding, &goal, sizeof goal) == 0);
+    planned = ishkrela_plan(mesh, 3, NULL, 0, table, 1, start, start);
+    assert(memcmp(&none, &planned, sizeof none) == 0);
+    planned = ishkrela_plan(mesh, 3, NULL, 0, table, 1, goal, start);
+    none.refusal = 40;
+    assert(memcmp(&none, &planned, sizeof none) == 0);
+}
+
 static void empty(void)
 {
     const uint16_t mesh[] = {2};
@@ -233,6 +329,9 @@ static void empty(void)
     assert(ishkrela_run(NULL, 0, NULL, 0, NULL, 0) == 1 && ishkrela_run(tail, sizeof tail, NULL, 0, NULL, 0) == 30);
     assert(ishkrela_groups(NULL, 0, NULL, 0, NULL, 0) == 5 && ishkrela_groups(mesh, 1, NULL, 0, NULL, 0) == 33);
     assert(ishkrela_groups(mesh, 1, NULL, 0, out, 2) == 0 && out[0] == 0 && out[1] == 1);
+    assert(ishkrela_write(NULL, 0, NULL, 0, NULL, 0, both, NULL, 0, NULL, 0).refusal == 5);
+    assert(ishkrela_write(two, 2, NULL, 0, four, 2, both, NULL, 0, NULL, 0).refusal == 35);
+    assert(ishkrela_plan(NULL, 0, NULL, 0, NULL, 0, both, both).refusal == 5);
 }
 
 int main(void)
@@ -246,6 +345,9 @@ int main(void)
     groups();
     groups_ordered();
     runs();
+    writes();
+    writes_blocks();
+    plans();
     empty();
     return 0;
 }

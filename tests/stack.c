@@ -1,4 +1,5 @@
-/* stack CASES ..: how much stack each call takes, on the plan files that begin the lines of CASES.
+/* stack CASES ..: how much stack each call takes, on the plan files that begin the lines of CASES; the
+ * write on a block at depth 4, the planner on a plan of three steps, both by an order.
  *
  * Each call is made in a thread of its own whose stack was painted; what is no longer painted
  * afterwards was used. Fails where a call takes more than include/ishkrela.h says. */
@@ -9,35 +10,71 @@
 #include <string.h>
 #include "ishkrela.h"
 
-enum { CHECK, PLACE, GROUPS, GROUPS_ORDERED, RUN, CALLS, PAINT = 0xa5, STACK = 1 << 18, ROOM = 67108864, SAID = 24576 };
+enum { CALLS = 7, PAINT = 0xa5, STACK = 1 << 18, ROOM = 67108864, SAID = 24576 };
 
-static const char *const names[CALLS] = {"check", "place", "groups", "groups_ordered", "run"};
 static _Alignas(64) unsigned char stack[STACK];
 static uint32_t work[ROOM], spare[ROOM];
 static uint8_t file[10000];
 static size_t len;
 static ishkrela_checked plan;
 static size_t deepest[CALLS];
+static uint32_t refused;
+
+/* mesh 2x3x2x2x3x2, table 12x6x15x2: [[5, 0], [1], [4], [2]] with unreduced [3], and [[0], [1], [4], [5]] */
+static const ishkrela_sharding start = {{2, 1, 1, 1, 1}, {[0] = 5, [6] = 1, [12] = 4, [18] = 2, [24] = 3}};
+static const ishkrela_sharding goal = {{1, 1, 1, 1}, {[0] = 0, [6] = 1, [12] = 4, [18] = 5}};
+static const ishkrela_step nested[] = {
+    {ISHKRELA_REPEAT, 1, 1, {0}, {0}}, {ISHKRELA_REPEAT, 1, 1, {0}, {0}},    {ISHKRELA_REPEAT, 1, 1, {0}, {0}},
+    {ISHKRELA_REPEAT, 2, 2, {0}, {0}}, {ISHKRELA_ALL_GATHER, 0, 0, {1}, {0}}, {ISHKRELA_ALL_SLICE, 0, 0, {1}, {0}},
+};
+
+static const uint16_t mesh[] = {2, 3, 2, 2, 3, 2}, table[] = {12, 6, 15, 2};
+static const uint8_t axes[] = {5, 1, 3, 0, 4, 2};
+static uint16_t order[144], out[1024];
+static uint8_t written[8192];
+
+static void check(void)
+{
+    plan = ishkrela_check(file, len);
+}
+
+static void place(void)
+{
+    ishkrela_place(file, len, plan.steps, plan.devices - 1);
+}
+
+static void groups(void)
+{
+    ishkrela_groups(mesh, 6, axes, len % 7, out, 1024);
+}
+
+static void groups_ordered(void)
+{
+    ishkrela_groups_ordered(mesh, 6, order, 144, axes, len % 7, out, 1024);
+}
+
+static void run(void)
+{
+    ishkrela_run(file, len, work, plan.room, spare, plan.room);
+}
+
+static void write_nested(void)
+{
+    refused |= ishkrela_write(mesh, 6, order, 144, table, 4, start, (const uint8_t *)nested, sizeof nested, written, 8192).refusal;
+}
+
+static void plan_goal(void)
+{
+    refused |= ishkrela_plan(mesh, 6, order, 144, table, 4, start, goal).refusal;
+}
+
+static const char *const names[CALLS] = {"check", "place", "groups", "groups_ordered", "run", "write", "plan"};
+static void (*volatile const calls[CALLS])(void) = {check, place, groups, groups_ordered, run, write_nested, plan_goal};
 
 static void *calling(void *which)
 {
     unsigned char *top = __builtin_frame_address(0);
-    static const uint16_t mesh[] = {2, 3, 2, 2, 3, 2};
-    static const uint8_t axes[] = {5, 1, 3, 0, 4, 2};
-    static uint16_t order[144], out[1024];
-    int call = *(int *)which;
-    if (call == CHECK)
-        plan = ishkrela_check(file, len);
-    if (call == PLACE)
-        ishkrela_place(file, len, plan.steps, plan.devices - 1);
-    if (call == GROUPS)
-        ishkrela_groups(mesh, 6, axes, len % 7, out, 1024);
-    for (uint16_t place = 0; place < 144; place++)
-        order[place] = (uint16_t)(143 - place);
-    if (call == GROUPS_ORDERED)
-        ishkrela_groups_ordered(mesh, 6, order, 144, axes, len % 7, out, 1024);
-    if (call == RUN)
-        ishkrela_run(file, len, work, plan.room, spare, plan.room);
+    calls[*(int *)which]();
     return top;
 }
 
@@ -72,6 +109,8 @@ int main(int argc, char **argv)
 {
     static char line[1 << 16];
     int count = 0, over = 0;
+    for (uint16_t at = 0; at < 144; at++)
+        order[at] = (uint16_t)(143 - at);
     for (int i = 1; i < argc; i++) {
         FILE *cases = fopen(argv[i], "r");
         if (!cases) {
@@ -94,5 +133,5 @@ int main(int argc, char **argv)
         over |= deepest[call] > SAID;
     }
     printf("\n");
-    return over || !count;
+    return over || refused || !count;
 }
