@@ -127,8 +127,8 @@ const LISTS: usize = MOST_RANK + 2;
 #[derive(Clone, Copy, Debug, Default, PartialEq, Eq)]
 #[repr(C)]
 pub struct RawSharding {
-    counts: [u8; LISTS],
-    axes: [[u8; MOST_AXES]; LISTS],
+    pub counts: [u8; LISTS],
+    pub axes: [[u8; MOST_AXES]; LISTS],
 }
 
 /// The check's answer as it crosses the boundary.
@@ -220,7 +220,7 @@ layout!(RawPlanned, 124, refusal 0, count 4, steps 8);
 
 impl RawSharding {
     /// A sharding that is given. A list with more axes than places keeps its count, up to 255.
-    fn of(given: &ShardingRecord, rank: usize) -> RawSharding {
+    pub fn of(given: &ShardingRecord, rank: usize) -> RawSharding {
         assert_eq!(given.dims.len(), rank, "give a list for each dimension");
         let mut raw = RawSharding::default();
         for (dim, list) in given.dims.iter().take(MOST_RANK).enumerate() {

@@ -82,6 +82,7 @@ fn spoil_record(random: &mut Random, steps: &mut [StepRecord]) -> Option<()> {
             let list = random.below(lists.len());
             lists[list].resize(random.pick(&[0, MOST_AXES, MOST_AXES + 1, 255]), Axis(1));
         }
+        StepRecord::Reduce(axes) if random.once_in(2) => axes.extend(axes.first().copied()),
         StepRecord::Reduce(axes) | StepRecord::AllToAll(_, _, axes) => {
             axes.resize(random.pick(&[0, MOST_AXES, MOST_AXES + 1, 255]), Axis(1));
         }

@@ -1,7 +1,10 @@
 //! Compares the library with the reference on random plans, and tries demand 3.
 //!
-//! Arguments: a seed, a number of files, a number of runs. Without the library only demand 3 is
-//! tried, on the reference.
+//! Arguments: a seed, a number of files, a number of runs. Without the library demand 3 and the
+//! planner's plans alone are tried, on the reference.
+
+#[path = "differential/records.rs"]
+mod records;
 
 use bench::answers::{
     Axis, Device, Refusal, MOST_BYTES, MOST_DEPTH, MOST_DEVICES, MOST_ROOM, MOST_RUN, MOST_STEPS,
@@ -12,7 +15,7 @@ use bench::plans::{self, Draft, Scale, Step, FILE_REFUSALS};
 use bench::random::Random;
 use bench::spreads::{product, Layout};
 use bench::{hex, implementations, library, Implementation, Reference};
-use std::collections::BTreeSet;
+use std::collections::BTreeMap;
 use std::fmt::Debug;
 use std::process::ExitCode;
 use std::{env, fmt};
@@ -62,16 +65,31 @@ struct Tally {
     faithful: usize,
     prefixes: usize,
     prefixes_inside_blocks: usize,
-    refusals: BTreeSet<u8>,
+    refusals: Met,
+    records: records::Tally,
 }
 
-/// The numbers of all refusals: those of files, of buffers and of other numbers.
+/// The numbers of the refusals of files, of buffers and of other numbers.
 const REFUSALS: usize = FILE_REFUSALS.len() + 5;
+
+/// With so many files each number that a call gives is met.
+const ENOUGH_FILES: u64 = 20_000;
+
+/// How often each refusal number was met.
+#[derive(Default)]
+struct Met(BTreeMap<u8, usize>);
+
+impl Met {
+    fn see<T>(&mut self, answer: &Result<T, Refusal>) {
+        if let Err(refusal) = answer {
+            *self.0.entry(refusal.number).or_default() += 1;
+        }
+    }
+}
 
 impl Tally {
     fn see<T>(&mut self, answer: &Result<T, Refusal>) {
-        let refusal = answer.as_ref().err();
-        self.refusals.extend(refusal.map(|refusal| refusal.number));
+        self.refusals.see(answer);
     }
 
     fn see_plan(&mut self, draft: &Draft) {
@@ -112,12 +130,17 @@ fn main() -> ExitCode {
         return ExitCode::FAILURE;
     };
     if library().is_none() {
-        println!("The library is not linked: the reference alone is tried, on demand 3.");
+        println!("The library is not linked: the reference alone is tried, on demand 3 and plans.");
     }
     let mut tally = Tally::default();
     let outcome = compare(&mut Random::new(seed), files, runs, &mut tally);
     println!("seed {seed}\n{tally}");
+    let missing = tally.records.missing();
     match outcome {
+        Ok(()) if files >= ENOUGH_FILES && library().is_some() && !missing.is_empty() => {
+            println!("refusals that were not met: {}", missing.join(", "));
+            ExitCode::FAILURE
+        }
         Ok(()) => {
             println!("no difference");
             ExitCode::SUCCESS
@@ -135,7 +158,12 @@ fn compare(random: &mut Random, files: u64, runs: u64, tally: &mut Tally) -> Out
             let file = random_file(random, tally);
             compare_file(random, library, &file, tally)?;
             compare_groups(random, library, tally)?;
+            records::compare_read(random, library, &file, &mut tally.records)?;
+            records::compare_write(random, library, &mut tally.records)?;
         }
+    }
+    for _ in 0..files / 4 {
+        records::compare_plan(random, library(), &mut tally.records)?;
     }
     for _ in 0..runs {
         compare_run(random, tally)?;
@@ -228,8 +256,68 @@ struct Boundary;
 #[cfg(library)]
 mod boundary {
     use super::{shown, Boundary};
-    use bench::answers::{Checked, Device, Placed, Refusal};
-    use bench::library::{raw, RawChecked, RawPlaced};
+    use bench::answers::{Checked, Device, Placed, Refusal, MOST_AXES, MOST_RANK};
+    use bench::library::{
+        raw, RawChecked, RawOpened, RawPlaced, RawPlanned, RawSharding, RawWritten,
+    };
+    use bench::random::Random;
+    use bench::records::{
+        MeshAndTable, Opened, Records, ShardingRecord, StepRecord, RECORD_BYTES, RECORD_LISTS,
+    };
+
+    /// Puts any byte into each place of lists that is not used. A list has six.
+    fn fill(
+        random: &mut Random,
+        counts: &mut [u8],
+        axes: &mut [u8],
+        is_used: impl Fn(usize) -> bool,
+    ) {
+        for (list, (count, places)) in counts
+            .iter_mut()
+            .zip(axes.chunks_mut(MOST_AXES))
+            .enumerate()
+        {
+            let used = if is_used(list) { *count } else { 0 };
+            if !is_used(list) {
+                *count = random.byte();
+            }
+            places
+                .iter_mut()
+                .skip(used.into())
+                .for_each(|place| *place = random.byte());
+        }
+    }
+
+    /// A sharding of a table of this rank with any bytes in the places that are not used.
+    fn sharding(random: &mut Random, given: &ShardingRecord, rank: usize) -> RawSharding {
+        let mut raw = RawSharding::of(given, rank);
+        let is_used = |list| list < rank || list >= MOST_RANK;
+        fill(
+            random,
+            &mut raw.counts,
+            raw.axes.as_flattened_mut(),
+            is_used,
+        );
+        raw
+    }
+
+    /// The same of a step record.
+    fn record(random: &mut Random, step: &StepRecord, rank: usize) -> [u8; RECORD_BYTES] {
+        let mut bytes = step.to_bytes();
+        let (head, lists) = bytes.split_at_mut(3);
+        let (counts, axes) = lists.split_at_mut(RECORD_LISTS);
+        let kind = head[0];
+        let is_used = |list| match kind {
+            1 | 2 => list < rank.min(MOST_RANK),
+            3 | 4 => list == MOST_RANK,
+            _ => false,
+        };
+        fill(random, counts, axes, is_used);
+        if kind != 4 && kind != 9 {
+            (head[1], head[2]) = (random.byte(), random.byte());
+        }
+        bytes
+    }
 
     impl Boundary {
         pub fn check(self, file: &[u8], answer: Result<Checked, Refusal>) -> Option<String> {
@@ -245,6 +333,53 @@ mod boundary {
         ) -> Option<String> {
             shown(&RawPlaced::from(answer), &raw::place(file, state, device))
         }
+
+        /// With any bytes in the places that are not used, and some after the last record.
+        pub fn write(
+            self,
+            random: &mut Random,
+            records: &Records,
+            before: &[u8],
+            (answer, after): (Result<usize, Refusal>, &[u8]),
+        ) -> Option<String> {
+            let rank = records.on.table.len();
+            let start = sharding(random, &records.start, rank);
+            let filled = |step: &StepRecord| record(random, step, rank);
+            let mut steps: Vec<u8> = records.steps.iter().flat_map(filled).collect();
+            let more = random.below(RECORD_BYTES);
+            steps.extend((0..more).map(|_| random.byte()));
+            let mut out = before.to_vec();
+            let written = raw::write(&records.on, start, &steps, &mut out);
+            shown(&(RawWritten::from(answer), after), &(written, &out))
+        }
+
+        pub fn read(
+            self,
+            file: &[u8],
+            order: &[Device],
+            steps: &[u8],
+            answer: Result<Opened, Refusal>,
+        ) -> Option<String> {
+            let (mut order, mut steps) = (order.to_vec(), steps.to_vec());
+            shown(
+                &RawOpened::from(answer),
+                &raw::read(file, &mut order, &mut steps),
+            )
+        }
+
+        /// With any bytes in the places that are not used.
+        pub fn plan(
+            self,
+            random: &mut Random,
+            on: &MeshAndTable,
+            start: &ShardingRecord,
+            goal: &ShardingRecord,
+            answer: Result<Vec<StepRecord>, Refusal>,
+        ) -> Option<String> {
+            let rank = on.table.len();
+            let (start, goal) = (sharding(random, start, rank), sharding(random, goal, rank));
+            shown(&RawPlanned::from(answer), &raw::plan(on, start, goal))
+        }
     }
 }
 
@@ -252,6 +387,8 @@ mod boundary {
 mod boundary {
     use super::Boundary;
     use bench::answers::{Checked, Device, Placed, Refusal};
+    use bench::random::Random;
+    use bench::records::{MeshAndTable, Opened, Records, ShardingRecord, StepRecord};
 
     impl Boundary {
         pub fn check(self, _: &[u8], _: Result<Checked, Refusal>) -> Option<String> {
@@ -264,6 +401,37 @@ mod boundary {
             _: u16,
             _: Device,
             _: Result<Placed, Refusal>,
+        ) -> Option<String> {
+            None
+        }
+
+        pub fn write(
+            self,
+            _: &mut Random,
+            _: &Records,
+            _: &[u8],
+            _: (Result<usize, Refusal>, &[u8]),
+        ) -> Option<String> {
+            None
+        }
+
+        pub fn read(
+            self,
+            _: &[u8],
+            _: &[Device],
+            _: &[u8],
+            _: Result<Opened, Refusal>,
+        ) -> Option<String> {
+            None
+        }
+
+        pub fn plan(
+            self,
+            _: &mut Random,
+            _: &MeshAndTable,
+            _: &ShardingRecord,
+            _: &ShardingRecord,
+            _: Result<Vec<StepRecord>, Refusal>,
         ) -> Option<String> {
             None
         }
@@ -700,7 +868,7 @@ impl fmt::Display for Tally {
             let edition = at + 1;
             writeln!(f, "{plans} plans of edition {edition}, {runs} of them run")?;
         }
-        let met = self.refusals.len();
+        let met = self.refusals.0.len();
         writeln!(f, "{} placements", self.placements)?;
         let by_order = self.listings_by_order;
         writeln!(
@@ -732,7 +900,20 @@ impl fmt::Display for Tally {
             "    {spreads} on spreads of tables, demand 3 tried {prefixes} times, and {} times inside a block",
             self.prefixes_inside_blocks
         )?;
-        write!(f, "{met} of {REFUSALS} refusal numbers met")
+        writeln!(
+            f,
+            "{met} of {REFUSALS} refusal numbers met: {}",
+            self.refusals
+        )?;
+        write!(f, "{}", self.records)
+    }
+}
+
+impl fmt::Display for Met {
+    fn fmt(&self, f: &mut fmt::Formatter) -> fmt::Result {
+        let one = |(number, times): (&u8, &usize)| format!("{times} with {number}");
+        let all: Vec<String> = self.0.iter().map(one).collect();
+        f.write_str(&all.join(", "))
     }
 }
 
