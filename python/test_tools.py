@@ -2,6 +2,7 @@
 
     python3 -m unittest discover python
 """
+import json
 import os
 import shutil
 import subprocess
@@ -9,7 +10,8 @@ import sys
 import tempfile
 import unittest
 
-from ishkrela import AllGather, AllSlice, Repeat, Sharding, plan_file
+from ishkrela import AllGather, AllSlice, Repeat, Sharding
+from plan_bytes import file_of
 
 ROOT = os.path.join(os.path.dirname(os.path.abspath(__file__)), "..")
 KEPT = ("tools", "python/ishkrela.py", "tests/plans.txt")
@@ -85,11 +87,21 @@ class Missing(unittest.TestCase):
     def test_json_cases(self):
         self.assertStops("usage: tools/json_cases FILE.jsonl", "json_cases")
         self.assertStops("none.jsonl: No such file or directory: name a file of cases", "json_cases", "none.jsonl")
-        for line in ("no JSON", "[]", '{"file": "00"}', '{"file": 0, "check": {}}', '{"mesh": [2], "groups": []}'):
+        lines = ["no JSON", "[]", '{"file": "00"}', '{"file": 0, "check": {}}', '{"mesh": [2], "groups": []}']
+        lines += ['{"mesh": [2], "write": ""}', '{"mesh": [2], "plan": []}', *self.cases_of_no_steps()]
+        for line in lines:
             self.write("cases.jsonl", line)
             self.assertStops("cases.jsonl, line 1: not a case: `tools/json_cases --help` shows", "json_cases", "cases.jsonl")
         self.write("cases.jsonl", '{"file": "00", "check": {"no": [1, 0]}}')
         self.assertStops("libishkrela.so is not there: tools/build makes it", "json_cases", "cases.jsonl")
+
+    def cases_of_no_steps(self):
+        """Steps that lack a part or have a number that is no byte, and shardings that lack a list or have none."""
+        given = {"mesh": [2], "order": [], "table": [4], "start": {"dims": [[]]}, "steps": [], "room": 40, "write": ""}
+        for steps in ([[1]], [[3]], [[4, 0, 1]], [[9, 1]], [3], [[3, [256]]]):
+            yield json.dumps({**given, "steps": steps})
+        for start in ({"dims": []}, {}, []):
+            yield json.dumps({**given, "start": start})
 
     def test_edits(self):
         self.write("crates/one/src/lib.rt", "fn one() {\n    let a = 1;\n    let b = 1;\n    let c = 12;\n}\n")
@@ -132,13 +144,13 @@ class Plancheck(unittest.TestCase):
     def test_states_are_those_after_outermost_steps(self):
         pair, blocks = [AllSlice([[0], []]), AllGather([[0], []])], 15
         inner = [Repeat(2, (68 if block < 10 else 67) * pair) for block in range(blocks)]
-        longest = plan_file([2], [2, 1], Sharding([[], []]), inner)
+        longest = file_of([2], [2, 1], Sharding([[], []]), inner)
         self.assertEqual(len(longest), 8192)
         states = [f"{state} 2 1\n" for state in range(blocks + 1)]
         self.assertEqual(self.printed(input=longest), (f"ok {blocks}\n" + "".join(states), ""))
-        between = plan_file([2], [2, 1], Sharding([[], []]), [Repeat(3, pair), pair[0], Repeat(2, pair[::-1])])
+        between = file_of([2], [2, 1], Sharding([[], []]), [Repeat(3, pair), pair[0], Repeat(2, pair[::-1])])
         self.assertEqual(self.printed(input=between), ("ok 3\n0 2 1\n1 2 1\n2 1 1\n3 1 1\n", ""))
-        elsewhere = plan_file([2], [2, 1], Sharding([[], []]), [*pair, Repeat(3, pair[:1])])
+        elsewhere = file_of([2], [2, 1], Sharding([[], []]), [*pair, Repeat(3, pair[:1])])
         self.assertEqual(self.printed(input=elsewhere), ("no 41 3\n", ""))
 
     def test_a_failed_read_is_the_end(self):
