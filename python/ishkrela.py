@@ -316,8 +316,8 @@ class Plan:
         return bytes(file[:self.write_into(file)])
 
     def write_into(self, buffer: Lent) -> int:
-        """Writes the plan's file to the front of a lent buffer, such as a bytearray, and answers how many bytes it has;
-        those after it stay. Raises what `to_bytes` does, and Refused with 35 where the buffer is shorter than the file."""
+        """Writes the plan's file to the front of a lent buffer, such as a bytearray, and answers how many bytes it has.
+        Those after it stay. Raises what `to_bytes` does, and Refused with 35 where the buffer is shorter than that."""
         return _write(self, b"".join(_records(self.steps, len(self.table))), buffer)
 
     @classmethod
@@ -337,7 +337,7 @@ def plan_file(
     mesh: Iterable[int], table: Iterable[int], start: Sharding, steps: Iterable[Step] = (),
     order: Optional[Iterable[int]] = None
 ) -> bytes:
-    """The bytes of a plan's file: those of Plan(mesh, table, start, steps, order).to_bytes(), which says what is raised."""
+    """The bytes of a plan's file, Plan(mesh, table, start, steps, order).to_bytes(), which says what is raised."""
     return Plan(mesh, table, start, steps, order).to_bytes()
 
 
@@ -581,7 +581,8 @@ def _given(whose: str, sharding: Sharding, rank: int) -> _Sharding:
 
 def _mesh_and_table(plan: Plan) -> List[Any]:
     """The mesh, the order and the table of a plan, as the calls take them."""
-    return [given for sizes in (plan.mesh, plan.order or (), plan.table) for given in _lent(array.array("H", sizes), "H")]
+    numbers = [array.array("H", given) for given in (plan.mesh, plan.order or (), plan.table)]
+    return [part for given in numbers for part in _lent(given, "H")]
 
 
 def _write(plan: Plan, records: bytes, buffer: Lent) -> int:

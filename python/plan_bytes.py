@@ -1,4 +1,4 @@
-"""The bytes of plan files, made without the library: of any plan, refused ones too, and in any edition. The tests use it."""
+"""For the tests: the bytes of plan files made without the library, of any plan, refused ones too, in any edition."""
 import itertools
 
 from ishkrela import AllGather, AllReduce, AllSlice, AllToAll

@@ -35,8 +35,8 @@ def outcome(call, *given):
 
 
 def made(mesh, table, start, steps=(), order=()):
-    """The bytes of a plan, accepted or not. The library writes the same ones and reads them as the same plan, or refuses
-    all three alike."""
+    """The bytes of a plan, accepted or not. The library writes the same ones and reads them as the same plan, or it
+    refuses alike to check, to write and to read them."""
     plan = Plan(mesh, table, start, steps, order)
     file = file_of(plan.mesh, plan.table, plan.start, plan.steps, plan.order or ())
     checked, written, read = outcome(check, file), outcome(plan.to_bytes), outcome(Plan.from_bytes, file)
@@ -391,9 +391,9 @@ class Plans(Case):
                 plan.write_into(buffer)
 
     def test_more_axes_than_a_list_has_places(self):
-        for start, steps in ((Sharding([7 * [0]]), []), (Sharding([[]], 255 * [0]), []), (Sharding([[]], [], 7 * [0]), []),
-                             (Sharding([[]]), [AllReduce(7 * [0])]), (Sharding([[]]), [AllSlice([255 * [9]])]),
-                             (Sharding([[]]), [AllToAll(9, 9, 7 * [9])])):
+        given = [(start, []) for start in (Sharding([7 * [0]]), Sharding([[]], 255 * [0]), Sharding([[]], [], 7 * [0]))]
+        steps = [AllReduce(7 * [0]), AllSlice([255 * [9]]), AllToAll(9, 9, 7 * [9])]
+        for start, steps in given + [(Sharding([[]]), [step]) for step in steps]:
             self.assertRefused(8, 0, plan_file, 6 * [1], [1], start, steps)
             self.assertRefused(8, 0, check, file_of(6 * [1], [1], start, steps))
 
@@ -428,8 +428,8 @@ class Plans(Case):
         self.assertEqual(self.between(one, one).steps, ())
         self.assertEqual(self.between(one, Sharding([[0, 1], []])).steps, (AllReduce([2, 3]),))
         self.assertEqual(self.between(Sharding([[], []]), Sharding([[3], [0]])).steps, (AllSlice([[3], [0]]),))
-        back = Sharding([[1, 0], []])
-        self.assertEqual(self.between(Sharding([[0, 1], []]), back).steps, (AllGather([[0, 1], []]), AllSlice([[1, 0], []])))
+        turned = self.between(Sharding([[0, 1], []]), Sharding([[1, 0], []]))
+        self.assertEqual(turned.steps, (AllGather([[0, 1], []]), AllSlice([[1, 0], []])))
 
     def test_a_spread_is_carried_to_the_goal(self):
         table = [*range(1, 33)]
@@ -441,9 +441,9 @@ class Plans(Case):
                 self.assertEqual(moved(file, spread(file, table)), spread(last, table))
 
     def test_no_way_to_the_goal(self):
-        for start, goal in ((Sharding([[], []]), Sharding([[], []], [0])), (Sharding([[], []], [0]), Sharding([[], []], [0, 1])),
-                            (Sharding([[], []], [], [0]), Sharding([[], []])), (Sharding([[], []]), Sharding([[], []], [], [0]))):
-            self.assertRefused(40, 0, self.between, start, goal)
+        none, first, both, kept = ((), ()), ((0,), ()), ((0, 1), ()), ((), (0,))  # unreduced, to stay replicated
+        for start, goal in ((none, first), (first, both), (kept, none), (none, kept)):
+            self.assertRefused(40, 0, self.between, Sharding([[], []], *start), Sharding([[], []], *goal))
 
     def test_what_is_refused_before_that(self):
         whole, goal = Sharding([[], []]), Sharding([[], []], [0])
@@ -451,8 +451,10 @@ class Plans(Case):
                             (16, Sharding([[], []], [1, 0])), (17, Sharding([[0, 1, 2, 3], []]))):
             self.assertRefused(number, 0, self.between, bad, goal)
             self.assertRefused(number, 0, self.between, whole, bad)
-        for number, mesh, order, table in ((10, [0], [0], [0]), (11, [1025], [0], [0]), (19, [2], [0], [0]), (19, [2], [0, 1], [0]),
-                                           (12, [2], None, [0]), (13, [2], None, [65535, 2])):
+        for number, mesh, order, table in (
+            (10, [0], [0], [0]), (11, [1025], [0], [0]), (19, [2], [0], [0]), (19, [2], [0, 1], [0]),
+            (12, [2], None, [0]), (13, [2], None, [65535, 2]),
+        ):
             start = Sharding(len(table) * [9 * [9]])
             self.assertRefused(number, 0, plan_between, mesh, table, start, start, order)
 
@@ -575,16 +577,18 @@ class Boundary(Case):
         return answer, list(lent[0]), list(lent[1])
 
     def test_what_a_read_answers_and_leaves(self):
-        start, steps = Sharding([[1], []], [], [0]), [Repeat(3, [AllGather([[1], []]), AllSlice([[1], []])]), AllToAll(0, 1, [1])]
-        file = made([3, 2], [4, 6], start, steps, [5, 4, 3, 2, 1, 0])
+        block = Repeat(3, [AllGather([[1], []]), AllSlice([[1], []])])
+        file = made([3, 2], [4, 6], Sharding([[1], []], [], [0]), [block, AllToAll(0, 1, [1])], [5, 4, 3, 2, 1, 0])
         answer, order, records = self.opened(file, 7, 5 * 38)
-        self.assertEqual((answer.refusal, answer.n, answer.rank, answer.order, answer.steps_bytes), (0, 2, 2, 6, 4 * 38))
+        self.assertEqual((answer.refusal, answer.n, answer.rank), (0, 2, 2))
+        self.assertEqual((answer.order, answer.steps_bytes), (6, 4 * 38))
         self.assertEqual((list(answer.mesh), list(answer.table)), ([3, 2, 0, 0, 0, 0], [4, 6, 0, 0]))
         self.assertEqual(list(answer.start.counts), [1, 0, 0, 0, 0, 1])
         self.assertEqual(list(answer.start.axes), [1] + 35 * [0])
         by_dim, last = [1, 0, 0, 0, 0, 1] + 29 * [0], [0, 0, 0, 0, 1] + 24 * [0] + [1] + 5 * [0]
         self.assertEqual(order, [5, 4, 3, 2, 1, 0, 65535])
-        self.assertEqual(records, [9, 3, 2] + 35 * [0] + [2, 0, 0] + by_dim + [1, 0, 0] + by_dim + [4, 0, 1] + last + 38 * [255])
+        steps = [9, 3, 2] + 35 * [0] + [2, 0, 0] + by_dim + [1, 0, 0] + by_dim + [4, 0, 1] + last
+        self.assertEqual(records, steps + 38 * [255])
         for lengths in ((5, 4 * 38), (6, 4 * 38 - 1), (0, 0)):
             answer, order, records = self.opened(file, *lengths)
             self.assertEqual((answer.refusal, self.is_0(answer)), (33, True))
@@ -605,7 +609,8 @@ class Boundary(Case):
         self.assertEqual((answer.refusal, self.is_0(answer)), (40, True))
 
     def test_what_a_write_is_given_beside_its_records(self):
-        plan, record = Plan([2, 2], [4, 4], Sharding([[0], [1]])), ishkrela._record(2, 7, 7, [[], [1], 3 * [7], 9 * [7]], 5 * [7])
+        plan = Plan([2, 2], [4, 4], Sharding([[0], [1]]))
+        record = ishkrela._record(2, 7, 7, [[], [1], 3 * [7], 9 * [7]], 5 * [7])
         for more in (b"", 37 * b"\2"):
             file = bytearray(35)
             self.assertEqual((ishkrela._write(plan, record + more, file), bytes(file)), (35, W1))

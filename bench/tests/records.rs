@@ -2,6 +2,8 @@
 //! the refusals, what is left of the lent lists, and the steps from one sharding to another.
 
 use bench::answers::{Device, Dim, Refusal, MOST_BYTES};
+#[cfg(library)]
+use bench::library;
 use bench::plans::{self, accepted, axes, devices, lists, random_scale, Draft, Step};
 use bench::random::Random;
 use bench::records::{MeshAndTable, Opened, Records, ShardingRecord, StepRecord, RECORD_BYTES};
@@ -501,4 +503,65 @@ fn plans_are_accepted_and_end_at_the_goal() {
         }
     }
     assert!(of_length.iter().all(|&plans| plans > 20), "{of_length:?}");
+}
+
+// ---- the safe calls of the library
+
+/// The lines of README.md.
+#[cfg(library)]
+#[test]
+fn a_plan_is_made_of_values() -> Result<(), Refusal> {
+    let on = MeshAndTable {
+        mesh: vec![2, 2],
+        table: vec![4, 4],
+        ..MeshAndTable::default()
+    };
+    let start = ShardingRecord {
+        dims: lists(&[&[0], &[1]]),
+        ..ShardingRecord::default()
+    };
+    let block = vec![
+        Step::Gather(lists(&[&[], &[1]])),
+        Step::Slice(lists(&[&[], &[1]])),
+    ];
+    let file = library::write(&Records::new(on, start, &[Step::Repeat(3, block)]))?;
+    let again = library::read(&file)?;
+    assert_eq!(library::write(&again), Ok(file));
+    assert!(
+        matches!(&again.nested().expect("steps")[..], [Step::Repeat(3, block)] if block.len() == 2)
+    );
+    Ok(())
+}
+
+#[cfg(library)]
+#[test]
+fn what_is_written_is_read_as_the_same_records() {
+    let mut random = Random::new(27);
+    for _ in 0..500 {
+        let draft = plans::small(&mut random);
+        let (records, file) = (Records::from(&draft), draft.encode());
+        assert_eq!(library::write(&records).as_ref(), Ok(&file));
+        assert_eq!(library::read(&file).as_ref(), Ok(&records));
+        let goal = ShardingRecord::from(&library::check(&file).expect("accepted").sharding);
+        let steps = library::plan(&records.on, &records.start, &goal).expect("a plan");
+        let planned = library::write(&Records { steps, ..records }).expect("accepted");
+        assert_eq!(
+            ShardingRecord::from(&library::check(&planned).expect("accepted").sharding),
+            goal
+        );
+    }
+    let longest = blocks::longest(&mut random, plans::small, MOST_BYTES);
+    assert_eq!(
+        library::read(&longest.encode()),
+        Ok(Records::from(&longest))
+    );
+    assert_eq!(library::write(&small(vec![gather()])), refusal(24, 1));
+    assert_eq!(library::read(&[0; 17]), refusal(1, 0));
+}
+
+#[cfg(library)]
+#[test]
+#[should_panic(expected = "give a list for each dimension")]
+fn a_step_has_a_list_for_each_dimension() {
+    let _ = library::write(&small(vec![StepRecord::Slice(lists(&[&[0]]))]));
 }

@@ -454,12 +454,17 @@ fn same_at_boundary(
 }
 
 /// Both answers as text, when they differ.
-fn shown<T: PartialEq + Debug>(reference: &T, library: &T) -> Option<String> {
+fn shown<T: PartialEq + Debug + ?Sized>(reference: &T, library: &T) -> Option<String> {
     let told = || format!("reference {reference:?}\nlibrary   {library:?}");
     (reference != library).then(told)
 }
 
-fn same<T: PartialEq + Debug>(call: &str, file: &[u8], reference: &T, library: &T) -> Outcome {
+fn same<T: PartialEq + Debug + ?Sized>(
+    call: &str,
+    file: &[u8],
+    reference: &T,
+    library: &T,
+) -> Outcome {
     match shown(reference, library) {
         None => Ok(()),
         Some(told) => Err(Difference {
@@ -913,7 +918,10 @@ impl fmt::Display for Met {
     fn fmt(&self, f: &mut fmt::Formatter) -> fmt::Result {
         let one = |(number, times): (&u8, &usize)| format!("{times} with {number}");
         let all: Vec<String> = self.0.iter().map(one).collect();
-        f.write_str(&all.join(", "))
+        match all.is_empty() {
+            true => f.write_str("none"),
+            false => f.write_str(&all.join(", ")),
+        }
     }
 }
 

@@ -100,19 +100,18 @@ pub fn compare_write(
     let answer = Reference.write(&records, &mut ours);
     tally.writes += 1;
     tally.refused_writes.see(&answer);
-    let call = || format!("write into {length} bytes of {}", told(&records));
-    let stayed = &before[answer.unwrap_or(0)..] == &ours[answer.unwrap_or(0)..];
-    same(&call(), &ours, &stayed, &true)?;
+    let call = format!("write into {length} bytes of {}", told(&records));
+    let written = answer.unwrap_or(0);
+    same(&call, &ours, &before[written..], &ours[written..])?;
     let other = library.write(&records, &mut theirs);
-    same(&call(), &ours, &(answer, &ours), &(other, &theirs))?;
-    let call = format!("{}, other places filled", call());
+    same(&call, &ours, &(answer, &ours), &(other, &theirs))?;
+    let call = format!("{call}, any bytes in the places not used");
     same_at_boundary(&ours, &call, |raw| {
         raw.write(random, &records, &before, (answer, &ours))
     })?;
-    if let Ok(length) = answer {
+    if answer.is_ok() {
         tally.written += 1;
-        let file = &ours[..length];
-        compare_again(library, file)?;
+        compare_again(library, &ours[..written])?;
     }
     Ok(())
 }
