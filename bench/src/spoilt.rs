@@ -1,6 +1,6 @@
 //! Plans as records that are refused, most of them.
 
-use crate::answers::{Axis, Dim, MOST_AXES, MOST_BYTES, MOST_RANK, MOST_STEPS};
+use crate::answers::{Axis, Device, Dim, MOST_AXES, MOST_BYTES, MOST_RANK, MOST_STEPS};
 use crate::blocks;
 use crate::plans::{self, axes, Draft, Step};
 use crate::random::Random;
@@ -26,9 +26,25 @@ pub fn records(random: &mut Random) -> Records {
             .steps
             .truncate(random.below(records.steps.len() + 1)),
         1 => drop(spoil_record(random, &mut records.steps)),
+        2 if random.once_in(4) => order(random, &mut records.on.order),
         _ => {}
     }
     records
+}
+
+/// Changes an order of devices; it may still pass.
+pub fn order(random: &mut Random, order: &mut Vec<Device>) {
+    match random.below(6) {
+        0 => order.sort(),
+        1 => drop(order.pop()),
+        2 => order.push(Device(random.draw() as u16)),
+        3 => order.clear(),
+        _ if order.is_empty() => {}
+        _ => {
+            let at = random.below(order.len());
+            order[at] = Device(random.between(0, order.len()) as u16);
+        }
+    }
 }
 
 /// Too many or too few axes, dimensions or steps.

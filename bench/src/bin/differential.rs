@@ -14,7 +14,7 @@ use bench::blocks;
 use bench::plans::{self, Draft, Scale, Step, FILE_REFUSALS};
 use bench::random::Random;
 use bench::spreads::{product, Layout};
-use bench::{hex, implementations, library, Implementation, Reference};
+use bench::{hex, implementations, library, spoilt, Implementation, Reference};
 use std::collections::BTreeMap;
 use std::fmt::Debug;
 use std::process::ExitCode;
@@ -502,16 +502,8 @@ fn listed_order(random: &mut Random, devices: usize) -> Option<Vec<Device>> {
         return None;
     }
     let mut order = plans::random_order(random, devices.max(1));
-    match random.below(12) {
-        0 => order.sort(),
-        1 => drop(order.pop()),
-        2 => order.push(Device(random.draw() as u16)),
-        3 => order.clear(),
-        4 | 5 if !order.is_empty() => {
-            let at = random.below(order.len());
-            order[at] = Device(random.between(0, order.len()) as u16);
-        }
-        _ => {}
+    if random.once_in(2) {
+        spoilt::order(random, &mut order);
     }
     Some(order)
 }

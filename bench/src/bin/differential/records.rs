@@ -259,6 +259,7 @@ fn random_route(random: &mut Random) -> Route {
     match random.below(24) {
         0 => past_a_limit(random, &mut route),
         1 | 2 => spoil_goal(random, &mut route.goal),
+        3 => spoilt::order(random, &mut route.on.order),
         _ => {}
     }
     route
