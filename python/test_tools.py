@@ -120,6 +120,54 @@ class Missing(unittest.TestCase):
             self.assertStops(said, "edits", printed="1 of 2 must-fail edits apply\n")
 
 
+class JsonCases(unittest.TestCase):
+    """Cases of each call in JSON, answered as written there, refused or otherwise."""
+
+    FILE = file_of([2], [4], Sharding([[]]), [AllSlice([[0]])]).hex()
+    WHOLE = {"dims": [[]], "unreduced": [], "replicated": []}
+    SPLIT = {"dims": [[0]], "unreduced": [], "replicated": []}
+    ON = {"mesh": [2], "order": [], "table": [4]}
+    STATES = [{"sharding": WHOLE, "shard": [4]}, {"sharding": SPLIT, "shard": [2]}]
+    WORDS = [1, 2, 3, 4, 5, 6, 7, 8]
+    CASES = [
+        ({"file": FILE}, "check", {"room": 8, "devices": 2, "states": STATES}),
+        ({"file": FILE, "work": WORDS, "spare": WORDS}, "run", {"work": [1, 2, 7, 8, 0, 0, 0, 0], "spare": 8 * [0]}),
+        ({"file": FILE, "state": 1, "device": 1}, "place", {"sharding": SPLIT, "shard": [2], "first": [2]}),
+        ({"mesh": [2], "order": [1, 0], "axes": [0], "room": 3}, "groups", [1, 0]),
+        ({**ON, "start": WHOLE, "steps": [[1, [[0]]]], "room": 27}, "write", FILE),
+        ({**ON, "start": WHOLE, "goal": SPLIT}, "plan", [[1, [[0]]]]),
+    ]
+    REFUSED = [
+        ({"file": FILE[2:]}, "check", {"no": [3, 0]}),
+        ({"file": FILE, "work": [1], "spare": []}, "run", {"no": [30, 0]}),
+        ({"file": FILE, "state": 1, "device": 2}, "place", {"no": [32, 0]}),
+        ({"mesh": [2], "order": [1, 0], "axes": [], "room": 1}, "groups", {"no": [33, 0]}),
+        ({**ON, "start": WHOLE, "steps": [[1, [[0]]]], "room": 26}, "write", {"no": [35, 0]}),
+        ({**ON, "start": WHOLE, "steps": [[9, 1, 2], [1, [[0]]]], "room": 40}, "write", {"no": [7, 0]}),
+        ({**ON, "start": WHOLE, "steps": [[1, [[0]]], [5]], "room": 40}, "write", {"no": [20, 2]}),
+        ({**ON, "start": SPLIT, "goal": {**WHOLE, "unreduced": [0]}}, "plan", {"no": [40, 0]}),
+    ]
+
+    def said(self, cases):
+        with tempfile.NamedTemporaryFile("w", suffix=".jsonl") as file:
+            file.write("".join(json.dumps({**given, call: answer}) + "\n" for given, call, answer in cases))
+            file.flush()
+            tool = os.path.join(ROOT, "tools", "json_cases")
+            done = subprocess.run([tool, file.name], capture_output=True, text=True)
+            return done.returncode, done.stdout.replace(file.name, "file"), done.stderr
+
+    def test_answered_as_written(self):
+        cases = self.CASES + self.REFUSED
+        self.assertEqual(self.said(cases), (0, f"file: {len(cases)} cases, 0 differences\n", ""))
+
+    def test_answered_otherwise(self):
+        cases = [(given, call, {"no": [1, 0]}) for given, call, _ in self.CASES]
+        cases += [(given, call, {"no": [answer["no"][0], 9]}) for given, call, answer in self.REFUSED]
+        status, said, _ = self.said(cases)
+        self.assertEqual((status, said.split("\n")[0]), (1, "file, line 1: answered otherwise"))
+        self.assertIn(f"file: {len(cases)} cases, {len(cases)} differences\n", said)
+
+
 class Plancheck(unittest.TestCase):
     """What the fixtures of the program don't run."""
 
