@@ -71,7 +71,8 @@ pub fn write_into(records: &Records, out: &mut [u8]) -> Result<usize, Refusal> {
 /// The records of a plan file, which `write` makes into the same bytes again.
 pub fn read(file: &[u8]) -> Result<Records, Refusal> {
     let mut order = vec![Device::default(); MOST_DEVICES];
-    let mut steps = vec![0; file.len() / LEAST_STEP_BYTES * RECORD_BYTES];
+    let records = file.len().min(MOST_BYTES) / LEAST_STEP_BYTES;
+    let mut steps = vec![0; records * RECORD_BYTES];
     let opened = read_into(file, &mut order, &mut steps)?;
     Ok(Records::opened(&opened, &order, &steps).expect("the records of an accepted file"))
 }
