@@ -59,11 +59,8 @@ fn past_a_limit(random: &mut Random, draft: Draft) -> Records {
             records.steps.clear();
         }
         _ => {
-            let step = random.pick(&[0, 1]);
-            let step = StepRecord::Repeat {
-                count: 1,
-                steps: step,
-            };
+            let steps = random.pick(&[0, 1]);
+            let step = StepRecord::Repeat { count: 1, steps };
             let last = StepRecord::Unknown(random.byte() | 16);
             records.steps = [vec![step; 2 * MOST_STEPS], vec![last; MOST_STEPS]].concat();
         }
