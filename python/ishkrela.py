@@ -31,9 +31,17 @@ Devices are numbered in row-major order of their coordinates, or as the order of
                      | 13 14 15 16 | 13 14 15 16 |
                      +-------------+-------------+
 
-check, place, groups and run are the calls of the verified library, which answers what the rules
-define on every input and raises Refused where they refuse. plan_file, spread, moved and picture
-are plain Python beside it.
+From one sharding to another there is a plan that the library makes, and a file is read back:
+
+    >>> plan = plan_between([2, 2], [4, 4], Sharding([[0], [1]]), Sharding([[1], []]))
+    >>> plan.steps
+    (AllGather(lists=((0,), (1,))), AllSlice(lists=((1,), ())))
+    >>> Plan.from_bytes(plan.to_bytes()) == plan
+    True
+
+check, place, groups, run, plan_file, plan_between and the two ways of Plan are calls of the verified
+library, which answers what the rules define on every input; where they refuse, Refused is raised.
+spread, moved and picture are plain Python beside it.
 
 A plan file is any bytes-like object, taken whole: bytes, a bytearray, a memoryview, an array. Memory
 that is lent for writing is a writable buffer without gaps: an array.array, or a memoryview, a ctypes
@@ -47,18 +55,20 @@ import ctypes
 import itertools
 import math
 import os
-import struct
-from dataclasses import dataclass
+from dataclasses import dataclass, replace
 from typing import Any, Iterable, Iterator, List, Optional, Sequence, Tuple, Union
 
 __all__ = [
-    "AllGather", "AllReduce", "AllSlice", "AllToAll", "Checked", "Placed", "Refused", "Repeat", "Sharding",
-    "check", "groups", "moved", "picture", "place", "plan_file", "run", "spread",
+    "AllGather", "AllReduce", "AllSlice", "AllToAll", "Checked", "Placed", "Plan", "Refused", "Repeat", "Sharding",
+    "check", "groups", "moved", "picture", "place", "plan_between", "plan_file", "run", "spread",
 ]
 
 MOST_AXES = 6
 MOST_DIMS = 4
 MOST_DEVICES = 1024
+MOST_BYTES = 8192
+RECORD_BYTES = 38  # of a step, as ishkrela_step of include/ishkrela.h has it
+LEAST_STEP_BYTES = 3  # of a step in the file of an accepted plan: it names an axis
 
 TEXTS = {
     1: "fewer than 18 bytes",
@@ -92,8 +102,10 @@ TEXTS = {
     30: "work is shorter than the room",
     31: "spare is shorter than the room",
     32: "no such device",
-    33: "the group output is shorter than the number of devices",
+    33: "an output is too short: for the devices of all groups; for the order or the records of a file",
     34: "no such state",
+    35: "the buffer is shorter than the file",
+    40: "the goal has an unreduced axis that is not the start's, or another replicated list",
     41: "repeat: the sharding after the block is not the one before it",
     42: "repeat: deeper than 4",
     43: "more than 4,096 plain steps are run",
@@ -102,7 +114,7 @@ TEXTS = {
 
 
 Bytes = Union[bytes, bytearray, memoryview, array.array]
-Lent = Union[array.array, memoryview, ctypes.Array]
+Lent = Union[array.array, bytearray, memoryview, ctypes.Array]
 Axes = Sequence[int]
 Lists = Sequence[Axes]
 
@@ -213,7 +225,7 @@ def run(file: Bytes, work: Lent, spare: Lent) -> None:
     _raise(_library().ishkrela_run(*_read(file), *_lent(work, "I"), *_lent(spare, "I")))
 
 
-# ---- plan files
+# ---- plans
 
 
 @dataclass(frozen=True)
@@ -225,9 +237,6 @@ class AllSlice:
     def __post_init__(self) -> None:
         _keep(self, lists=_tuples(self.lists))
 
-    def encode(self) -> bytes:
-        return b"\1" + _lists(self.lists)
-
 
 @dataclass(frozen=True)
 class AllGather:
@@ -238,9 +247,6 @@ class AllGather:
     def __post_init__(self) -> None:
         _keep(self, lists=_tuples(self.lists))
 
-    def encode(self) -> bytes:
-        return b"\2" + _lists(self.lists)
-
 
 @dataclass(frozen=True)
 class AllReduce:
@@ -250,9 +256,6 @@ class AllReduce:
 
     def __post_init__(self) -> None:
         _keep(self, axes=tuple(self.axes))
-
-    def encode(self) -> bytes:
-        return b"\3" + _lists([self.axes])
 
 
 @dataclass(frozen=True)
@@ -266,9 +269,6 @@ class AllToAll:
     def __post_init__(self) -> None:
         _keep(self, axes=tuple(self.axes))
 
-    def encode(self) -> bytes:
-        return b"\4" + _bytes([self.source, self.target]) + _lists([self.axes])
-
 
 @dataclass(frozen=True)
 class Repeat:
@@ -281,46 +281,81 @@ class Repeat:
     def __post_init__(self) -> None:
         _keep(self, steps=tuple(self.steps))
 
-    def encode(self) -> bytes:
-        return b"\x09" + _bytes([self.count, len(self.steps)]) + b"".join(step.encode() for step in self.steps)
-
 
 Step = Union[AllSlice, AllGather, AllReduce, AllToAll, Repeat]
 
 
+@dataclass(frozen=True)
+class Plan:
+    """A plan as Python values: mesh sizes, table sizes, the Sharding at the start, and steps; and the order of the
+    devices, the one at each coordinate tuple in row-major order, or None for plain order.
+
+    Any values make one; `to_bytes` has the library judge it. Plans are compared and hashed as values, and two that
+    are accepted are equal just where their files are. An order of no numbers is None.
+    """
+
+    mesh: Sequence[int]
+    table: Sequence[int]
+    start: Sharding
+    steps: Sequence[Step] = ()
+    order: Optional[Sequence[int]] = None
+
+    def __post_init__(self) -> None:
+        order = None if self.order is None else tuple(self.order) or None
+        _keep(self, mesh=tuple(self.mesh), table=tuple(self.table), steps=tuple(self.steps), order=order)
+
+    def to_bytes(self) -> bytes:
+        """The bytes of the plan's file, to be written to disk as they are. Raises Refused, with the number and the step
+        that the check would give, where the rules refuse the plan.
+
+        What is no plan at all raises before that: ValueError where the sharding or a step has not one list for each
+        dimension of the table, OverflowError where a number does not fit its place in a file (16 bits for sizes and
+        devices, 8 for axes, dimensions and counts).
+        """
+        file = bytearray(MOST_BYTES)
+        return bytes(file[:self.write_into(file)])
+
+    def write_into(self, buffer: Lent) -> int:
+        """Writes the plan's file to the front of a lent buffer, such as a bytearray, and answers how many bytes it has.
+        Those after it stay. Raises what `to_bytes` does, and Refused with 35 where the buffer is shorter than that."""
+        return _write(self, b"".join(_records(self.steps, len(self.table))), buffer)
+
+    @classmethod
+    def from_bytes(cls, file: Bytes) -> "Plan":
+        """The plan of a file that the check accepts: `to_bytes` gives these bytes again. Raises Refused on others."""
+        whole, length = _read(file)
+        order = array.array("H", bytes(2 * MOST_DEVICES))
+        records = array.array("B", bytes(min(length, MOST_BYTES) // LEAST_STEP_BYTES * RECORD_BYTES))
+        answer = _library().ishkrela_read(whole, length, *_lent(order, "H"), *_lent(records, "B"))
+        _raise(answer.refusal)
+        start, steps = _sharding(answer.start, answer.rank), records[:answer.steps_bytes].tobytes()
+        mesh, table = _front(answer.mesh, answer.n), _front(answer.table, answer.rank)
+        return cls(mesh, table, start, _steps(_apart(steps), answer.rank), order[:answer.order])
+
+
 def plan_file(
     mesh: Iterable[int], table: Iterable[int], start: Sharding, steps: Iterable[Step] = (),
-    edition: Optional[int] = None, order: Iterable[int] = ()
+    order: Optional[Iterable[int]] = None
 ) -> bytes:
-    """The bytes of a plan: mesh sizes, table sizes, the Sharding at the start, and steps; and the order
-    of the devices, the one at each coordinate tuple in row-major order, where it is not the plain one.
+    """The bytes of a plan's file, Plan(mesh, table, start, steps, order).to_bytes(), which says what is raised."""
+    return Plan(mesh, table, start, steps, order).to_bytes()
 
-    Judges nothing: a plan that the rules refuse has a file too. But a file has no place for how many
-    lists there are, so one list for each dimension of the table is asked for (ValueError).
 
-    The edition is 3 where an order is given; otherwise it is 1 where no axis is to stay replicated, and
-    2 where one is. Naming another makes a file that is refused; editions 1 and 2 have no place for an
-    order, and edition 1 has none for the replicated list (ValueError).
+def plan_between(
+    mesh: Iterable[int], table: Iterable[int], start: Sharding, goal: Sharding, order: Optional[Iterable[int]] = None
+) -> Plan:
+    """The Plan that leads from one sharding to another: an all-reduce, then an all-gather, then an all-slice, each
+    left out where it would name no axis. Run on a spread of a table under the start it leaves one under the goal.
+
+    Raises Refused where mesh, order, table or a sharding is refused, and with 40 where no step leads to the goal: it
+    has an unreduced axis that the start lacks, or other axes that are to stay replicated.
     """
-    mesh, table, steps, order = [*mesh], [*table], [*steps], [*order]
-    if edition is None:
-        edition = 3 if order else 2 if start.replicated else 1
-    for part, given, first in (("the replicated list", start.replicated, 2), ("the order", order, 3)):
-        if given and edition in range(1, first):
-            raise ValueError(f"edition {edition} has no place for {part}: leave the edition out, or {part}")
-    _count_lists("the sharding", start.dims, len(table))
-    for number, step in enumerate(_in_file_order(steps), 1):
-        if isinstance(step, (AllSlice, AllGather)):
-            _count_lists(f"step {number}, {type(step).__name__},", step.lists, len(table))
-    sections = [
-        _numbers(mesh + order),
-        _numbers(table),
-        _lists([*start.dims, start.unreduced] + ([] if edition == 1 else [start.replicated])),
-        b"".join(step.encode() for step in steps),
-    ]
-    ends = list(itertools.accumulate(map(len, sections), initial=18))
-    header = [edition, len(mesh), len(table), len(steps), *ends]
-    return _numbers(header) + b"".join(sections)
+    plan = Plan(mesh, table, start, (), order)
+    rank = len(plan.table)
+    shardings = [_given("the start", start, rank), _given("the goal", goal, rank)]
+    answer = _library().ishkrela_plan(*_mesh_and_table(plan), *shardings)
+    _raise(answer.refusal)
+    return replace(plan, steps=tuple(_steps(_apart(bytes(answer.steps)[:RECORD_BYTES * answer.count]), rank)))
 
 
 def moved(file: Bytes, words: Iterable[int]) -> List[int]:
@@ -407,6 +442,29 @@ class _Placed(ctypes.Structure):
     ]
 
 
+class _Step(ctypes.Structure):
+    _fields_ = [
+        ("kind", ctypes.c_uint8), ("source", ctypes.c_uint8), ("target", ctypes.c_uint8),
+        ("counts", ctypes.c_uint8 * (MOST_DIMS + 1)), ("axes", ctypes.c_uint8 * ((MOST_DIMS + 1) * MOST_AXES)),
+    ]
+
+
+class _Written(ctypes.Structure):
+    _fields_ = [("refusal", ctypes.c_uint32), ("bytes", ctypes.c_size_t)]
+
+
+class _Opened(ctypes.Structure):
+    _fields_ = [
+        ("refusal", ctypes.c_uint32), ("n", ctypes.c_uint16), ("rank", ctypes.c_uint16),
+        ("mesh", ctypes.c_uint16 * MOST_AXES), ("table", ctypes.c_uint16 * MOST_DIMS), ("start", _Sharding),
+        ("order", ctypes.c_size_t), ("steps_bytes", ctypes.c_size_t),
+    ]
+
+
+class _Planned(ctypes.Structure):
+    _fields_ = [("refusal", ctypes.c_uint32), ("count", ctypes.c_uint32), ("steps", _Step * 3)]
+
+
 _loaded = None
 
 
@@ -431,9 +489,14 @@ def _typed(library: Any) -> Any:
         "ishkrela_groups": (ctypes.c_uint32, 3 * slice_of),
         "ishkrela_groups_ordered": (ctypes.c_uint32, 4 * slice_of),
         "ishkrela_run": (ctypes.c_uint32, file + 2 * slice_of),
+        "ishkrela_write": (_Written, 3 * slice_of + [_Sharding] + file + slice_of),
+        "ishkrela_read": (_Opened, file + 2 * slice_of),
+        "ishkrela_plan": (_Planned, 3 * slice_of + 2 * [_Sharding]),
     }
     for name, (answer, takes) in calls.items():
-        call = getattr(library, name)
+        call = getattr(library, name, None)
+        if call is None:
+            raise ImportError(f"{library._name} has no {name}: it is older than this module, tools/build makes it anew")
         call.restype, call.argtypes = answer, takes
     return library
 
@@ -492,16 +555,82 @@ def _tuples(lists: Lists) -> Tuple[Tuple[int, ...], ...]:
     return tuple(map(tuple, lists))
 
 
-def _numbers(numbers: Iterable[int]) -> bytes:
-    return b"".join(_number(number, 16).to_bytes(2, "little") for number in numbers)
-
-
 def _bytes(numbers: Iterable[int]) -> bytes:
     return bytes(_number(number, 8) for number in numbers)
 
 
-def _lists(lists: Lists) -> bytes:
-    return b"".join(_bytes([len(axes), *axes]) for axes in lists)
+def _places(lists: Lists) -> Tuple[bytes, bytes]:
+    """How many axes each list has, and its axes in six places. Where there are more, the count tells it: that is 8."""
+    for axes in lists:
+        if len(axes) > 255:
+            raise OverflowError(f"a list of {len(axes)} axes: a list in a file has 255 at most, and each axis once")
+    places = b"".join(_bytes(axes)[:MOST_AXES].ljust(MOST_AXES, b"\0") for axes in lists)
+    return _bytes(map(len, lists)), places
+
+
+def _by_dim(lists: Lists) -> List[Axes]:
+    """The lists of four dimensions. A table with more is refused (5), whatever they name."""
+    return [*lists, *(MOST_DIMS * [()])][:MOST_DIMS]
+
+
+def _given(whose: str, sharding: Sharding, rank: int) -> _Sharding:
+    _count_lists(whose, sharding.dims, rank)
+    counts, axes = _places([*_by_dim(sharding.dims), sharding.unreduced, sharding.replicated])
+    return _Sharding(tuple(counts), tuple(axes))
+
+
+def _mesh_and_table(plan: Plan) -> List[Any]:
+    """The mesh, the order and the table of a plan, as the calls take them."""
+    numbers = [array.array("H", given) for given in (plan.mesh, plan.order or (), plan.table)]
+    return [part for given in numbers for part in _lent(given, "H")]
+
+
+def _write(plan: Plan, records: bytes, buffer: Lent) -> int:
+    """Writes the file of a plan, with these records as its steps, into a lent buffer. Answers how many bytes it has."""
+    start = _given("the sharding", plan.start, len(plan.table))
+    answer = _library().ishkrela_write(*_mesh_and_table(plan), start, *_read(records), *_lent(buffer, "B"))
+    _raise(answer.refusal)
+    return answer.bytes
+
+
+def _records(steps: Iterable[Step], rank: int) -> Iterator[bytes]:
+    """The record of each step, those inside a repeat after its own."""
+    for number, step in enumerate(_in_file_order(steps), 1):
+        if isinstance(step, (AllSlice, AllGather)):
+            _count_lists(f"step {number}, {type(step).__name__},", step.lists, rank)
+            yield _record(1 if isinstance(step, AllSlice) else 2, lists=step.lists)
+        elif isinstance(step, AllReduce):
+            yield _record(3, axes=step.axes)
+        elif isinstance(step, AllToAll):
+            yield _record(4, step.source, step.target, axes=step.axes)
+        elif isinstance(step, Repeat):
+            if len(step.steps) > 255:
+                raise OverflowError(f"step {number} has {len(step.steps)} inner steps: a repeat has 255 at most")
+            yield _record(9, step.count, len(step.steps))
+        else:
+            raise TypeError(f"step {number} is a {type(step).__name__}: give AllSlice, AllGather, .. or Repeat")
+
+
+def _record(kind: int, source: int = 0, target: int = 0, lists: Lists = (), axes: Axes = ()) -> bytes:
+    return b"".join([_bytes([kind, source, target]), *_places([*_by_dim(lists), axes])])
+
+
+def _apart(records: bytes) -> Iterator[_Step]:
+    return (_Step.from_buffer_copy(records, at) for at in range(0, len(records), RECORD_BYTES))
+
+
+def _steps(records: Iterator[_Step], rank: int) -> Iterator[Step]:
+    """The steps of records that the library made: a repeat takes those of its block."""
+    for record in records:
+        *lists, axes = [tuple(record.axes[MOST_AXES * d:][:count]) for d, count in enumerate(record.counts)]
+        if record.kind == 9:
+            yield Repeat(record.source, itertools.islice(_steps(records, rank), record.target))
+        elif record.kind == 4:
+            yield AllToAll(record.source, record.target, axes)
+        elif record.kind == 3:
+            yield AllReduce(axes)
+        else:
+            yield (AllSlice if record.kind == 1 else AllGather)(lists[:rank])
 
 
 def _in_file_order(steps: Iterable[Step]) -> Iterator[Step]:
@@ -538,12 +667,8 @@ def _count_words(file: Bytes, state: int, words: Sequence[int]) -> Tuple[int, ..
 
 def _sizes(file: Bytes) -> Tuple[Tuple[int, ...], ...]:
     """Of a plan that is accepted: the sizes of the mesh, the device at each coordinate tuple, the sizes of the table."""
-    devices = check(file).devices
-    whole, _ = _read(file)
-    edition, axes, rank, _, at, table_at = struct.unpack_from("<6H", whole)
-    mesh, table = struct.unpack_from(f"<{axes}H", whole, at), struct.unpack_from(f"<{rank}H", whole, table_at)
-    order = struct.unpack_from(f"<{devices}H", whole, at + 2 * axes) if edition == 3 else tuple(range(devices))
-    return mesh, order, table
+    plan = Plan.from_bytes(file)
+    return plan.mesh, plan.order or tuple(range(math.prod(plan.mesh))), plan.table
 
 
 def _by(sizes: Iterable[int]) -> str:

@@ -8,6 +8,7 @@ import ctypes
 import doctest
 import glob
 import inspect
+import itertools
 import json
 import os
 import pickle
@@ -17,19 +18,41 @@ import typing
 import unittest
 
 import ishkrela
-from ishkrela import AllGather, AllReduce, AllSlice, AllToAll, Refused, Repeat, Sharding
-from ishkrela import check, groups, moved, picture, place, plan_file, run, spread
+from ishkrela import AllGather, AllReduce, AllSlice, AllToAll, Plan, Refused, Repeat, Sharding
+from ishkrela import check, groups, moved, picture, place, plan_between, plan_file, run, spread
+from plan_bytes import file_of
 
 W1 = bytes.fromhex("0100020002000100120016001a001f002300" "02000200" "04000400" "0100010100" "02000101")
 ROOT = os.path.join(os.path.dirname(os.path.abspath(__file__)), "..")
 
 
+def outcome(call, *given):
+    """What a call answers, or the number and the step of its refusal."""
+    try:
+        return call(*given)
+    except Refused as refused:
+        return refused.number, refused.step
+
+
+def made(mesh, table, start, steps=(), order=()):
+    """The bytes of a plan, accepted or not. The library writes the same ones and reads them as the same plan, or it
+    refuses alike to check, to write and to read them."""
+    plan = Plan(mesh, table, start, steps, order)
+    file = file_of(plan.mesh, plan.table, plan.start, plan.steps, plan.order or ())
+    checked, written, read = outcome(check, file), outcome(plan.to_bytes), outcome(Plan.from_bytes, file)
+    if isinstance(checked, tuple):
+        assert (written, read) == (checked, checked), (plan, checked, written, read)
+    else:
+        assert (written, read) == (file, plan), (plan, written, read)
+    return file
+
+
 def w4(*steps):
-    return plan_file([2, 2], [4], Sharding([[1, 0]]), steps)
+    return made([2, 2], [4], Sharding([[1, 0]]), steps)
 
 
 def w7(unreduced=(0,), size=2):
-    return plan_file([2], [size], Sharding([[]], unreduced), [AllReduce([0])])
+    return made([2], [size], Sharding([[]], unreduced), [AllReduce([0])])
 
 
 def cases(name):
@@ -87,47 +110,45 @@ class Worked(Case):
         self.assertEqual(moved(w7(size=1), [4294967295, 2]), [1, 1])
 
     def test_w8_rows_to_columns(self):
-        file = plan_file([2], [2, 2], Sharding([[0], []]), [AllToAll(0, 1, [0])])
+        file = made([2], [2, 2], Sharding([[0], []]), [AllToAll(0, 1, [0])])
         self.assertEqual(moved(file, [1, 2, 3, 4]), [1, 3, 2, 4])
 
     def test_w9_divides(self):
-        self.assertRefused(17, 0, check, plan_file([4], [6], Sharding([[0]])))
-        self.assertEqual(check(plan_file([4], [8], Sharding([[0]]))).shard, (2,))
+        self.assertRefused(17, 0, check, made([4], [6], Sharding([[0]])))
+        self.assertEqual(check(made([4], [8], Sharding([[0]]))).shard, (2,))
 
     def test_w10_not_unreduced(self):
         self.assertRefused(27, 1, check, w7(unreduced=[]))
 
     def test_limits(self):
-        self.assertEqual(check(plan_file([256], [4096], Sharding([[0]]))).shard, (16,))
-        self.assertEqual(check(plan_file([257], [4097], Sharding([[]]))).room, 257 * 4097)
-        self.assertEqual(check(plan_file([1024], [256, 256], Sharding([[], []]))).room, 67108864)
-        self.assertEqual(check(plan_file([1], [65535], Sharding([[]]))).shard, (65535,))
-        self.assertRefused(11, 0, check, plan_file([1025], [4096], Sharding([[]])))
-        self.assertRefused(13, 0, check, plan_file([256], [256, 257], Sharding([[], []])))
+        self.assertEqual(check(made([256], [4096], Sharding([[0]]))).shard, (16,))
+        self.assertEqual(check(made([257], [4097], Sharding([[]]))).room, 257 * 4097)
+        self.assertEqual(check(made([1024], [256, 256], Sharding([[], []]))).room, 67108864)
+        self.assertEqual(check(made([1], [65535], Sharding([[]]))).shard, (65535,))
+        self.assertRefused(11, 0, check, made([1025], [4096], Sharding([[]])))
+        self.assertRefused(13, 0, check, made([256], [256, 257], Sharding([[], []])))
         self.assertRefused(4, 0, check, W1 + bytes(8192 - len(W1)))
         self.assertRefused(2, 0, check, W1 + bytes(8193 - len(W1)))
         self.assertEqual(groups([1024], []), [[device] for device in range(1024)])
         self.assertRefused(11, 0, groups, [1025], [])
-        both = plan_file([2], [256, 256], Sharding([[0], []]), [AllGather([[0], []])])
+        both = made([2], [256, 256], Sharding([[0], []]), [AllGather([[0], []])])
         self.assertEqual(moved(both, range(65536)), 2 * list(range(65536)))
         there_and_back = 32 * [AllSlice([[0]]), AllGather([[0]])]
-        self.assertEqual(check(plan_file([2], [2], Sharding([[]]), there_and_back)).steps, 64)
-        self.assertRefused(5, 0, check, plan_file([2], [2], Sharding([[]]), there_and_back + [AllSlice([[0]])]))
+        self.assertEqual(check(made([2], [2], Sharding([[]]), there_and_back)).steps, 64)
+        self.assertRefused(5, 0, check, made([2], [2], Sharding([[]]), there_and_back + [AllSlice([[0]])]))
 
 
 class Editions(Case):
     """The axes that are to stay replicated, which files of edition 2 have."""
 
     def kept(self, *steps):
-        return plan_file([2, 2, 2], [4], Sharding([[1]], [2], [0]), steps)
+        return made([2, 2, 2], [4], Sharding([[1]], [2], [0]), steps)
 
     def test_the_file_of_a_plan(self):
-        file = plan_file([2, 2], [4], Sharding([[1]], replicated=[0]))
+        file = made([2, 2], [4], Sharding([[1]], replicated=[0]))
         self.assertEqual(file.hex(), "02000200010000001200160018001d001d00" "02000200" "0400" "0101" "00" "0100")
-        self.assertEqual(plan_file([2, 2], [4], Sharding([[1]], replicated=[0]), edition=2), file)
-        for edition in (None, 1):
-            free = plan_file([2, 2], [4], Sharding([[1]]), edition=edition)
-            self.assertEqual(free.hex(), "01000200010000001200160018001b001b00" "02000200" "0400" "0101" "00")
+        free = made([2, 2], [4], Sharding([[1]]))
+        self.assertEqual(free.hex(), "01000200010000001200160018001b001b00" "02000200" "0400" "0101" "00")
 
     def test_no_step_changes_the_list(self):
         file = self.kept(AllGather([[1]]), AllReduce([2]), AllSlice([[2, 1]]))
@@ -146,14 +167,10 @@ class Editions(Case):
             self.assertRefused(number, 1, check, self.kept(step))
 
     def test_one_plan_has_one_edition(self):
-        self.assertRefused(18, 0, check, plan_file([2], [4], Sharding([[]]), edition=2))
-        self.assertRefused(17, 0, check, plan_file([2], [3], Sharding([[0]]), edition=2))
+        self.assertRefused(18, 0, check, file_of([2], [4], Sharding([[]]), edition=2))
+        self.assertRefused(17, 0, check, file_of([2], [3], Sharding([[0]]), edition=2))
         for edition in (0, 4, 257, 258, 259):
-            self.assertRefused(3, 0, check, plan_file([2], [4], Sharding([[]], replicated=[0]), edition=edition))
-
-    def test_the_first_edition_has_no_place_for_the_list(self):
-        with self.assertRaisesRegex(ValueError, "edition 1 has no place"):
-            plan_file([2], [4], Sharding([[]], replicated=[0]), edition=1)
+            self.assertRefused(3, 0, check, file_of([2], [4], Sharding([[]], replicated=[0]), edition=edition))
 
 
 class Orders(Case):
@@ -162,17 +179,18 @@ class Orders(Case):
     ORDER = (0, 2, 4, 1, 3, 5)
 
     def cabled(self, *steps, start=Sharding([[0]]), table=(6,)):
-        return plan_file([3, 2], table, start, steps, order=self.ORDER)
+        return made([3, 2], table, start, steps, order=self.ORDER)
 
     def test_the_file_of_a_plan(self):
         order = "000002000400010003000500"
         file = "03000200010000001200220024002800280003000200" + order + "0600" "0100" "00" "00"
         self.assertEqual(self.cabled().hex(), file)
-        self.assertEqual(plan_file([3, 2], [6], Sharding([[0]]), order=iter(self.ORDER), edition=3).hex(), file)
-        kept = plan_file([3, 2], [6], Sharding([[0]], replicated=[1]), order=self.ORDER)
+        self.assertEqual(plan_file([3, 2], [6], Sharding([[0]]), order=iter(self.ORDER)).hex(), file)
+        kept = made([3, 2], [6], Sharding([[0]], replicated=[1]), order=self.ORDER)
         self.assertEqual((kept[0], check(kept).sharding), (3, Sharding([[0]], [], [1])))
         self.assertEqual(check(self.cabled()).sharding, Sharding([[0]]))
-        self.assertEqual(plan_file([3, 2], [6], Sharding([[0]]), order=()), plan_file([3, 2], [6], Sharding([[0]])))
+        for none in (None, (), []):
+            self.assertEqual(plan_file([3, 2], [6], Sharding([[0]]), order=none), made([3, 2], [6], Sharding([[0]])))
 
     def test_groups(self):
         self.assertEqual(groups([3, 2], [1], order=self.ORDER), [[0, 2], [4, 1], [3, 5]])
@@ -223,14 +241,13 @@ class Orders(Case):
 
     def test_refused_files(self):
         for order in (range(6), (0, 2, 4, 1, 3, 3), (0, 2, 4, 1, 3, 6), (6, 5, 4, 3, 2, 1)):
-            self.assertRefused(19, 0, check, plan_file([3, 2], [6], Sharding([[0]]), order=order))
-        self.assertRefused(19, 0, check, plan_file([1], [6], Sharding([[]]), order=[0]))
-        self.assertRefused(6, 0, check, plan_file([3, 2], [6], Sharding([[0]]), order=self.ORDER[:5] + (5, 6)))
+            self.assertRefused(19, 0, check, made([3, 2], [6], Sharding([[0]]), order=order))
+        self.assertRefused(19, 0, check, made([1], [6], Sharding([[]]), order=[0]))
 
-    def test_editions_with_no_place_for_it(self):
-        for edition in (1, 2):
-            with self.assertRaisesRegex(ValueError, f"edition {edition} has no place for the order"):
-                plan_file([3, 2], [6], Sharding([[0]]), edition=edition, order=self.ORDER)
+    def test_another_number_of_devices(self):
+        for order in (self.ORDER[:5] + (5, 6), self.ORDER[:5], (0,)):
+            self.assertRefused(19, 0, plan_file, [3, 2], [6], Sharding([[0]]), (), order)
+        self.assertRefused(6, 0, check, file_of([3, 2], [6], Sharding([[0]]), order=self.ORDER[:5] + (5, 6)))
 
 
 class Repeats(Case):
@@ -240,10 +257,10 @@ class Repeats(Case):
     PAIR = [THERE, BACK]
 
     def plan(self, *steps):
-        return plan_file([2], [2], Sharding([[]]), steps)
+        return made([2], [2], Sharding([[]]), steps)
 
     def square(self, *steps, start=Sharding([[]])):
-        return plan_file([2, 2], [4], start, steps)
+        return made([2, 2], [4], start, steps)
 
     def nested(self, depth, steps):
         return Repeat(1, steps if depth == 1 else [self.nested(depth - 1, steps)])
@@ -281,7 +298,7 @@ class Repeats(Case):
         steps, start, table = [block, AllReduce([0]), block, AllGather([[1]])], Sharding([[1]], [0]), [10, 20, 30, 40]
         shards = [10, 20, 10, 20, 30, 40, 30, 40]
         for k, state in enumerate((shards + 8 * [0], shards + 8 * [0], 2 * shards, 2 * shards, 8 * table)):
-            file = plan_file([2, 2, 2], [4], start, steps[:k])
+            file = made([2, 2, 2], [4], start, steps[:k])
             self.assertEqual(moved(file, spread(file, table)), state)
 
     def test_the_most_plain_steps(self):
@@ -321,12 +338,131 @@ class Repeats(Case):
     def test_the_longest_file(self):
         pair = [AllSlice([[0], []]), AllGather([[0], []])]
         blocks = 10 * [Repeat(2, 68 * pair)] + 5 * [Repeat(2, 67 * pair)]
-        file = plan_file([2], [2, 1], Sharding([[], []]), blocks)
+        file = made([2], [2, 1], Sharding([[], []]), blocks)
         self.assertEqual((len(file), check(file).steps), (8192, 15))
         self.assertEqual(moved(file, [1, 2, 3, 4]), [1, 4, 1, 4])
-        longer = plan_file([2], [2, 1], Sharding([[], []]), 7 * [Repeat(1, 102 * pair)] + 3 * [Repeat(1, 101 * pair)])
+        longer = made([2], [2, 1], Sharding([[], []]), 7 * [Repeat(1, 102 * pair)] + 3 * [Repeat(1, 101 * pair)])
         self.assertEqual(len(longer), 8193)
         self.assertRefused(2, 0, check, longer)
+
+
+class Plans(Case):
+    """Plans as values, written, read back and made between two shardings: of document 02, Asks 2 and 10."""
+
+    PAIR = [AllSlice([[0], []]), AllGather([[0], []])]
+
+    def test_files_are_read_as_their_plans(self):
+        block = Repeat(3, [*self.PAIR, Repeat(2, [Repeat(255, self.PAIR)]), *self.PAIR])
+        start, steps = Sharding([[], [1]], [2], [3]), [block, AllReduce([2]), AllToAll(1, 0, [1]), Repeat(1, self.PAIR)]
+        for order in (None, [*range(1, 16), 0]):
+            plan = Plan([2, 2, 2, 2], [4, 4], start, steps, order)
+            again = Plan.from_bytes(made([2, 2, 2, 2], [4, 4], start, steps, order or ()))
+            self.assertEqual((again, again.to_bytes()), (plan, plan.to_bytes()))
+            self.assertEqual((again.steps, again.order), (tuple(steps), order and tuple(order)))
+
+    def test_every_file_of_the_cases(self):
+        read = 0
+        for text, answer in cases("plans.txt"):
+            file = from_hex(text)
+            plan = outcome(Plan.from_bytes, file)
+            with self.subTest(text):
+                if answer.startswith("ok"):
+                    read += 1
+                    self.assertEqual(plan.to_bytes(), file)
+                    self.assertEqual(Plan.from_bytes(bytearray(file)), plan)
+                else:
+                    self.assertEqual(plan, tuple(map(int, answer.split()[1:])))
+        self.assertGreater(read, 50)
+
+    def test_a_lent_buffer(self):
+        plan = Plan.from_bytes(W1)
+        for more in (0, 3):
+            buffer = bytearray(35 * b"\xa5" + more * b"\xa5")
+            self.assertEqual((plan.write_into(buffer), buffer), (35, W1 + more * b"\xa5"))
+        for size in (34, 0):
+            buffer = bytearray(size * b"\xa5")
+            self.assertRefused(35, 0, plan.write_into, buffer)
+            self.assertEqual(buffer, size * b"\xa5")
+        buffer = array.array("B", 40 * [165])
+        self.assertRefused(24, 1, Plan([2], [2], Sharding([[]]), [AllGather([[0]])]).write_into, buffer)
+        self.assertEqual(buffer.tolist(), 40 * [165])
+        for buffer in (bytes(40), array.array("H", 40 * [0]), [0] * 40):
+            with self.assertRaisesRegex(TypeError, r'array\.array\("B"\)'):
+                plan.write_into(buffer)
+
+    def test_more_axes_than_a_list_has_places(self):
+        given = [(start, []) for start in (Sharding([7 * [0]]), Sharding([[]], 255 * [0]), Sharding([[]], [], 7 * [0]))]
+        steps = [AllReduce(7 * [0]), AllSlice([255 * [9]]), AllToAll(9, 9, 7 * [9])]
+        for start, steps in given + [(Sharding([[]]), [step]) for step in steps]:
+            self.assertRefused(8, 0, plan_file, 6 * [1], [1], start, steps)
+            self.assertRefused(8, 0, check, file_of(6 * [1], [1], start, steps))
+
+    def test_more_dimensions_or_axes_than_there_are_places(self):
+        for mesh, rank in (([], 1), (7 * [1], 1), ([1], 0), ([1], 5), (300 * [0], 300)):
+            for start in (Sharding(rank * [[]]), Sharding(rank * [7 * [9]], 255 * [0], [3, 2])):
+                self.assertRefused(5, 0, plan_file, mesh, rank * [0], start, [AllReduce([])], [0])
+                self.assertRefused(5, 0, plan_between, mesh, rank * [0], start, start, [0])
+
+    def test_what_is_no_step(self):
+        for given in (AllSlice, 3, "slice", Sharding([[]]), None):
+            with self.assertRaisesRegex(TypeError, "step 2 is a .*: give AllSlice"):
+                plan_file([2], [2], Sharding([[]]), [Repeat(1, [given])])
+
+    def test_plans_are_values(self):
+        plan = Plan(iter([2, 2]), (4,), Sharding([[0]]), iter([AllGather([[0]])]), iter([3, 2, 1, 0]))
+        self.assertEqual(plan, Plan((2, 2), [4], Sharding([(0,)]), [AllGather(((0,),))], (3, 2, 1, 0)))
+        self.assertEqual(len({plan, Plan.from_bytes(plan.to_bytes())}), 1)
+        self.assertEqual(Plan([2], [2], Sharding([[]]), order=[]), Plan([2], [2], Sharding([[]])))
+        self.assertEqual(eval(repr(plan)), plan)
+        self.assertEqual(pickle.loads(pickle.dumps(plan)), plan)
+
+    def between(self, start, goal, table=(8, 4)):
+        return plan_between(4 * [2], table, start, goal)
+
+    def test_between_two_shardings(self):
+        one, other = Sharding([[0, 1], []], [2, 3]), Sharding([[0, 2], [1]], [3])
+        steps = (AllReduce([2]), AllGather([[1], []]), AllSlice([[2], [1]]))
+        plan = self.between(one, other)
+        self.assertEqual(plan, Plan(4 * [2], [8, 4], one, steps))
+        self.assertEqual(check(plan.to_bytes()).sharding, other)
+        self.assertEqual(self.between(one, one).steps, ())
+        self.assertEqual(self.between(one, Sharding([[0, 1], []])).steps, (AllReduce([2, 3]),))
+        self.assertEqual(self.between(Sharding([[], []]), Sharding([[3], [0]])).steps, (AllSlice([[3], [0]]),))
+        turned = self.between(Sharding([[0, 1], []]), Sharding([[1, 0], []]))
+        self.assertEqual(turned.steps, (AllGather([[0, 1], []]), AllSlice([[1, 0], []])))
+
+    def test_a_spread_is_carried_to_the_goal(self):
+        table = [*range(1, 33)]
+        shardings = [Sharding([[0, 1], [2]]), Sharding([[], [2, 1]]), Sharding([[3], []]), Sharding([[2], [3, 0]])]
+        for order in (None, [*range(15, -1, -1)]):
+            for start, goal in itertools.permutations(shardings, 2):
+                file = plan_between(4 * [2], [8, 4], start, goal, order).to_bytes()
+                last = plan_file(4 * [2], [8, 4], goal, order=order)
+                self.assertEqual(moved(file, spread(file, table)), spread(last, table))
+
+    def test_no_way_to_the_goal(self):
+        none, first, both, kept = ((), ()), ((0,), ()), ((0, 1), ()), ((), (0,))  # unreduced, to stay replicated
+        for start, goal in ((none, first), (first, both), (kept, none), (none, kept)):
+            self.assertRefused(40, 0, self.between, Sharding([[], []], *start), Sharding([[], []], *goal))
+
+    def test_what_is_refused_before_that(self):
+        whole, goal = Sharding([[], []]), Sharding([[], []], [0])
+        for number, bad in ((8, Sharding([5 * [0], []])), (14, Sharding([[4], []])), (15, Sharding([[0], [0]])),
+                            (16, Sharding([[], []], [1, 0])), (17, Sharding([[0, 1, 2, 3], []]))):
+            self.assertRefused(number, 0, self.between, bad, goal)
+            self.assertRefused(number, 0, self.between, whole, bad)
+        for number, mesh, order, table in (
+            (10, [0], [0], [0]), (11, [1025], [0], [0]), (19, [2], [0], [0]), (19, [2], [0, 1], [0]),
+            (12, [2], None, [0]), (13, [2], None, [65535, 2]),
+        ):
+            start = Sharding(len(table) * [9 * [9]])
+            self.assertRefused(number, 0, plan_between, mesh, table, start, start, order)
+
+    def test_a_list_for_each_dimension(self):
+        both, one = Sharding([[0], []]), Sharding([[0]])
+        for start, goal, whose in ((one, both, "the start has 1 list"), (both, one, "the goal has 1 list")):
+            with self.assertRaisesRegex(ValueError, whose + " for a table of 2 dimensions: give a list"):
+                self.between(start, goal)
 
 
 class Cases(Case):
@@ -401,19 +537,29 @@ class Boundary(Case):
     """What include/ishkrela.h says of the answers and of the memory lent."""
 
     def test_layout(self):
-        sharding, checked, placed = ishkrela._Sharding, ishkrela._Checked, ishkrela._Placed
-        self.assertEqual([ctypes.sizeof(answer) for answer in (sharding, checked, placed)], [42, 64, 64])
-        self.assertEqual(self.offsets(sharding), [0, 6])
-        self.assertEqual(self.offsets(checked), [0, 4, 8, 10, 12, 14, 22])
-        self.assertEqual(self.offsets(placed), [0, 4, 6, 14, 22])
+        for struct, size, offsets in (
+            (ishkrela._Sharding, 42, [0, 6]),
+            (ishkrela._Checked, 64, [0, 4, 8, 10, 12, 14, 22]),
+            (ishkrela._Placed, 64, [0, 4, 6, 14, 22]),
+            (ishkrela._Step, ishkrela.RECORD_BYTES, [0, 1, 2, 3, 8]),
+            (ishkrela._Written, 16, [0, 8]),
+            (ishkrela._Opened, 88, [0, 4, 6, 8, 20, 28, 72, 80]),
+            (ishkrela._Planned, 124, [0, 4, 8]),
+        ):
+            self.assertEqual((ctypes.sizeof(struct), self.offsets(struct)), (size, offsets), struct)
 
     def offsets(self, answer):
         return [getattr(answer, name).offset for name, _ in answer._fields_]
 
+    def is_0(self, answer):
+        """Whether every field but the refusal is 0; what lies between fields has no value."""
+        parts = [getattr(type(answer), name) for name, _ in answer._fields_ if name != "refusal"]
+        return not any(any(bytes(answer)[part.offset:part.offset + part.size]) for part in parts)
+
     def test_each_field_where_it_is_not_0(self):
         start = Sharding([[5, 0], [1], [4], [2]], [3])
         steps = [AllGather([[0], [], [], []]), AllSlice([[0], [], [], []])]
-        file = plan_file([2, 3, 2, 2, 3, 2], [12, 6, 15, 2], start, steps)
+        file = made([2, 3, 2, 2, 3, 2], [12, 6, 15, 2], start, steps)
         self.assertEqual(check(file), ishkrela.Checked(8640, 144, 2, start, (3, 2, 5, 1)))
         self.assertEqual(place(file, 2, 143), ishkrela.Placed(start, (3, 2, 5, 1), (9, 4, 10, 1)))
 
@@ -424,13 +570,60 @@ class Boundary(Case):
             self.assertEqual(answer.refusal, 24 + 256)
             self.assertFalse(any(bytes(answer)[4:]))
 
+    def opened(self, file, order, steps):
+        """What a read into lists of these lengths answers and leaves: every bit was set before."""
+        lent = (ctypes.c_uint16 * order)(*order * [65535]), (ctypes.c_uint8 * steps)(*steps * [255])
+        answer = ishkrela._library().ishkrela_read(file, len(file), lent[0], order, lent[1], steps)
+        return answer, list(lent[0]), list(lent[1])
+
+    def test_what_a_read_answers_and_leaves(self):
+        block = Repeat(3, [AllGather([[1], []]), AllSlice([[1], []])])
+        file = made([3, 2], [4, 6], Sharding([[1], []], [], [0]), [block, AllToAll(0, 1, [1])], [5, 4, 3, 2, 1, 0])
+        answer, order, records = self.opened(file, 7, 5 * 38)
+        self.assertEqual((answer.refusal, answer.n, answer.rank), (0, 2, 2))
+        self.assertEqual((answer.order, answer.steps_bytes), (6, 4 * 38))
+        self.assertEqual((list(answer.mesh), list(answer.table)), ([3, 2, 0, 0, 0, 0], [4, 6, 0, 0]))
+        self.assertEqual(list(answer.start.counts), [1, 0, 0, 0, 0, 1])
+        self.assertEqual(list(answer.start.axes), [1] + 35 * [0])
+        by_dim, last = [1, 0, 0, 0, 0, 1] + 29 * [0], [0, 0, 0, 0, 1] + 24 * [0] + [1] + 5 * [0]
+        self.assertEqual(order, [5, 4, 3, 2, 1, 0, 65535])
+        steps = [9, 3, 2] + 35 * [0] + [2, 0, 0] + by_dim + [1, 0, 0] + by_dim + [4, 0, 1] + last
+        self.assertEqual(records, steps + 38 * [255])
+        for lengths in ((5, 4 * 38), (6, 4 * 38 - 1), (0, 0)):
+            answer, order, records = self.opened(file, *lengths)
+            self.assertEqual((answer.refusal, self.is_0(answer)), (33, True))
+            self.assertEqual((order, records), (lengths[0] * [65535], lengths[1] * [255]))
+        self.assertEqual(self.opened(w4(), 0, 0)[0].refusal, 0)
+        self.assertEqual(self.opened(w4(AllGather([[1]])), 0, 0)[0].refusal, 24 + 256)
+
+    def test_what_the_planner_answers(self):
+        start, goal = ishkrela._given("", Sharding([[0]], [1]), 1), ishkrela._given("", Sharding([[1]]), 1)
+        on = ishkrela._mesh_and_table(Plan([2, 2], [4], Sharding([[]])))
+        answer = ishkrela._library().ishkrela_plan(*on, start, goal)
+        first, last = [0] + 34 * [0], [0, 0, 0, 0, 1] + 24 * [0] + [1] + 5 * [0]
+        steps = [3, 0, 0] + last + [2, 0, 0, 1] + first[1:] + [1, 0, 0, 1] + [0, 0, 0, 0, 1] + 29 * [0]
+        self.assertEqual((answer.refusal, answer.count, list(bytes(answer.steps))), (0, 3, steps))
+        answer = ishkrela._library().ishkrela_plan(*on, goal, goal)
+        self.assertEqual((answer.refusal, self.is_0(answer)), (0, True))
+        answer = ishkrela._library().ishkrela_plan(*on, goal, start)
+        self.assertEqual((answer.refusal, self.is_0(answer)), (40, True))
+
+    def test_what_a_write_is_given_beside_its_records(self):
+        plan = Plan([2, 2], [4, 4], Sharding([[0], [1]]))
+        record = ishkrela._record(2, 7, 7, [[], [1], 3 * [7], 9 * [7]], 5 * [7])
+        for more in (b"", 37 * b"\2"):
+            file = bytearray(35)
+            self.assertEqual((ishkrela._write(plan, record + more, file), bytes(file)), (35, W1))
+        self.assertRefused(20, 2, ishkrela._write, plan, record + bytes(38), bytearray(40))
+        self.assertRefused(7, 0, ishkrela._write, plan, ishkrela._record(9, 1, 2) + record, bytearray(40))
+
     def test_places_not_used_are_0(self):
         answer = ishkrela._library().ishkrela_check(w4(), len(w4()))
         self.assertEqual((list(answer.shard), list(answer.sharding.counts)), ([1, 0, 0, 0], [2, 0, 0, 0, 0, 0]))
         self.assertEqual(list(answer.sharding.axes), [1, 0] + 34 * [0])
 
     def test_the_unreduced_and_the_replicated_list_are_the_last(self):
-        file = plan_file([2, 2, 2, 2], [2], Sharding([[2]], [1], [0, 3]))
+        file = made([2, 2, 2, 2], [2], Sharding([[2]], [1], [0, 3]))
         answer = ishkrela._library().ishkrela_check(file, len(file)).sharding
         self.assertEqual(list(answer.counts), [1, 0, 0, 0, 1, 2])
         self.assertEqual(list(answer.axes)[24:], [1, 0, 0, 0, 0, 0, 0, 3, 0, 0, 0, 0])
@@ -440,6 +633,10 @@ class Boundary(Case):
         self.assertEqual(ishkrela._library().ishkrela_place(None, 0, 0, 0).refusal, 1)
         self.assertEqual(ishkrela._library().ishkrela_groups(None, 0, None, 0, None, 0), 5)
         self.assertEqual(ishkrela._library().ishkrela_groups_ordered(None, 0, None, 0, None, 0, None, 0), 5)
+        none = ishkrela._given("", Sharding([]), 0)
+        self.assertEqual(ishkrela._library().ishkrela_read(None, 0, None, 0, None, 0).refusal, 1)
+        self.assertEqual(ishkrela._library().ishkrela_write(*3 * (None, 0), none, None, 0, None, 0).refusal, 5)
+        self.assertEqual(ishkrela._library().ishkrela_plan(*3 * (None, 0), none, none).refusal, 5)
 
     def test_numbers_that_do_not_fit_are_not_cut(self):
         for state, device in ((65536, 0), (0, 65536), (-1, 0)):
@@ -539,6 +736,9 @@ class Given(Case):
 
     def test_numbers_of_a_file_that_do_not_fit(self):
         for mesh, start, steps in (([65536], Sharding([[]]), []), ([2], Sharding([[256]]), []),
+                                   ([2], Sharding([[-1]]), []), ([2], Sharding([256 * [0]]), []),
+                                   ([2], Sharding([[]], 6 * [0] + [256]), []),
+                                   ([2], Sharding([[]]), [AllReduce(256 * [0])]),
                                    ([2], Sharding([[]]), [AllToAll(0, 256, [0])]),
                                    ([2], Sharding([[]]), [Repeat(256, [AllReduce([0])])]),
                                    ([2], Sharding([[]]), [Repeat(1, 256 * [AllReduce([0])])])):
@@ -637,7 +837,7 @@ class Pictures(Case):
         self.assertEqual(spread(w7(), [6, 8]), [6, 8, 0, 0])
 
     def test_one_axis(self):
-        file = plan_file([2], [2, 2], Sharding([[], [0]]))
+        file = made([2], [2, 2], Sharding([[], [0]]))
         drawn = picture(file, 0, spread(file, [1, 2, 3, 10]))
         self.assertEqual([line.strip() for line in drawn.split("\n")], [
             "+----+----+",
@@ -647,7 +847,7 @@ class Pictures(Case):
         ])
 
     def test_one_row_of_three(self):
-        file = plan_file([3], [3, 3, 2], Sharding([[0], [], []]))
+        file = made([3], [3, 3, 2], Sharding([[0], [], []]))
         self.assertEqual(picture(file, 0, list(range(11, 29))).split("\n"), [
             " device  device  device",
             " (0)     (1)     (2)",
@@ -662,7 +862,7 @@ class Pictures(Case):
         steps = [AllGather([[0]]), AllGather([[1]]), AllSlice([[0, 1]])]
         table = [10, 20, 30, 40]
         for k in range(len(steps) + 1):
-            file, last = w4(*steps[:k]), plan_file([2, 2], [4], check(w4(*steps[:k])).sharding)
+            file, last = w4(*steps[:k]), made([2, 2], [4], check(w4(*steps[:k])).sharding)
             self.assertEqual(moved(file, spread(file, table)), spread(last, table))
 
 

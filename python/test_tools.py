@@ -2,6 +2,7 @@
 
     python3 -m unittest discover python
 """
+import json
 import os
 import shutil
 import subprocess
@@ -9,7 +10,8 @@ import sys
 import tempfile
 import unittest
 
-from ishkrela import AllGather, AllSlice, Repeat, Sharding, plan_file
+from ishkrela import AllGather, AllSlice, Repeat, Sharding
+from plan_bytes import file_of
 
 ROOT = os.path.join(os.path.dirname(os.path.abspath(__file__)), "..")
 KEPT = ("tools", "python/ishkrela.py", "tests/plans.txt")
@@ -85,11 +87,21 @@ class Missing(unittest.TestCase):
     def test_json_cases(self):
         self.assertStops("usage: tools/json_cases FILE.jsonl", "json_cases")
         self.assertStops("none.jsonl: No such file or directory: name a file of cases", "json_cases", "none.jsonl")
-        for line in ("no JSON", "[]", '{"file": "00"}', '{"file": 0, "check": {}}', '{"mesh": [2], "groups": []}'):
+        lines = ["no JSON", "[]", '{"file": "00"}', '{"file": 0, "check": {}}', '{"mesh": [2], "groups": []}']
+        lines += ['{"mesh": [2], "write": ""}', '{"mesh": [2], "plan": []}', *self.cases_of_no_steps()]
+        for line in lines:
             self.write("cases.jsonl", line)
             self.assertStops("cases.jsonl, line 1: not a case: `tools/json_cases --help` shows", "json_cases", "cases.jsonl")
         self.write("cases.jsonl", '{"file": "00", "check": {"no": [1, 0]}}')
         self.assertStops("libishkrela.so is not there: tools/build makes it", "json_cases", "cases.jsonl")
+
+    def cases_of_no_steps(self):
+        """Steps that lack a part or have a number that is no byte, and shardings that lack a list or have none."""
+        given = {"mesh": [2], "order": [], "table": [4], "start": {"dims": [[]]}, "steps": [], "room": 40, "write": ""}
+        for steps in ([[1]], [[3]], [[4, 0, 1]], [[9, 1]], [3], [[3, [256]]]):
+            yield json.dumps({**given, "steps": steps})
+        for start in ({"dims": []}, {}, []):
+            yield json.dumps({**given, "start": start})
 
     def test_edits(self):
         self.write("crates/one/src/lib.rt", "fn one() {\n    let a = 1;\n    let b = 1;\n    let c = 12;\n}\n")
@@ -106,6 +118,54 @@ class Missing(unittest.TestCase):
         ):
             self.write("crates/one/must-fail/1.edit", edit)
             self.assertStops(said, "edits", printed="1 of 2 must-fail edits apply\n")
+
+
+class JsonCases(unittest.TestCase):
+    """Cases of each call in JSON, answered as written there, refused or otherwise."""
+
+    FILE = file_of([2], [4], Sharding([[]]), [AllSlice([[0]])]).hex()
+    WHOLE = {"dims": [[]], "unreduced": [], "replicated": []}
+    SPLIT = {"dims": [[0]], "unreduced": [], "replicated": []}
+    ON = {"mesh": [2], "order": [], "table": [4]}
+    STATES = [{"sharding": WHOLE, "shard": [4]}, {"sharding": SPLIT, "shard": [2]}]
+    WORDS = [1, 2, 3, 4, 5, 6, 7, 8]
+    CASES = [
+        ({"file": FILE}, "check", {"room": 8, "devices": 2, "states": STATES}),
+        ({"file": FILE, "work": WORDS, "spare": WORDS}, "run", {"work": [1, 2, 7, 8, 0, 0, 0, 0], "spare": 8 * [0]}),
+        ({"file": FILE, "state": 1, "device": 1}, "place", {"sharding": SPLIT, "shard": [2], "first": [2]}),
+        ({"mesh": [2], "order": [1, 0], "axes": [0], "room": 3}, "groups", [1, 0]),
+        ({**ON, "start": WHOLE, "steps": [[1, [[0]]]], "room": 27}, "write", FILE),
+        ({**ON, "start": WHOLE, "goal": SPLIT}, "plan", [[1, [[0]]]]),
+    ]
+    REFUSED = [
+        ({"file": FILE[2:]}, "check", {"no": [3, 0]}),
+        ({"file": FILE, "work": [1], "spare": []}, "run", {"no": [30, 0]}),
+        ({"file": FILE, "state": 1, "device": 2}, "place", {"no": [32, 0]}),
+        ({"mesh": [2], "order": [1, 0], "axes": [], "room": 1}, "groups", {"no": [33, 0]}),
+        ({**ON, "start": WHOLE, "steps": [[1, [[0]]]], "room": 26}, "write", {"no": [35, 0]}),
+        ({**ON, "start": WHOLE, "steps": [[9, 1, 2], [1, [[0]]]], "room": 40}, "write", {"no": [7, 0]}),
+        ({**ON, "start": WHOLE, "steps": [[1, [[0]]], [5]], "room": 40}, "write", {"no": [20, 2]}),
+        ({**ON, "start": SPLIT, "goal": {**WHOLE, "unreduced": [0]}}, "plan", {"no": [40, 0]}),
+    ]
+
+    def said(self, cases):
+        with tempfile.NamedTemporaryFile("w", suffix=".jsonl") as file:
+            file.write("".join(json.dumps({**given, call: answer}) + "\n" for given, call, answer in cases))
+            file.flush()
+            tool = os.path.join(ROOT, "tools", "json_cases")
+            done = subprocess.run([tool, file.name], capture_output=True, text=True)
+            return done.returncode, done.stdout.replace(file.name, "file"), done.stderr
+
+    def test_answered_as_written(self):
+        cases = self.CASES + self.REFUSED
+        self.assertEqual(self.said(cases), (0, f"file: {len(cases)} cases, 0 differences\n", ""))
+
+    def test_answered_otherwise(self):
+        cases = [(given, call, {"no": [1, 0]}) for given, call, _ in self.CASES]
+        cases += [(given, call, {"no": [answer["no"][0], 9]}) for given, call, answer in self.REFUSED]
+        status, said, _ = self.said(cases)
+        self.assertEqual((status, said.split("\n")[0]), (1, "file, line 1: answered otherwise"))
+        self.assertIn(f"file: {len(cases)} cases, {len(cases)} differences\n", said)
 
 
 class Plancheck(unittest.TestCase):
@@ -132,13 +192,13 @@ class Plancheck(unittest.TestCase):
     def test_states_are_those_after_outermost_steps(self):
         pair, blocks = [AllSlice([[0], []]), AllGather([[0], []])], 15
         inner = [Repeat(2, (68 if block < 10 else 67) * pair) for block in range(blocks)]
-        longest = plan_file([2], [2, 1], Sharding([[], []]), inner)
+        longest = file_of([2], [2, 1], Sharding([[], []]), inner)
         self.assertEqual(len(longest), 8192)
         states = [f"{state} 2 1\n" for state in range(blocks + 1)]
         self.assertEqual(self.printed(input=longest), (f"ok {blocks}\n" + "".join(states), ""))
-        between = plan_file([2], [2, 1], Sharding([[], []]), [Repeat(3, pair), pair[0], Repeat(2, pair[::-1])])
+        between = file_of([2], [2, 1], Sharding([[], []]), [Repeat(3, pair), pair[0], Repeat(2, pair[::-1])])
         self.assertEqual(self.printed(input=between), ("ok 3\n0 2 1\n1 2 1\n2 1 1\n3 1 1\n", ""))
-        elsewhere = plan_file([2], [2, 1], Sharding([[], []]), [*pair, Repeat(3, pair[:1])])
+        elsewhere = file_of([2], [2, 1], Sharding([[], []]), [*pair, Repeat(3, pair[:1])])
         self.assertEqual(self.printed(input=elsewhere), ("no 41 3\n", ""))
 
     def test_a_failed_read_is_the_end(self):

@@ -1,7 +1,7 @@
 //! The rules a second time, and what is needed to hold the verified library to them.
 //!
-//! `reference` is written from documents 01 and 02 alone. `plans` and `spreads` make what both are
-//! tried on. `library` calls the archive, when it is there.
+//! `reference` is written from documents 01 and 02 alone. `plans`, `spoilt` and `spreads` make what
+//! both are tried on. `library` calls the archive, when it is there.
 
 pub mod answers;
 pub mod blocks;
@@ -14,13 +14,14 @@ pub mod random;
 pub mod records;
 pub mod reference;
 pub mod short;
+pub mod spoilt;
 pub mod spreads;
 
 use answers::{Axis, Checked, Device, Placed, Refusal, Sizes};
-use records::{MeshAndTable, Records, ShardingRecord, StepRecord};
+use records::{MeshAndTable, Opened, Records, ShardingRecord, StepRecord};
 
-/// The four calls of document 01, and of document 02 the listing by an order, the writer and the
-/// planner.
+/// The four calls of document 01, and of document 02 the listing by an order, the writer, the way
+/// back and the planner.
 pub trait Implementation {
     fn name(&self) -> &'static str;
 
@@ -40,20 +41,19 @@ pub trait Implementation {
 
     fn run(&self, file: &[u8], work: &mut [u32], spare: &mut [u32]) -> Result<(), Refusal>;
 
-    /// Writes the file of a plan, and answers its length; nothing where there is no such call.
-    fn write(&self, _records: &Records, _out: &mut [u8]) -> Option<Result<usize, Refusal>> {
-        None
-    }
+    /// Writes the file of a plan, and answers its length.
+    fn write(&self, records: &Records, out: &mut [u8]) -> Result<usize, Refusal>;
 
-    /// Makes the plan from one sharding to another; nothing where there is no such call.
+    /// Reads the file of a plan: the order and the step records, as bytes, into lent lists.
+    fn read(&self, file: &[u8], order: &mut [Device], steps: &mut [u8]) -> Result<Opened, Refusal>;
+
+    /// Makes the plan from one sharding to another.
     fn plan(
         &self,
-        _on: &MeshAndTable,
-        _start: &ShardingRecord,
-        _goal: &ShardingRecord,
-    ) -> Option<Result<Vec<StepRecord>, Refusal>> {
-        None
-    }
+        on: &MeshAndTable,
+        start: &ShardingRecord,
+        goal: &ShardingRecord,
+    ) -> Result<Vec<StepRecord>, Refusal>;
 
     /// The shard sizes of every state, the start first.
     fn shards(&self, file: &[u8]) -> Result<Vec<Sizes>, Refusal> {
@@ -97,8 +97,12 @@ impl Implementation for Reference {
         reference::run(file, work, spare)
     }
 
-    fn write(&self, records: &Records, out: &mut [u8]) -> Option<Result<usize, Refusal>> {
-        Some(reference::records::write(records, out))
+    fn write(&self, records: &Records, out: &mut [u8]) -> Result<usize, Refusal> {
+        reference::records::write(records, out)
+    }
+
+    fn read(&self, file: &[u8], order: &mut [Device], steps: &mut [u8]) -> Result<Opened, Refusal> {
+        reference::records::read(file, order, steps)
     }
 
     fn plan(
@@ -106,8 +110,8 @@ impl Implementation for Reference {
         on: &MeshAndTable,
         start: &ShardingRecord,
         goal: &ShardingRecord,
-    ) -> Option<Result<Vec<StepRecord>, Refusal>> {
-        Some(reference::records::plan(on, start, goal))
+    ) -> Result<Vec<StepRecord>, Refusal> {
+        reference::records::plan(on, start, goal)
     }
 
     fn shards(&self, file: &[u8]) -> Result<Vec<Sizes>, Refusal> {
@@ -148,6 +152,23 @@ impl Implementation for Library {
 
     fn run(&self, file: &[u8], work: &mut [u32], spare: &mut [u32]) -> Result<(), Refusal> {
         library::run(file, work, spare)
+    }
+
+    fn write(&self, records: &Records, out: &mut [u8]) -> Result<usize, Refusal> {
+        library::write_into(records, out)
+    }
+
+    fn read(&self, file: &[u8], order: &mut [Device], steps: &mut [u8]) -> Result<Opened, Refusal> {
+        library::read_into(file, order, steps)
+    }
+
+    fn plan(
+        &self,
+        on: &MeshAndTable,
+        start: &ShardingRecord,
+        goal: &ShardingRecord,
+    ) -> Result<Vec<StepRecord>, Refusal> {
+        library::plan(on, start, goal)
     }
 }
 

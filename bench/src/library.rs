@@ -7,8 +7,13 @@
 
 use crate::answers::{
     Axis, AxisList, Checked, Device, DimLists, Placed, Refusal, Sharding, Sizes, MOST_AXES,
-    MOST_RANK,
+    MOST_BYTES, MOST_DEVICES, MOST_RANK,
 };
+use crate::records::{
+    MeshAndTable, Opened, Records, ShardingRecord, StepRecord, LEAST_STEP_BYTES, RECORD_BYTES,
+    RECORD_LISTS,
+};
+use std::mem::{offset_of, size_of};
 
 /// Judges a plan file.
 pub fn check(file: &[u8]) -> Result<Checked, Refusal> {
@@ -41,6 +46,65 @@ pub fn run(file: &[u8], work: &mut [u32], spare: &mut [u32]) -> Result<(), Refus
     refused(raw::run(file, work, spare))
 }
 
+/// Judges a plan given as records, and answers the bytes of its file.
+pub fn write(records: &Records) -> Result<Vec<u8>, Refusal> {
+    let mut file = vec![0; MOST_BYTES];
+    let length = write_into(records, &mut file)?;
+    file.truncate(length);
+    Ok(file)
+}
+
+/// The same into a lent buffer; answers how many bytes the file has. Bytes after it stay.
+///
+/// Panics where a sharding or a step has not one list for each dimension of the table.
+pub fn write_into(records: &Records, out: &mut [u8]) -> Result<usize, Refusal> {
+    let rank = records.on.table.len();
+    let start = RawSharding::of(&records.start, rank);
+    let steps: Vec<u8> = records
+        .steps
+        .iter()
+        .flat_map(|step| record_bytes(step, rank))
+        .collect();
+    raw::write(&records.on, start, &steps, out).into()
+}
+
+/// The records of a plan file, which `write` makes into the same bytes again.
+pub fn read(file: &[u8]) -> Result<Records, Refusal> {
+    let mut order = vec![Device::default(); MOST_DEVICES];
+    let records = file.len().min(MOST_BYTES) / LEAST_STEP_BYTES;
+    let mut steps = vec![0; records * RECORD_BYTES];
+    let opened = read_into(file, &mut order, &mut steps)?;
+    Ok(Records::opened(&opened, &order, &steps).expect("the records of an accepted file"))
+}
+
+/// Reads a plan file: the order of its devices, where it has one, and its step records, each in the
+/// form of `StepRecord::to_bytes`, into lent lists. What stands behind them in the lists stays.
+pub fn read_into(file: &[u8], order: &mut [Device], steps: &mut [u8]) -> Result<Opened, Refusal> {
+    raw::read(file, order, steps).into()
+}
+
+/// The steps of a plan from one sharding to another; with the mesh, the table and the start they
+/// are records for `write`.
+///
+/// Panics where a sharding has not one list for each dimension of the table.
+pub fn plan(
+    on: &MeshAndTable,
+    start: &ShardingRecord,
+    goal: &ShardingRecord,
+) -> Result<Vec<StepRecord>, Refusal> {
+    let rank = on.table.len();
+    let goal = RawSharding::of(goal, rank);
+    raw::plan(on, RawSharding::of(start, rank), goal).to_steps(rank)
+}
+
+/// The bytes of a record, which have no place for how many lists by dimension there are.
+fn record_bytes(step: &StepRecord, rank: usize) -> [u8; RECORD_BYTES] {
+    if let StepRecord::Slice(lists) | StepRecord::Gather(lists) = step {
+        assert_eq!(lists.len(), rank, "give a list for each dimension");
+    }
+    step.to_bytes()
+}
+
 fn refused(code: u32) -> Result<(), Refusal> {
     if code == 0 {
         return Ok(());
@@ -64,8 +128,8 @@ const LISTS: usize = MOST_RANK + 2;
 #[derive(Clone, Copy, Debug, Default, PartialEq, Eq)]
 #[repr(C)]
 pub struct RawSharding {
-    counts: [u8; LISTS],
-    axes: [[u8; MOST_AXES]; LISTS],
+    pub counts: [u8; LISTS],
+    pub axes: [[u8; MOST_AXES]; LISTS],
 }
 
 /// The check's answer as it crosses the boundary.
@@ -92,7 +156,82 @@ pub struct RawPlaced {
     sharding: RawSharding,
 }
 
+/// A step record as it crosses the boundary: five lists in six places each.
+#[derive(Clone, Copy, Debug, Default, PartialEq, Eq)]
+#[repr(C)]
+pub struct RawStep {
+    kind: u8,
+    source: u8,
+    target: u8,
+    counts: [u8; RECORD_LISTS],
+    axes: [[u8; MOST_AXES]; RECORD_LISTS],
+}
+
+/// The writer's answer as it crosses the boundary.
+#[derive(Clone, Copy, Debug, Default, PartialEq, Eq)]
+#[repr(C)]
+pub struct RawWritten {
+    refusal: u32,
+    bytes: usize,
+}
+
+/// The reading call's answer as it crosses the boundary.
+#[derive(Clone, Copy, Debug, Default, PartialEq, Eq)]
+#[repr(C)]
+pub struct RawOpened {
+    refusal: u32,
+    n: u16,
+    rank: u16,
+    mesh: [u16; MOST_AXES],
+    table: [u16; MOST_RANK],
+    start: RawSharding,
+    order: usize,
+    steps_bytes: usize,
+}
+
+/// The most steps that the planner makes: a reduction, a gather and a slice.
+const MOST_PLANNED: usize = 3;
+
+/// The planner's answer as it crosses the boundary.
+#[derive(Clone, Copy, Debug, Default, PartialEq, Eq)]
+#[repr(C)]
+pub struct RawPlanned {
+    refusal: u32,
+    count: u32,
+    steps: [RawStep; MOST_PLANNED],
+}
+
+/// Where each field stands in include/ishkrela.h, and the size of the whole.
+macro_rules! layout {
+    ($raw:ty, $size:literal, $($field:ident $at:literal),+) => {
+        const _: () = {
+            assert!(size_of::<$raw>() == $size);
+            $(assert!(offset_of!($raw, $field) == $at);)+
+        };
+    };
+}
+
+layout!(RawSharding, 42, counts 0, axes 6);
+layout!(RawChecked, 64, refusal 0, room 4, devices 8, steps 10, rank 12, shard 14, sharding 22);
+layout!(RawPlaced, 64, refusal 0, rank 4, shard 6, first 14, sharding 22);
+layout!(RawStep, 38, kind 0, source 1, target 2, counts 3, axes 8);
+layout!(RawWritten, 16, refusal 0, bytes 8);
+layout!(RawOpened, 88, refusal 0, n 4, rank 6, mesh 8, table 20, start 28, order 72, steps_bytes 80);
+layout!(RawPlanned, 124, refusal 0, count 4, steps 8);
+
 impl RawSharding {
+    /// A sharding that is given. A list with more axes than places keeps its count, up to 255.
+    pub fn of(given: &ShardingRecord, rank: usize) -> RawSharding {
+        assert_eq!(given.dims.len(), rank, "give a list for each dimension");
+        let mut raw = RawSharding::default();
+        for (dim, list) in given.dims.iter().take(MOST_RANK).enumerate() {
+            raw.set(dim, list);
+        }
+        raw.set(UNREDUCED, &given.unreduced);
+        raw.set(REPLICATED, &given.replicated);
+        raw
+    }
+
     fn list(&self, index: usize) -> AxisList {
         let axes = &self.axes[index][..usize::from(self.counts[index])];
         axes.iter().map(|&axis| Axis(axis)).collect()
@@ -107,7 +246,7 @@ impl RawSharding {
     }
 
     fn set(&mut self, index: usize, list: &[Axis]) {
-        self.counts[index] = list.len() as u8;
+        self.counts[index] = list.len().min(255) as u8;
         for (place, axis) in self.axes[index].iter_mut().zip(list) {
             *place = axis.0;
         }
@@ -123,6 +262,38 @@ impl From<Sharding> for RawSharding {
         raw.set(UNREDUCED, &sharding.unreduced);
         raw.set(REPLICATED, &sharding.replicated);
         raw
+    }
+}
+
+impl RawStep {
+    fn from_bytes(bytes: [u8; RECORD_BYTES]) -> RawStep {
+        let places = 3 + RECORD_LISTS;
+        RawStep {
+            kind: bytes[0],
+            source: bytes[1],
+            target: bytes[2],
+            counts: std::array::from_fn(|list| bytes[3 + list]),
+            axes: std::array::from_fn(|list| {
+                std::array::from_fn(|at| bytes[places + MOST_AXES * list + at])
+            }),
+        }
+    }
+
+    fn to_bytes(self) -> Vec<u8> {
+        let head = [self.kind, self.source, self.target];
+        [&head[..], &self.counts, &self.axes.concat()].concat()
+    }
+}
+
+impl RawPlanned {
+    fn to_steps(self, rank: usize) -> Result<Vec<StepRecord>, Refusal> {
+        refused(self.refusal)?;
+        let made = &self.steps[..self.count as usize];
+        let step = |raw: &RawStep| StepRecord::from_bytes(&raw.to_bytes(), rank);
+        Ok(made
+            .iter()
+            .map(|raw| step(raw).expect("a step of the planner"))
+            .collect())
     }
 }
 
@@ -154,6 +325,26 @@ impl From<RawPlaced> for Result<Placed, Refusal> {
             sharding: raw.sharding.to_sharding(raw.rank.into()),
             shard: sizes(&raw.shard, raw.rank),
             first: sizes(&raw.first, raw.rank),
+        })
+    }
+}
+
+impl From<RawWritten> for Result<usize, Refusal> {
+    fn from(raw: RawWritten) -> Self {
+        refused(raw.refusal)?;
+        Ok(raw.bytes)
+    }
+}
+
+impl From<RawOpened> for Result<Opened, Refusal> {
+    fn from(raw: RawOpened) -> Self {
+        refused(raw.refusal)?;
+        Ok(Opened {
+            mesh: raw.mesh[..usize::from(raw.n)].to_vec(),
+            table: sizes(&raw.table, raw.rank),
+            start: raw.start.to_sharding(raw.rank.into()),
+            order: raw.order,
+            steps: raw.steps_bytes,
         })
     }
 }
@@ -199,13 +390,59 @@ impl From<Result<Placed, Refusal>> for RawPlaced {
     }
 }
 
+impl From<Result<usize, Refusal>> for RawWritten {
+    fn from(answer: Result<usize, Refusal>) -> Self {
+        let refusal = answer.map_or_else(code, |_| 0);
+        let bytes = answer.unwrap_or(0);
+        RawWritten { refusal, bytes }
+    }
+}
+
+impl From<Result<Opened, Refusal>> for RawOpened {
+    fn from(answer: Result<Opened, Refusal>) -> Self {
+        match answer {
+            Ok(opened) => RawOpened {
+                refusal: 0,
+                n: opened.mesh.len() as u16,
+                rank: opened.table.len() as u16,
+                mesh: std::array::from_fn(|axis| opened.mesh.get(axis).copied().unwrap_or(0)),
+                table: places(&opened.table),
+                start: opened.start.into(),
+                order: opened.order,
+                steps_bytes: opened.steps,
+            },
+            Err(refusal) => RawOpened {
+                refusal: code(refusal),
+                ..RawOpened::default()
+            },
+        }
+    }
+}
+
+impl From<Result<Vec<StepRecord>, Refusal>> for RawPlanned {
+    fn from(answer: Result<Vec<StepRecord>, Refusal>) -> Self {
+        let mut raw = RawPlanned::default();
+        match answer {
+            Ok(steps) => {
+                raw.count = steps.len() as u32;
+                for (place, step) in raw.steps.iter_mut().zip(&steps) {
+                    *place = RawStep::from_bytes(step.to_bytes());
+                }
+            }
+            Err(refusal) => raw.refusal = code(refusal),
+        }
+        raw
+    }
+}
+
 /// The calls with their answers as they cross the boundary.
 pub mod raw {
-    use super::{RawChecked, RawPlaced};
+    use super::{RawChecked, RawOpened, RawPlaced, RawPlanned, RawSharding, RawWritten};
     use crate::answers::{Axis, Device};
+    use crate::records::MeshAndTable;
 
     mod c {
-        use super::{RawChecked, RawPlaced};
+        use super::{RawChecked, RawOpened, RawPlaced, RawPlanned, RawSharding, RawWritten};
 
         // The names and types are those of include/ishkrela.h.
         extern "C" {
@@ -246,6 +483,40 @@ pub mod raw {
                 spare: *mut u32,
                 spare_len: usize,
             ) -> u32;
+
+            pub fn ishkrela_write(
+                mesh: *const u16,
+                mesh_len: usize,
+                order: *const u16,
+                order_len: usize,
+                table: *const u16,
+                table_len: usize,
+                start: RawSharding,
+                steps: *const u8,
+                steps_bytes: usize,
+                file: *mut u8,
+                file_len: usize,
+            ) -> RawWritten;
+
+            pub fn ishkrela_read(
+                file: *const u8,
+                file_len: usize,
+                order: *mut u16,
+                order_len: usize,
+                steps: *mut u8,
+                steps_bytes: usize,
+            ) -> RawOpened;
+
+            pub fn ishkrela_plan(
+                mesh: *const u16,
+                mesh_len: usize,
+                order: *const u16,
+                order_len: usize,
+                table: *const u16,
+                table_len: usize,
+                start: RawSharding,
+                goal: RawSharding,
+            ) -> RawPlanned;
         }
     }
 
@@ -305,6 +576,60 @@ pub mod raw {
                 work.len(),
                 spare.as_mut_ptr(),
                 spare.len(),
+            )
+        }
+    }
+
+    pub fn write(
+        on: &MeshAndTable,
+        start: RawSharding,
+        steps: &[u8],
+        out: &mut [u8],
+    ) -> RawWritten {
+        // Safe: as above; `out` is borrowed alone.
+        unsafe {
+            c::ishkrela_write(
+                on.mesh.as_ptr(),
+                on.mesh.len(),
+                on.order.as_ptr().cast(),
+                on.order.len(),
+                on.table.as_ptr(),
+                on.table.len(),
+                start,
+                steps.as_ptr(),
+                steps.len(),
+                out.as_mut_ptr(),
+                out.len(),
+            )
+        }
+    }
+
+    pub fn read(file: &[u8], order: &mut [Device], steps: &mut [u8]) -> RawOpened {
+        // Safe: as above; `order` and `steps` are each borrowed alone.
+        unsafe {
+            c::ishkrela_read(
+                file.as_ptr(),
+                file.len(),
+                order.as_mut_ptr().cast(),
+                order.len(),
+                steps.as_mut_ptr(),
+                steps.len(),
+            )
+        }
+    }
+
+    pub fn plan(on: &MeshAndTable, start: RawSharding, goal: RawSharding) -> RawPlanned {
+        // Safe: as above.
+        unsafe {
+            c::ishkrela_plan(
+                on.mesh.as_ptr(),
+                on.mesh.len(),
+                on.order.as_ptr().cast(),
+                on.order.len(),
+                on.table.as_ptr(),
+                on.table.len(),
+                start,
+                goal,
             )
         }
     }

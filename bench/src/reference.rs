@@ -1,5 +1,5 @@
 //! Document 01 with the limits, the editions and the repeats of document 02 in plain Rust, written
-//! from these documents alone. `records` has its writer and its planner.
+//! from these documents alone. `records` has its writer, the way back and its planner.
 //!
 //! A file is judged into a `Plan`, which holds the state after every outermost step. The calls read
 //! their answers off the plan. A run moves the words between the two lent buffers, step by step; the
@@ -156,6 +156,7 @@ pub fn run(file: &[u8], work: &mut [u32], spare: &mut [u32]) -> Result<(), Refus
 struct Plan {
     mesh: Mesh,
     order: Order,
+    table: Sizes,
     /// The outermost steps, and the states before and after them: one more.
     steps: Vec<Item>,
     states: Vec<State>,
@@ -196,6 +197,7 @@ impl Plan {
         Ok(Plan {
             mesh,
             order,
+            table,
             steps,
             states,
             most,

@@ -1,30 +1,30 @@
-//! The writer and the planner of document 02, Asks 2 and 10: the bytes, the order of the refusals,
-//! what is left of the buffer, and the steps from one sharding to another.
+//! The writer of document 02, Ask 2, the way back, and the planner of Ask 10: the bytes, the order of
+//! the refusals, what is left of the lent lists, and the steps from one sharding to another.
 
-use bench::answers::{Axis, Dim, Refusal, Sharding, MOST_BYTES};
+use bench::answers::{Device, Dim, Refusal, MOST_BYTES};
+#[cfg(library)]
+use bench::library;
 use bench::plans::{self, accepted, axes, devices, lists, random_scale, Draft, Step};
 use bench::random::Random;
-use bench::records::{MeshAndTable, Records, ShardingRecord, StepRecord};
-use bench::{blocks, hex, implementations, Implementation};
+use bench::records::{MeshAndTable, Opened, Records, ShardingRecord, StepRecord, RECORD_BYTES};
+use bench::{blocks, hex, implementations, spoilt, Implementation};
 use std::collections::BTreeMap;
 
 fn refusal<T>(number: u8, step: u16) -> Result<T, Refusal> {
     Err(Refusal { number, step })
 }
 
-/// What each implementation that has the call answers; at least one has it.
-fn answers<T>(call: impl Fn(&dyn Implementation) -> Option<T>) -> Vec<T> {
-    let answers: Vec<T> = implementations().into_iter().filter_map(call).collect();
-    assert!(!answers.is_empty());
-    answers
+/// What each implementation answers.
+fn answers<T>(call: impl Fn(&dyn Implementation) -> T) -> Vec<T> {
+    implementations().into_iter().map(call).collect()
 }
 
 /// What a write into so many bytes answers and leaves. The bytes are no part of any file.
 fn write(records: &Records, room: usize) -> Vec<(Result<usize, Refusal>, Vec<u8>)> {
     answers(|one| {
         let mut out = vec![0xa5; room];
-        let answer = one.write(records, &mut out)?;
-        Some((answer, out))
+        let answer = one.write(records, &mut out);
+        (answer, out)
     })
 }
 
@@ -143,58 +143,6 @@ fn accepted_plans_are_written_as_their_files() {
     assert!(nested > 100, "{nested}");
 }
 
-/// Some list of axes: of the start, or of a step in a block or outside.
-fn random_list<'a>(random: &mut Random, draft: &'a mut Draft) -> Option<&'a mut Vec<Axis>> {
-    fn gathered<'a>(step: &'a mut Step, all: &mut Vec<&'a mut Vec<Axis>>) {
-        match step {
-            Step::Slice(lists) | Step::Gather(lists) => all.extend(lists),
-            Step::Reduce(axes) | Step::AllToAll(_, _, axes) => all.push(axes),
-            Step::Repeat(_, block) => block.iter_mut().for_each(|step| gathered(step, all)),
-            Step::Bytes(_) => {}
-        }
-    }
-    let mut all: Vec<&mut Vec<Axis>> = draft.start.iter_mut().collect();
-    all.push(&mut draft.unreduced);
-    all.push(&mut draft.replicated);
-    for step in &mut draft.steps {
-        gathered(step, &mut all);
-    }
-    let at = random.below(all.len());
-    all.into_iter().nth(at)
-}
-
-/// Changes something of a plan; it may still pass.
-fn spoil(random: &mut Random, draft: &mut Draft) -> Option<()> {
-    match random.below(10) {
-        0 => {
-            *draft.mesh.last_mut()? = random.pick(&[0, 1, 3, 1025]);
-            draft.order.clear();
-        }
-        1 => *draft.table.last_mut()? = random.pick(&[0, 1, 3, 65535]),
-        2 => *random_list(random, draft)?.last_mut()? = Axis(random.below(8) as u8),
-        3 => random_list(random, draft)?.push(Axis(random.below(8) as u8)),
-        4 => *random_list(random, draft)? = axes(&[0; 7]),
-        5 => random_list(random, draft)?.reverse(),
-        6 => random_list(random, draft)?.clear(),
-        7 => draft.order.sort_unstable(),
-        8 => {
-            let at = random.below(draft.steps.len() + 1);
-            let block = draft.steps.clone();
-            let step = match random.below(4) {
-                0 => Step::Bytes(vec![random.pick(&[0, 5, 8, 10, 255])]),
-                1 => Step::AllToAll(Dim(random.byte() % 5), Dim(1), axes(&[0])),
-                _ => Step::Repeat(random.pick(&[0, 1, 2, 255]), block),
-            };
-            draft.steps.insert(at, step);
-        }
-        _ => {
-            let first = random.below(draft.steps.len() + 1);
-            draft.steps.drain(..first);
-        }
-    }
-    Some(())
-}
-
 #[test]
 fn spoilt_records_get_the_refusal_of_the_check() {
     let mut random = Random::new(22);
@@ -202,7 +150,7 @@ fn spoilt_records_get_the_refusal_of_the_check() {
     for _ in 0..20000 {
         let mut draft = plans::small(&mut random);
         for _ in 0..random.between(1, 3) {
-            spoil(&mut random, &mut draft);
+            spoilt::spoil(&mut random, &mut draft);
         }
         let (records, file) = (Records::from(&draft), draft.encode());
         for one in implementations() {
@@ -325,6 +273,123 @@ fn a_file_past_the_limit_gets_2_before_35() {
     assert_refused(&small(vec![repeat(1, 1); 65536]), 2, 0);
 }
 
+// ---- the way back
+
+/// What a read into lists of these lengths answers and leaves, in each implementation.
+type ReadBack = (Result<Opened, Refusal>, Vec<Device>, Vec<u8>);
+
+fn read(file: &[u8], order: usize, steps: usize) -> Vec<ReadBack> {
+    answers(|one| {
+        let (mut order, mut steps) = (vec![Device(0xa5a5); order], vec![0xa5; steps]);
+        let answer = one.read(file, &mut order, &mut steps);
+        (answer, order, steps)
+    })
+}
+
+/// Into lists that are just long enough, into longer ones, and into one that is too short.
+fn assert_read(records: &Records, file: &[u8]) {
+    let (devices, bytes) = (records.on.order.len(), RECORD_BYTES * records.steps.len());
+    for more in [0, 2] {
+        for (answer, order, steps) in read(file, devices + more, bytes + more) {
+            let opened = answer.expect("an accepted file");
+            assert_eq!((opened.order, opened.steps), (devices, bytes));
+            assert_eq!(
+                Records::opened(&opened, &order, &steps).as_ref(),
+                Some(records)
+            );
+            assert_eq!(order[devices..], vec![Device(0xa5a5); more]);
+            assert_eq!(steps[bytes..], vec![0xa5; more]);
+        }
+    }
+    let short = [
+        (devices.checked_sub(1), Some(bytes)),
+        (Some(devices), bytes.checked_sub(1)),
+    ];
+    for (devices, bytes) in short {
+        if let (Some(devices), Some(bytes)) = (devices, bytes) {
+            assert_not_read(file, devices, bytes, 33, 0);
+        }
+    }
+}
+
+fn assert_not_read(file: &[u8], devices: usize, bytes: usize, number: u8, step: u16) {
+    for (answer, order, steps) in read(file, devices, bytes) {
+        assert_eq!(answer, refusal(number, step));
+        assert_eq!(order, vec![Device(0xa5a5); devices]);
+        assert_eq!(steps, vec![0xa5; bytes]);
+    }
+}
+
+#[test]
+fn files_are_read_as_the_records_that_they_are_written_of() {
+    let mut random = Random::new(26);
+    for _ in 0..1000 {
+        let scale = random_scale(&mut random);
+        let draft = accepted(&mut random, scale);
+        let records = Records::from(&draft);
+        assert_read(&records, &draft.encode());
+        let steps = records.nested().expect("no block is open");
+        assert_eq!(
+            Records::new(records.on.clone(), records.start.clone(), &steps),
+            records
+        );
+    }
+    let longest = blocks::longest(&mut random, plans::small, MOST_BYTES);
+    assert_read(&Records::from(&longest), &longest.encode());
+}
+
+#[test]
+fn every_byte_of_a_record_that_is_read_is_fixed() {
+    let start = sharding(&[&[0], &[1]], &[2], &[]);
+    let steps = vec![
+        repeat(7, 2),
+        StepRecord::Gather(lists(&[&[], &[1]])),
+        StepRecord::Slice(lists(&[&[], &[1]])),
+        StepRecord::AllToAll(Dim(1), Dim(0), axes(&[1])),
+        StepRecord::Reduce(axes(&[2])),
+    ];
+    let record = |head: [u8; 3], counts: [u8; 5], place: usize, axis: u8| {
+        let mut axes = [0; 30];
+        axes[place] = axis;
+        [&head[..], &counts, &axes].concat()
+    };
+    let expected = [
+        record([9, 7, 2], [0; 5], 0, 0),
+        record([2, 0, 0], [0, 1, 0, 0, 0], 6, 1),
+        record([1, 0, 0], [0, 1, 0, 0, 0], 6, 1),
+        record([4, 1, 0], [0, 0, 0, 0, 1], 24, 1),
+        record([3, 0, 0], [0, 0, 0, 0, 1], 24, 2),
+    ]
+    .concat();
+    let records = records(on(&[2, 2, 2], &[], &[4, 4]), start, steps);
+    let mut file = vec![0; MOST_BYTES];
+    let length = implementations()[0].write(&records, &mut file);
+    file.truncate(length.expect("accepted"));
+    for (answer, _, steps) in read(&file, 0, expected.len()) {
+        assert!(answer.is_ok());
+        assert_eq!(steps, expected);
+    }
+}
+
+#[test]
+fn a_file_is_judged_before_the_lists() {
+    let mut file = Draft::default().encode();
+    assert_not_read(&file, 0, 0, 5, 0);
+    file.truncate(17);
+    assert_not_read(&file, 3, 38, 1, 0);
+    let records = small(vec![slice(), slice()]);
+    let mut draft = Draft {
+        mesh: records.on.mesh,
+        table: records.on.table,
+        start: records.start.dims,
+        steps: vec![Step::Slice(lists(&[&[0], &[]])); 2],
+        ..Draft::default()
+    };
+    assert_not_read(&draft.encode(), 0, 0, 23, 2);
+    draft.steps.pop();
+    assert_not_read(&draft.encode(), 0, 0, 33, 0);
+}
+
 // ---- the planner
 
 fn assert_planned(
@@ -389,7 +454,8 @@ fn plans_are_refused_in_order() {
     let table = &[4, 3];
     assert_no(&on(&[], &[0], table), &long, &long, 5);
     assert_no(&on(&[0; 7], &[0], table), &long, &long, 5);
-    assert_no(&on(&[0], &[0], &[0; 5]), &long, &long, 5);
+    let five = sharding(&[&[0, 1, 0][..]; 5], &[], &[]);
+    assert_no(&on(&[0], &[0], &[0; 5]), &five, &five, 5);
     assert_no(&on(&[2, 0], &[0], &[0, 3]), &long, &long, 10);
     assert_no(&on(&[1025], &[0], &[0, 3]), &long, &long, 11);
     assert_no(&on(&[2, 2], &[0, 1], &[0, 3]), &long, &long, 19);
@@ -417,14 +483,6 @@ fn plans_are_refused_in_order() {
     assert_no(&on, &whole, &of(&[], &[], &[0]), 40);
 }
 
-fn record_of(sharding: &Sharding) -> ShardingRecord {
-    ShardingRecord {
-        dims: sharding.dims.iter().map(|list| list.to_vec()).collect(),
-        unreduced: sharding.unreduced.to_vec(),
-        replicated: sharding.replicated.to_vec(),
-    }
-}
-
 #[test]
 fn plans_are_accepted_and_end_at_the_goal() {
     let mut random = Random::new(25);
@@ -434,17 +492,76 @@ fn plans_are_accepted_and_end_at_the_goal() {
         let Records { on, start, .. } = Records::from(&draft);
         for one in implementations() {
             let goal = one.check(&draft.encode()).expect("accepted").sharding;
-            let Some(answer) = one.plan(&on, &start, &record_of(&goal)) else {
-                continue;
-            };
+            let answer = one.plan(&on, &start, &ShardingRecord::from(&goal));
             let steps = answer.expect("a plan");
             of_length[steps.len()] += 1;
             let mut file = vec![0; MOST_BYTES];
             let planned = records(on.clone(), start.clone(), steps);
-            let length = one.write(&planned, &mut file).expect("the call");
-            let checked = one.check(&file[..length.expect("written")]);
+            let length = one.write(&planned, &mut file).expect("written");
+            let checked = one.check(&file[..length]);
             assert_eq!(checked.expect("accepted").sharding, goal);
         }
     }
     assert!(of_length.iter().all(|&plans| plans > 20), "{of_length:?}");
+}
+
+// ---- the safe calls of the library
+
+/// The lines of README.md.
+#[cfg(library)]
+#[test]
+fn a_plan_is_made_of_values() -> Result<(), Refusal> {
+    let on = MeshAndTable {
+        mesh: vec![2, 2],
+        table: vec![4, 4],
+        ..MeshAndTable::default()
+    };
+    let start = ShardingRecord {
+        dims: lists(&[&[0], &[1]]),
+        ..ShardingRecord::default()
+    };
+    let block = vec![
+        Step::Gather(lists(&[&[], &[1]])),
+        Step::Slice(lists(&[&[], &[1]])),
+    ];
+    let file = library::write(&Records::new(on, start, &[Step::Repeat(3, block)]))?;
+    let again = library::read(&file)?;
+    assert_eq!(library::write(&again), Ok(file));
+    assert!(
+        matches!(&again.nested().expect("steps")[..], [Step::Repeat(3, block)] if block.len() == 2)
+    );
+    Ok(())
+}
+
+#[cfg(library)]
+#[test]
+fn what_is_written_is_read_as_the_same_records() {
+    let mut random = Random::new(27);
+    for _ in 0..500 {
+        let draft = plans::small(&mut random);
+        let (records, file) = (Records::from(&draft), draft.encode());
+        assert_eq!(library::write(&records).as_ref(), Ok(&file));
+        assert_eq!(library::read(&file).as_ref(), Ok(&records));
+        let goal = ShardingRecord::from(&library::check(&file).expect("accepted").sharding);
+        let steps = library::plan(&records.on, &records.start, &goal).expect("a plan");
+        let planned = library::write(&Records { steps, ..records }).expect("accepted");
+        assert_eq!(
+            ShardingRecord::from(&library::check(&planned).expect("accepted").sharding),
+            goal
+        );
+    }
+    let longest = blocks::longest(&mut random, plans::small, MOST_BYTES);
+    assert_eq!(
+        library::read(&longest.encode()),
+        Ok(Records::from(&longest))
+    );
+    assert_eq!(library::write(&small(vec![gather()])), refusal(24, 1));
+    assert_eq!(library::read(&[0; 17]), refusal(1, 0));
+}
+
+#[cfg(library)]
+#[test]
+#[should_panic(expected = "give a list for each dimension")]
+fn a_step_has_a_list_for_each_dimension() {
+    let _ = library::write(&small(vec![StepRecord::Slice(lists(&[&[0]]))]));
 }

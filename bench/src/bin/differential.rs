@@ -1,7 +1,13 @@
 //! Compares the library with the reference on random plans, and tries demand 3.
 //!
-//! Arguments: a seed, a number of files, a number of runs. Without the library only demand 3 is
-//! tried, on the reference.
+//! Arguments: a seed, a number of files, a number of runs. Without the library demand 3 and the
+//! planner's plans alone are tried, on the reference.
+
+#[cfg_attr(library, path = "differential/boundary.rs")]
+#[cfg_attr(not(library), path = "differential/no_boundary.rs")]
+mod boundary;
+#[path = "differential/records.rs"]
+mod records;
 
 use bench::answers::{
     Axis, Device, Refusal, MOST_BYTES, MOST_DEPTH, MOST_DEVICES, MOST_ROOM, MOST_RUN, MOST_STEPS,
@@ -11,8 +17,9 @@ use bench::blocks;
 use bench::plans::{self, Draft, Scale, Step, FILE_REFUSALS};
 use bench::random::Random;
 use bench::spreads::{product, Layout};
-use bench::{hex, implementations, library, Implementation, Reference};
-use std::collections::BTreeSet;
+use bench::{hex, implementations, library, spoilt, Implementation, Reference};
+use boundary::Boundary;
+use std::collections::BTreeMap;
 use std::fmt::Debug;
 use std::process::ExitCode;
 use std::{env, fmt};
@@ -62,16 +69,31 @@ struct Tally {
     faithful: usize,
     prefixes: usize,
     prefixes_inside_blocks: usize,
-    refusals: BTreeSet<u8>,
+    refusals: Met,
+    records: records::Tally,
 }
 
-/// The numbers of all refusals: those of files, of buffers and of other numbers.
+/// The numbers of the refusals of files, of buffers and of other numbers.
 const REFUSALS: usize = FILE_REFUSALS.len() + 5;
+
+/// With so many files each number that a call gives is met.
+const ENOUGH_FILES: u64 = 20_000;
+
+/// How often each refusal number was met.
+#[derive(Default)]
+struct Met(BTreeMap<u8, usize>);
+
+impl Met {
+    fn see<T>(&mut self, answer: &Result<T, Refusal>) {
+        if let Err(refusal) = answer {
+            *self.0.entry(refusal.number).or_default() += 1;
+        }
+    }
+}
 
 impl Tally {
     fn see<T>(&mut self, answer: &Result<T, Refusal>) {
-        let refusal = answer.as_ref().err();
-        self.refusals.extend(refusal.map(|refusal| refusal.number));
+        self.refusals.see(answer);
     }
 
     fn see_plan(&mut self, draft: &Draft) {
@@ -112,12 +134,17 @@ fn main() -> ExitCode {
         return ExitCode::FAILURE;
     };
     if library().is_none() {
-        println!("The library is not linked: the reference alone is tried, on demand 3.");
+        println!("The library is not linked: the reference alone is tried, on demand 3 and plans.");
     }
     let mut tally = Tally::default();
     let outcome = compare(&mut Random::new(seed), files, runs, &mut tally);
     println!("seed {seed}\n{tally}");
+    let missing = tally.records.missing();
     match outcome {
+        Ok(()) if files >= ENOUGH_FILES && library().is_some() && !missing.is_empty() => {
+            println!("refusals that were not met: {}", missing.join(", "));
+            ExitCode::FAILURE
+        }
         Ok(()) => {
             println!("no difference");
             ExitCode::SUCCESS
@@ -135,7 +162,12 @@ fn compare(random: &mut Random, files: u64, runs: u64, tally: &mut Tally) -> Out
             let file = random_file(random, tally);
             compare_file(random, library, &file, tally)?;
             compare_groups(random, library, tally)?;
+            records::compare_read(random, library, &file, &mut tally.records)?;
+            records::compare_write(random, library, &mut tally.records)?;
         }
+    }
+    for _ in 0..files / 4 {
+        records::compare_plan(random, library(), &mut tally.records)?;
     }
     for _ in 0..runs {
         compare_run(random, tally)?;
@@ -222,54 +254,6 @@ fn number_up_to(random: &mut Random, last: u16) -> u16 {
     }
 }
 
-/// The answers as they cross the boundary, down to the places that are not used.
-struct Boundary;
-
-#[cfg(library)]
-mod boundary {
-    use super::{shown, Boundary};
-    use bench::answers::{Checked, Device, Placed, Refusal};
-    use bench::library::{raw, RawChecked, RawPlaced};
-
-    impl Boundary {
-        pub fn check(self, file: &[u8], answer: Result<Checked, Refusal>) -> Option<String> {
-            shown(&RawChecked::from(answer), &raw::check(file))
-        }
-
-        pub fn place(
-            self,
-            file: &[u8],
-            state: u16,
-            device: Device,
-            answer: Result<Placed, Refusal>,
-        ) -> Option<String> {
-            shown(&RawPlaced::from(answer), &raw::place(file, state, device))
-        }
-    }
-}
-
-#[cfg(not(library))]
-mod boundary {
-    use super::Boundary;
-    use bench::answers::{Checked, Device, Placed, Refusal};
-
-    impl Boundary {
-        pub fn check(self, _: &[u8], _: Result<Checked, Refusal>) -> Option<String> {
-            None
-        }
-
-        pub fn place(
-            self,
-            _: &[u8],
-            _: u16,
-            _: Device,
-            _: Result<Placed, Refusal>,
-        ) -> Option<String> {
-            None
-        }
-    }
-}
-
 fn same_at_boundary(
     file: &[u8],
     call: &str,
@@ -286,12 +270,17 @@ fn same_at_boundary(
 }
 
 /// Both answers as text, when they differ.
-fn shown<T: PartialEq + Debug>(reference: &T, library: &T) -> Option<String> {
+fn shown<T: PartialEq + Debug + ?Sized>(reference: &T, library: &T) -> Option<String> {
     let told = || format!("reference {reference:?}\nlibrary   {library:?}");
     (reference != library).then(told)
 }
 
-fn same<T: PartialEq + Debug>(call: &str, file: &[u8], reference: &T, library: &T) -> Outcome {
+fn same<T: PartialEq + Debug + ?Sized>(
+    call: &str,
+    file: &[u8],
+    reference: &T,
+    library: &T,
+) -> Outcome {
     match shown(reference, library) {
         None => Ok(()),
         Some(told) => Err(Difference {
@@ -329,16 +318,8 @@ fn listed_order(random: &mut Random, devices: usize) -> Option<Vec<Device>> {
         return None;
     }
     let mut order = plans::random_order(random, devices.max(1));
-    match random.below(12) {
-        0 => order.sort(),
-        1 => drop(order.pop()),
-        2 => order.push(Device(random.draw() as u16)),
-        3 => order.clear(),
-        4 | 5 if !order.is_empty() => {
-            let at = random.below(order.len());
-            order[at] = Device(random.between(0, order.len()) as u16);
-        }
-        _ => {}
+    if random.once_in(2) {
+        spoilt::order(random, &mut order);
     }
     Some(order)
 }
@@ -700,7 +681,7 @@ impl fmt::Display for Tally {
             let edition = at + 1;
             writeln!(f, "{plans} plans of edition {edition}, {runs} of them run")?;
         }
-        let met = self.refusals.len();
+        let met = self.refusals.0.len();
         writeln!(f, "{} placements", self.placements)?;
         let by_order = self.listings_by_order;
         writeln!(
@@ -732,7 +713,23 @@ impl fmt::Display for Tally {
             "    {spreads} on spreads of tables, demand 3 tried {prefixes} times, and {} times inside a block",
             self.prefixes_inside_blocks
         )?;
-        write!(f, "{met} of {REFUSALS} refusal numbers met")
+        writeln!(
+            f,
+            "{met} of {REFUSALS} refusal numbers met: {}",
+            self.refusals
+        )?;
+        write!(f, "{}", self.records)
+    }
+}
+
+impl fmt::Display for Met {
+    fn fmt(&self, f: &mut fmt::Formatter) -> fmt::Result {
+        let one = |(number, times): (&u8, &usize)| format!("{times} with {number}");
+        let all: Vec<String> = self.0.iter().map(one).collect();
+        match all.is_empty() {
+            true => f.write_str("none"),
+            false => f.write_str(&all.join(", ")),
+        }
     }
 }
 

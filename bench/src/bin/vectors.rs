@@ -4,8 +4,7 @@
 //! what its cases are: `check.txt` or `plans.txt`, `run.txt` or `runs.txt`, `place.txt` or
 //! `placements.txt`, `groups.txt`, `groups_ordered.txt`. Empty lines and lines that begin with `#`
 //! are no cases. A file whose name ends with `-CALL.jsonl` has a JSON object in each line, as
-//! `tools/json_cases` takes them, and is compared where it is named itself. Where an implementation
-//! has no such call, that is said, and its cases count as not tried.
+//! `tools/json_cases` takes them, and is compared where it is named itself.
 
 use bench::answers::{Axis, Device, Dim, Refusal, Sharding};
 use bench::json::Json;
@@ -13,7 +12,7 @@ use bench::records::{MeshAndTable, Records, ShardingRecord, StepRecord};
 use bench::{hex, implementations, Implementation};
 use std::path::{Path, PathBuf};
 use std::process::ExitCode;
-use std::{env, fmt, fs};
+use std::{env, fs};
 
 /// The files of a folder that are compared, and how each of their cases is.
 const FILES: [(&str, Compare); 8] = [
@@ -41,25 +40,7 @@ const JSON_FILES: [(&str, CompareJson); 6] = [
 type Compare = fn(&dyn Implementation, &[&str]) -> Result<bool, String>;
 
 /// The same, where nothing tells that the case is malformed.
-type CompareJson = fn(&dyn Implementation, &Json) -> Option<Compared>;
-
-/// How an implementation fared on a case.
-enum Compared {
-    Same,
-    Different,
-    /// It has no such call.
-    NotTried,
-}
-
-impl From<bool> for Compared {
-    fn from(same: bool) -> Compared {
-        if same {
-            Compared::Same
-        } else {
-            Compared::Different
-        }
-    }
-}
+type CompareJson = fn(&dyn Implementation, &Json) -> Option<bool>;
 
 fn main() -> ExitCode {
     let arguments: Vec<PathBuf> = env::args_os().skip(1).map(PathBuf::from).collect();
@@ -114,7 +95,7 @@ fn compare_file(path: &Path) -> Result<usize, String> {
     let compare = |implementation: &dyn Implementation, line: &str| match (by_name, by_end) {
         (Some((_, compare)), _) => {
             let fields: Vec<&str> = line.split('|').collect();
-            compare(implementation, &fields).map(Compared::from)
+            compare(implementation, &fields)
         }
         (_, Some((_, compare))) => Json::parse(line)
             .and_then(|case| compare(implementation, &case))
@@ -132,53 +113,34 @@ fn compare_file(path: &Path) -> Result<usize, String> {
     })?;
     let mut all = 0;
     for implementation in implementations() {
-        let tally = tally(&name, &text, |line| compare(implementation, line))?;
-        println!("{name}: {}: {tally}", implementation.name());
-        all += tally.different;
+        let (cases, different) = tally(&name, &text, |line| compare(implementation, line))?;
+        let implementation = implementation.name();
+        println!("{name}: {implementation}: {cases} cases, {different} differences");
+        all += different;
     }
     Ok(all)
 }
 
-/// How an implementation fared on the cases of a file.
-#[derive(Default)]
-struct Tally {
-    same: usize,
-    different: usize,
-    not_tried: usize,
-}
-
-impl fmt::Display for Tally {
-    fn fmt(&self, f: &mut fmt::Formatter) -> fmt::Result {
-        let tried = self.same + self.different;
-        match self.not_tried {
-            0 => write!(f, "{tried} cases, {} differences", self.different),
-            cases => write!(f, "no such call, {cases} cases not tried"),
-        }
-    }
-}
-
-/// Goes through the cases of a file, and names those that are different.
+/// Goes through the cases of a file, and names those that are different. Answers how many there
+/// are, and how many of them are different.
 fn tally(
     name: &str,
     text: &str,
-    compare: impl Fn(&str) -> Result<Compared, String>,
-) -> Result<Tally, String> {
-    let mut tally = Tally::default();
+    compare: impl Fn(&str) -> Result<bool, String>,
+) -> Result<(usize, usize), String> {
+    let (mut cases, mut different) = (0, 0);
     for (number, line) in text.lines().enumerate() {
         if line.is_empty() || line.starts_with('#') {
             continue;
         }
         let at = format!("{name}, line {}", number + 1);
-        match compare(line).map_err(|message| format!("{at}: {message}"))? {
-            Compared::Same => tally.same += 1,
-            Compared::NotTried => tally.not_tried += 1,
-            Compared::Different => {
-                tally.different += 1;
-                println!("{at}: different");
-            }
+        cases += 1;
+        if !compare(line).map_err(|message| format!("{at}: {message}"))? {
+            different += 1;
+            println!("{at}: different");
         }
     }
-    Ok(tally)
+    Ok((cases, different))
 }
 
 fn compare_check(implementation: &dyn Implementation, fields: &[&str]) -> Result<bool, String> {
@@ -283,7 +245,7 @@ fn same_listing(
 
 // ---- cases in JSON: what is given, and under the call's name what it answers
 
-fn json_check(implementation: &dyn Implementation, case: &Json) -> Option<Compared> {
+fn json_check(implementation: &dyn Implementation, case: &Json) -> Option<bool> {
     let file = json_file(case)?;
     let answer = implementation.check(&file).and_then(|checked| {
         let states: Result<Vec<Json>, Refusal> = (0..=checked.steps)
@@ -301,10 +263,10 @@ fn json_check(implementation: &dyn Implementation, case: &Json) -> Option<Compar
             ("states", Json::List(states?)),
         ]))
     });
-    same_json(case, "check", answer).map(Compared::from)
+    same_json(case, "check", answer)
 }
 
-fn json_run(implementation: &dyn Implementation, case: &Json) -> Option<Compared> {
+fn json_run(implementation: &dyn Implementation, case: &Json) -> Option<bool> {
     let (before, spare_before) = (case.get("work")?, case.get("spare")?);
     let mut work: Vec<u32> = before.numbers()?;
     let mut spare: Vec<u32> = spare_before.numbers()?;
@@ -312,11 +274,10 @@ fn json_run(implementation: &dyn Implementation, case: &Json) -> Option<Compared
     let (work, spare) = (json_numbers(&work), json_numbers(&spare));
     let stayed = work == *before && spare == *spare_before;
     let answered = answer.map(|()| object([("work", work), ("spare", spare)]));
-    let same = same_json(case, "run", answered)? && (answer.is_ok() || stayed);
-    Some(same.into())
+    Some(same_json(case, "run", answered)? && (answer.is_ok() || stayed))
 }
 
-fn json_place(implementation: &dyn Implementation, case: &Json) -> Option<Compared> {
+fn json_place(implementation: &dyn Implementation, case: &Json) -> Option<bool> {
     let (state, device) = (case.get("state")?.number()?, case.get("device")?.number()?);
     let placed = implementation.place(&json_file(case)?, state, Device(device));
     let answer = placed.map(|placed| {
@@ -326,10 +287,10 @@ fn json_place(implementation: &dyn Implementation, case: &Json) -> Option<Compar
             ("first", json_numbers(&placed.first)),
         ])
     });
-    same_json(case, "place", answer).map(Compared::from)
+    same_json(case, "place", answer)
 }
 
-fn json_groups(implementation: &dyn Implementation, case: &Json) -> Option<Compared> {
+fn json_groups(implementation: &dyn Implementation, case: &Json) -> Option<bool> {
     let mesh: Vec<u16> = case.get("mesh")?.numbers()?;
     let order = case.get("order")?.list(|id| id.number().map(Device))?;
     let axes = case.get("axes")?.list(|axis| axis.number().map(Axis))?;
@@ -338,13 +299,12 @@ fn json_groups(implementation: &dyn Implementation, case: &Json) -> Option<Compa
         Some(refusal) => format!("no {}", joined(&refusal.numbers()?)),
         None => format!("ok {}", joined(&answer.numbers()?)),
     };
-    let same = same_listing(case.get("room")?.number()?, &outcome, |out| {
+    Some(same_listing(case.get("room")?.number()?, &outcome, |out| {
         implementation.groups_ordered(&mesh, &order, &axes, out)
-    });
-    Some(same.into())
+    }))
 }
 
-fn json_write(implementation: &dyn Implementation, case: &Json) -> Option<Compared> {
+fn json_write(implementation: &dyn Implementation, case: &Json) -> Option<bool> {
     let records = Records {
         on: json_mesh_and_table(case)?,
         start: json_sharding_record(case.get("start")?)?,
@@ -352,24 +312,19 @@ fn json_write(implementation: &dyn Implementation, case: &Json) -> Option<Compar
     };
     let before = vec![0xa5; case.get("room")?.number()?];
     let mut out = before.clone();
-    let Some(answer) = implementation.write(&records, &mut out) else {
-        return Some(Compared::NotTried);
-    };
+    let answer = implementation.write(&records, &mut out);
     let written = answer.unwrap_or(0);
     let stayed = out.get(written..)? == before.get(written..)?;
     let answered = answer.map(|length| Json::Text(printed_hex(&out[..length])));
-    let same = same_json(case, "write", answered)? && stayed;
-    Some(same.into())
+    Some(same_json(case, "write", answered)? && stayed)
 }
 
-fn json_plan(implementation: &dyn Implementation, case: &Json) -> Option<Compared> {
+fn json_plan(implementation: &dyn Implementation, case: &Json) -> Option<bool> {
     let on = json_mesh_and_table(case)?;
     let start = json_sharding_record(case.get("start")?)?;
     let goal = json_sharding_record(case.get("goal")?)?;
-    let Some(answer) = implementation.plan(&on, &start, &goal) else {
-        return Some(Compared::NotTried);
-    };
-    let same = match case.get("plan")?.get("no") {
+    let answer = implementation.plan(&on, &start, &goal);
+    Some(match case.get("plan")?.get("no") {
         Some(refusal) => {
             let [number, step] = refusal.numbers::<u16>()?[..] else {
                 return None;
@@ -378,8 +333,7 @@ fn json_plan(implementation: &dyn Implementation, case: &Json) -> Option<Compare
             answer == Err(Refusal { number, step })
         }
         None => answer == Ok(case.get("plan")?.list(json_step)?),
-    };
-    Some(same.into())
+    })
 }
 
 fn json_mesh_and_table(case: &Json) -> Option<MeshAndTable> {

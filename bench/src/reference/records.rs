@@ -1,11 +1,11 @@
-//! Document 02, Asks 2 and 10: the writer and the planner.
+//! Document 02, Asks 2 and 10: the writer, the way back, and the planner.
 
 use super::{
-    product_within, within_limits, Judge, Mesh, Order, Source, State, Step, MOST_BYTES,
+    product_within, within_limits, Item, Judge, Mesh, Order, Plan, Source, State, Step, MOST_BYTES,
     MOST_DEVICES, MOST_WORDS, REPEAT,
 };
-use crate::answers::{Axis, AxisList, DimLists, Refusal, Sharding, Sizes};
-use crate::records::{MeshAndTable, Records, ShardingRecord, StepRecord};
+use crate::answers::{Axis, AxisList, Device, DimLists, Refusal, Sharding, Sizes};
+use crate::records::{MeshAndTable, Opened, Records, ShardingRecord, StepRecord};
 use std::slice;
 
 /// Writes the file of a plan, and answers how many bytes it has.
@@ -29,6 +29,54 @@ pub fn write(records: &Records, out: &mut [u8]) -> Result<usize, Refusal> {
     let part = out.get_mut(..file.len()).ok_or(Refusal::whole(35))?;
     part.copy_from_slice(&file);
     Ok(file.len())
+}
+
+/// Reads the file of a plan: the order and the step records into the lent lists, the rest as the
+/// answer. What stands behind them in the lists stays.
+pub fn read(file: &[u8], order: &mut [Device], steps: &mut [u8]) -> Result<Opened, Refusal> {
+    let plan = Plan::judge(file)?;
+    let mut records = Vec::new();
+    plan.steps
+        .iter()
+        .for_each(|item| add_records(item, &mut records));
+    let bytes: Vec<u8> = records.iter().flat_map(StepRecord::to_bytes).collect();
+    let devices = &plan.order.0;
+    let short = Refusal::whole(33);
+    let order = order.get_mut(..devices.len()).ok_or(short)?;
+    let steps = steps.get_mut(..bytes.len()).ok_or(short)?;
+    order.copy_from_slice(devices);
+    steps.copy_from_slice(&bytes);
+    Ok(Opened {
+        mesh: plan.mesh.sizes.to_vec(),
+        table: plan.table,
+        start: plan.states[0].sharding,
+        order: order.len(),
+        steps: steps.len(),
+    })
+}
+
+/// Adds the records of a step, those of a block behind its repeat.
+fn add_records(item: &Item, records: &mut Vec<StepRecord>) {
+    let vecs = |lists: &DimLists| lists.iter().map(|list| list.to_vec()).collect();
+    match item {
+        Item::Plain(taken) => records.push(match &taken.step {
+            Step::Slice(lists) => StepRecord::Slice(vecs(lists)),
+            Step::Gather(lists) => StepRecord::Gather(vecs(lists)),
+            Step::Reduce(axes) => StepRecord::Reduce(axes.to_vec()),
+            Step::AllToAll {
+                source,
+                target,
+                axes,
+            } => StepRecord::AllToAll(*source, *target, axes.to_vec()),
+        }),
+        Item::Repeat(count, block) => {
+            records.push(StepRecord::Repeat {
+                count: *count as u8,
+                steps: block.len() as u8,
+            });
+            block.iter().for_each(|inner| add_records(inner, records));
+        }
+    }
 }
 
 /// Makes the plan from one sharding to another.
