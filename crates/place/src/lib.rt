@@ -42,7 +42,7 @@ fn first_index(block: usize, size: u16) -> u16
 }
 
 // The first indexes of the device at a place.
-fn first_indexes(mesh: &[u16], dims: DimLists, shard: Table, place: usize) -> Table
+pub fn first_indexes(mesh: &[u16], dims: DimLists, shard: Table, place: usize) -> Table
     requires { ⌜ Placing (now mesh) dims shard place ⌝ }
     ensures { λ r. ⌜ (r .rank ≡ shard .rank) × (sizesOf r ≡ firstIndexes (now (mesh .entry)) (take (shard .rank) (dimsOf dims))
         (sizesOf shard) (coords (now (mesh .entry)) place)) ⌝ }

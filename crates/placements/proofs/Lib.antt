@@ -1,0 +1,4 @@
+-- Laws of the placement for a list of devices.
+pub mod Firsts
+pub mod Promises
+pub mod States
