@@ -19,9 +19,11 @@ use Rattle.rules.specs.declared.PlaceOutcome.the-variants as place
 use Rattle.records.specs.declared.Steps.{Steps}
 use Rattle.records.specs.declared.PlanOutcome.{PlanOutcome}
 use Rattle.records.specs.declared.PlanOutcome.the-variants as plan
+use Rattle.placements.specs.PlaceAll.{placeBeside}
 use Rattle.marshal.specs.Structs.{shardingReply, noSharding, stepReply, noStep, stepNumbers}
 use Rattle.capi.specs.declared.CheckReply.{CheckReply}
 use Rattle.capi.specs.declared.PlaceReply.{PlaceReply}
+use Rattle.capi.specs.declared.PlaceAllReply.{PlaceAllReply}
 use Rattle.capi.specs.declared.WriteReply.{WriteReply}
 use Rattle.capi.specs.declared.PlanReply.{PlanReply}
 
@@ -69,6 +71,10 @@ placeReply (refuse n k) = record {
 }
 
 -- the writer's answer: the bytes of the file
+-- that of the placement of a list of devices, with the place beside 32; then the writer's: how many bytes were written
+abbrev pub placedAllReply : Judged (List ℕ) → (place : ℕ) → PlaceAllReply
+placedAllReply j place = record { refusal = refusalCode j; place = placeBeside j place }
+
 abbrev pub writtenReply : Judged ℕ → WriteReply
 writtenReply (accept n) = record { refusal = 0; bytes = n }
 writtenReply (refuse n k) = record { refusal = n + 256 * k; bytes = 0 }

@@ -8,13 +8,15 @@ ghost use Rattle.rules.specs.Calls.{checkOf, placeOf, groupsOf, groupsLeave, gr
 ghost use Rattle.records.specs.Writing.{writeOf, writeLeaves};
 ghost use Rattle.records.specs.Forms.{recordsGiven};
 ghost use Rattle.records.specs.PlanAnswer.{stepsPlanned};
+ghost use Rattle.placements.specs.PlaceAll.{placeAllOf, placedBefore, placeAllLeaves};
 ghost use Rattle.marshal.specs.Structs.{shardingIn};
-ghost use Rattle.capi.specs.Boundary.{refusalCode, checkReply, placeReply, checkedReply, placedReply, writtenReply, plannedReply, madeReply};
+ghost use Rattle.capi.specs.Boundary.{refusalCode, checkReply, placeReply, checkedReply, placedReply, placedAllReply, writtenReply, plannedReply, madeReply};
 use ishkrela::CheckOutcome;
 use ishkrela::Checked;
 use ishkrela::Device;
 use ishkrela::Dim;
 use ishkrela::GroupsOutcome;
+use ishkrela::PlaceAllOutcome;
 use ishkrela::PlaceOutcome;
 use ishkrela::Placed;
 use ishkrela::PlanOutcome;
@@ -52,6 +54,13 @@ pub struct PlaceReply {
     pub shard: [u16; Dim::MOST],
     pub first: [u16; Dim::MOST],
     pub sharding: ShardingReply,
+}
+
+// C's ishkrela_placed_all: the numbers that stand for the answer of the placement of a list of devices.
+#[repr(C)]
+pub struct PlaceAllReply {
+    pub refusal: u32,
+    pub place: usize,
 }
 
 // C's ishkrela_written: the numbers that stand for the writer's answer.
@@ -162,6 +171,29 @@ pub extern "C" fn ishkrela_place(file: &[u8], state: u16, device: u16) -> PlaceR
     match outcome {
         PlaceOutcome::Found(rank) => place_found(rank, placed),
         PlaceOutcome::Refused(refusal) => place_refused(refusal),
+    }
+}
+
+// The placement of a list of devices in a state.
+#[no_mangle]
+pub extern "C" fn ishkrela_place_all(
+    file: &[u8],
+    state: u16,
+    devices: &[u16],
+    first: &mut [u16],
+) -> PlaceAllReply
+    ensures answers { λ r. ⌜ r ≡ placedAllReply (placeAllOf (now (file .entry)) state (now (devices .entry)) (now (first .entry))) (placedBefore (now (file .entry)) state (now (devices .entry))) ⌝ }
+    ensures leaves { λ r. ⌜ now (first .exit) ≡ placeAllLeaves (now (file .entry)) state (now (devices .entry)) (now (first .entry)) ⌝ }
+{
+    let placed = ishkrela::place_all(file, state, devices, first);
+    let outcome = placed.outcome;
+    let place = placed.place;
+    match outcome {
+        PlaceAllOutcome::Placed => PlaceAllReply { refusal: 0, place },
+        PlaceAllOutcome::Refused(refusal) => PlaceAllReply {
+            refusal: code_of(refusal),
+            place,
+        },
     }
 }
 

@@ -1,7 +1,10 @@
 // The library as its users see it: the calls, and the types of what they take and answer.
 // No call asks anything of its input; what each promises is in rules/specs/Promises.antt, and of the calls on records in records/specs/Promises.antt.
 ghost use Rattle.rules.specs.Promises.{CheckPromise, PlacePromise, GroupsPromise, GroupsOrderedPromise, RunPromise};
+ghost use Rattle.placements.specs.PlaceAll.{PlaceAllPromise};
 ghost use Rattle.records.specs.Promises.{WritePromise, PlanPromise};
+pub use placements::PlaceAllOutcome;
+pub use placements::PlacedAll;
 pub use records::PlanOutcome;
 pub use records::Planned;
 pub use records::Steps;
@@ -36,6 +39,14 @@ pub fn place(file: &[u8], state: u16, device: Device) -> Placed
     ensures { λ r. ⌜ PlacePromise (now (file .entry)) state (device .0) r ⌝ }
 {
     place::place(file, state, device)
+}
+
+// The same for a list of devices, the file judged once: first indexes, as many per device as the rank, at the front of first. Beside refusal 32 stands the place
+// in the list, from 0, of the first device that is not there.
+pub fn place_all(file: &[u8], state: u16, devices: &[u16], first: &mut [u16]) -> PlacedAll
+    ensures { λ r. ⌜ PlaceAllPromise (now (file .entry)) state (now (devices .entry)) (now (first .entry)) r (now (first .exit)) ⌝ }
+{
+    placements::place_all(file, state, devices, first)
 }
 
 // Lists the devices of a mesh group by group along an axis list, at the front of out.

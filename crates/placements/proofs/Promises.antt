@@ -11,12 +11,13 @@ use lib.Dec.{leb, eqb}
 use Rattle.rules.specs.Lists.{flat, pick}
 use Rattle.rules.specs.Mesh.{devices as devicesOf, deviceCoords}
 use Rattle.rules.specs.Sharding.{firstIndexes}
-use Rattle.rules.specs.Refusals.{Judged, accept, refuse, _>>_, need, numberOf, reasonOf, refusedAs, refusalOf}
+use Rattle.rules.specs.Refusals.{Judged, accept, refuse, _>>=_, _>>_, need, numberOf, reasonOf, refusedAs, refusalOf}
 use Rattle.rules.specs.PlanFile.{StateAnswer, stateOf}
 use Rattle.rules.specs.Calls.{PlaceAnswer, placeOf}
 use Rattle.rules.specs.declared.Reason.the-variants.{OutputTooShort, NoSuchDevice}
 use Rattle.rules.specs.declared.Refusal.{Refusal}
 use Rattle.rules.proofs.Refusals.{refusal-told}
+use Rattle.rules.proofs.Answers.{place-listed}
 use Rattle.placements.specs.PlaceAll.{firstsOf, placeAllOf, placedBefore, placeAllLeaves, firstsOut, placedAllOf, placedAllWith, placeBeside, PlaceAllPromise}
 use Rattle.placements.specs.Placing.{refusedAt, leading}
 use Rattle.placements.specs.declared.PlacedAll.{PlacedAll}
@@ -33,16 +34,15 @@ not-placed e = subst IsRefused e tt
     IsRefused outcome.Placed = ⊥
 
 -- refusals are the same whatever would be accepted
-numberIn : {A : Type 0} → Judged A → ℕ
+abbrev numberIn : {A : Type 0} → Judged A → ℕ
 numberIn (accept a) = 0
 numberIn (refuse n k) = n
 
-stepIn : {A : Type 0} → Judged A → ℕ
+abbrev stepIn : {A : Type 0} → Judged A → ℕ
 stepIn (accept a) = 0
 stepIn (refuse n k) = k
 
 same-refusal : {A B : Type 0} {n k m l : ℕ} → _≡_ {A = Judged A} (refuse n k) (refuse m l) → _≡_ {A = Judged B} (refuse n k) (refuse m l)
-unfolding numberIn stepIn
 same-refusal e = λ i. refuse (numberIn (e i)) (stepIn (e i))
 
 pick-same : (b : Bool) (n : ℕ) → pick b n n ≡ n
@@ -51,7 +51,6 @@ pick-same false n = refl
 
 -- 33 is not 32
 other-number : {A : Type 0} → _≡_ {A = Judged A} (refuse 33 0) (refuse 32 0) → ⊥
-unfolding numberIn
 other-number e =
     let n : _≡_ {A = ℕ} 33 32 = ap numberIn e in
     absurd (omega (arith, n))
@@ -196,3 +195,41 @@ module _ (file : List ℕ) (state : ℕ) (devices out : List ℕ) where
               first-refused = λ w. absurd (accepted-not (sym all-placed ∙ w));
               refused = stays leaves;
             }
+
+-- ---- each number that it refuses with is a reason's
+
+firsts-listed : (file : List ℕ) (state : ℕ) (ds : List ℕ) (n k : ℕ) → firstsOf file state ds ≡ refuse n k → numberOf (reasonOf n) ≡ n
+unfolding firstsOf
+firsts-listed file state [] n k e = absurd (accepted-not e)
+firsts-listed file state (d ∷ ds) n k e = go (placeOf file state d) refl (firsts-listed file state ds n k) e
+  where
+    Later : Type 0
+    Later = firstsOf file state ds ≡ refuse n k → numberOf (reasonOf n) ≡ n
+
+    rest : PlaceAnswer → Judged (List ℕ)
+    rest a = _>>=_ (firstsOf file state ds) (λ l. accept (a .first ++ l))
+
+    later : (a : PlaceAnswer) (j : Judged (List ℕ)) → firstsOf file state ds ≡ j → Later → _>>=_ j (λ l. accept (a .first ++ l)) ≡ refuse n k
+        → numberOf (reasonOf n) ≡ n
+    later a (accept l) q f e = absurd (accepted-not e)
+    later a (refuse m l) q f e = f (q ∙ same-refusal e)
+
+    go : (j : Judged PlaceAnswer) → placeOf file state d ≡ j → Later → _>>=_ j rest ≡ refuse n k → numberOf (reasonOf n) ≡ n
+    go (refuse m l) q f e = place-listed file state d n k (q ∙ same-refusal e)
+    go (accept a) q f e = later a (firstsOf file state ds) refl f e
+
+module _ (file : List ℕ) (state : ℕ) (devices out : List ℕ) where
+  pub all-listed : (n k : ℕ) → placeAllOf file state devices out ≡ refuse n k → numberOf (reasonOf n) ≡ n
+  unfolding placeAllOf placeOf reasonOf
+  all-listed n k e = go (stateOf file state) refl e
+    where
+      rest : StateAnswer → Judged (List ℕ)
+      rest s = _>>_ (need (leb (length devices * length (s .sizes)) (length out)) 33) (firstsOf file state devices)
+
+      room : (b : Bool) → _>>_ (need b 33) (firstsOf file state devices) ≡ refuse n k → numberOf (reasonOf n) ≡ n
+      room true e = firsts-listed file state devices n k e
+      room false e = subst (λ (m : ℕ). numberOf (reasonOf m) ≡ m) (ap numberIn e) refl
+
+      go : (j : Judged StateAnswer) → stateOf file state ≡ j → _>>=_ j rest ≡ refuse n k → numberOf (reasonOf n) ≡ n
+      go (refuse m l) q e = place-listed file state 0 n k (rw q (same-refusal e))
+      go (accept s) q e = room (leb (length devices * length (s .sizes)) (length out)) e
