@@ -33,10 +33,14 @@ use Rattle.records.specs.declared.PlanOutcome.{PlanOutcome}
 use Rattle.records.specs.declared.PlanOutcome.the-variants as plan
 use Rattle.records.proofs.Accepting.{plan-few}
 use Rattle.records.proofs.Arrives.{plan-short}
+use Rattle.placements.specs.PlaceAll.{placeAllOf, placedBefore, placeBeside, placedAllWith, PlaceAllPromise}
+use Rattle.placements.specs.declared.PlacedAll.{PlacedAll}
+use Rattle.placements.specs.declared.PlaceAllOutcome.{PlaceAllOutcome}
+use Rattle.placements.proofs.Promises.{all-listed}
 use Rattle.marshal.specs.Structs.{stepNumbers}
 use Rattle.marshal.specs.declared.StepReply.{StepReply}
 use Rattle.marshal.proofs.Structs.{sharding-of, step-at}
-use Rattle.capi.specs.Boundary.{checkReply, placeReply, checkedReply, placedReply, plannedReply, madeReply}
+use Rattle.capi.specs.Boundary.{checkReply, placeReply, checkedReply, placedReply, plannedReply, madeReply, placedAllReply, allReply}
 
 -- each list of an answer has a place for its axes
 in-places : {rank : ℕ} (s : Sharding) → InPlaces rank s → ShortSharding s
@@ -100,6 +104,20 @@ module _ (file : List ℕ) (state device : ℕ) where
 
     pub place-rank : placedRank o ≤ mostDims
     place-rank = subst (λ (x : PlaceOutcome). placedRank x ≤ mostDims) (ap (λ (c : Placed). c .outcome) (sym p) ∙ e) (placed (placeOf file state device) refl .1)
+
+-- ---- a list of devices
+
+module _ (file : List ℕ) (state : ℕ) (devices out : List ℕ) where
+  all-placed : (j : Judged (List ℕ)) → placeAllOf file state devices out ≡ j → (place : ℕ)
+      → allReply (placedAllWith j (placeBeside j place) .outcome) (placedAllWith j (placeBeside j place)) ≡ placedAllReply j place
+  all-placed (accept l) e place = refl
+  all-placed (refuse n k) e place = λ i. record { refusal = all-listed file state devices out n k e i + 256 * k; place = placeBeside (refuse n k) place }
+
+  pub place-all-told : {r : PlacedAll} {outAfter : List ℕ} {o : PlaceAllOutcome} → PlaceAllPromise file state devices out r outAfter → r .outcome ≡ o
+      → allReply o r ≡ placedAllReply (placeAllOf file state devices out) (placedBefore file state devices)
+  place-all-told {r} p e =
+      ap (λ (x : PlaceAllOutcome). allReply x r) (sym e) ∙ ap (λ (c : PlacedAll). allReply (c .outcome) c) (p .answers)
+      ∙ all-placed (placeAllOf file state devices out) refl (placedBefore file state devices)
 
 -- ---- the planner
 

@@ -20,6 +20,9 @@ use Rattle.records.specs.declared.Steps.{Steps}
 use Rattle.records.specs.declared.PlanOutcome.{PlanOutcome}
 use Rattle.records.specs.declared.PlanOutcome.the-variants as plan
 use Rattle.placements.specs.PlaceAll.{placeBeside}
+use Rattle.placements.specs.declared.PlacedAll.{PlacedAll}
+use Rattle.placements.specs.declared.PlaceAllOutcome.{PlaceAllOutcome}
+use Rattle.placements.specs.declared.PlaceAllOutcome.the-variants as all
 use Rattle.marshal.specs.Structs.{shardingReply, noSharding, stepReply, noStep, stepNumbers}
 use Rattle.capi.specs.declared.CheckReply.{CheckReply}
 use Rattle.capi.specs.declared.PlaceReply.{PlaceReply}
@@ -70,11 +73,11 @@ placeReply (refuse n k) = record {
   sharding = noSharding;
 }
 
--- the writer's answer: the bytes of the file
--- that of the placement of a list of devices, with the place beside 32; then the writer's: how many bytes were written
+-- the answer of the placement of a list of devices: the place beside 32
 abbrev pub placedAllReply : Judged (List ℕ) → (place : ℕ) → PlaceAllReply
 placedAllReply j place = record { refusal = refusalCode j; place = placeBeside j place }
 
+-- the writer's answer: the bytes of the file
 abbrev pub writtenReply : Judged ℕ → WriteReply
 writtenReply (accept n) = record { refusal = 0; bytes = n }
 writtenReply (refuse n k) = record { refusal = n + 256 * k; bytes = 0 }
@@ -111,3 +114,7 @@ placedReply (place.Refused r) c = placeReply (refusedAs r)
 abbrev pub madeReply : PlanOutcome → Steps → PlanReply
 madeReply plan.Made p = record { refusal = 0; count = p .count; steps = map stepNumbers (p .steps) }
 madeReply (plan.Refused r) p = plannedReply (refusedAs r)
+
+abbrev pub allReply : PlaceAllOutcome → PlacedAll → PlaceAllReply
+allReply all.Placed r = record { refusal = 0; place = r .place }
+allReply (all.Refused x) r = record { refusal = refusalCode {A = List ℕ} (refusedAs x); place = r .place }

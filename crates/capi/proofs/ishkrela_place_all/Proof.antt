@@ -1,0 +1,22 @@
+use borrow.Author.Needs.{needs}
+use mathlib.Core.Path.{sym, ap, _∙_}
+use denote.Ref.{now}
+use Rattle.capi.proofs.Replies.{place-all-told}
+use Rattle.capi.proofs.ishkrela_place_all.Statement.{statement}
+use Rattle.capi.proofs.ishkrela_place_all.Tie as tie
+
+enum-told : tie.Need-enum-told
+enum-told c = search needs
+
+pub ishkrela-place-all-spec : {M : Type 1} → statement M
+ishkrela-place-all-spec =
+    tie.close
+    (tie.spec
+    (λ c κs. search needs)
+    enum-told
+    (λ c. search needs)
+    (λ c κs. search needs)
+    (λ c. search needs)
+    (λ c. ?)
+    (λ c. search needs)
+    (λ c. ?))
