@@ -9,8 +9,9 @@
 //! devices tells which one stands there.
 
 use crate::answers::{
-    Axis, AxisList, Checked, Device, Dim, DimLists, Placed, Refusal, Sharding, Sizes, LEAST_BYTES,
-    MOST_AXES, MOST_BYTES, MOST_DEPTH, MOST_DEVICES, MOST_RANK, MOST_RUN, MOST_STEPS, MOST_WORDS,
+    Axis, AxisList, Checked, Device, Dim, DimLists, NotPlaced, Placed, Refusal, Sharding, Sizes,
+    LEAST_BYTES, MOST_AXES, MOST_BYTES, MOST_DEPTH, MOST_DEVICES, MOST_RANK, MOST_RUN, MOST_STEPS,
+    MOST_WORDS,
 };
 use crate::short::Short;
 use std::mem;
@@ -70,24 +71,41 @@ pub fn check_within(file: &[u8], limits: Limits) -> Result<Judged, Refusal> {
 /// Tells how a state is sharded, and where in the table a device's shard begins.
 pub fn place(file: &[u8], state: u16, device: Device) -> Result<Placed, Refusal> {
     let plan = Plan::judge(file)?;
-    let state = plan
-        .states
-        .get(usize::from(state))
-        .ok_or(Refusal::whole(34))?;
-    if device.index() >= plan.mesh.devices {
+    let state = plan.state(state)?;
+    if !plan.has(device) {
         return Err(Refusal::whole(32));
     }
-    let place = plan.order.place(device);
-    let lists = state.sharding.dims.iter();
-    let first = lists
-        .zip(&state.shard)
-        .map(|(list, &size)| plan.mesh.position(place, list) as u16 * size)
-        .collect();
     Ok(Placed {
         sharding: state.sharding,
         shard: state.shard,
-        first,
+        first: state.first(&plan.mesh, plan.order.place(device)),
     })
+}
+
+/// Writes where the shard of each device of a list begins, as many numbers for each as the rank.
+pub fn place_all(
+    file: &[u8],
+    state: u16,
+    devices: &[Device],
+    first: &mut [u16],
+) -> Result<(), NotPlaced> {
+    let plan = Plan::judge(file)?;
+    let state = plan.state(state)?;
+    let rank = state.shard.len();
+    if first.len() < devices.len() * rank {
+        return Err(Refusal::whole(33).into());
+    }
+    if let Some(place) = devices.iter().position(|&device| !plan.has(device)) {
+        return Err(NotPlaced {
+            refusal: Refusal::whole(32),
+            place: Some(place),
+        });
+    }
+    let places = plan.order.places(plan.mesh.devices);
+    for (entries, device) in first.chunks_exact_mut(rank).zip(devices) {
+        entries.copy_from_slice(&state.first(&plan.mesh, places[device.index()]));
+    }
+    Ok(())
 }
 
 /// Lists the devices of a mesh group by group.
@@ -202,6 +220,15 @@ impl Plan {
             states,
             most,
         })
+    }
+
+    fn state(&self, number: u16) -> Result<&State, Refusal> {
+        let state = self.states.get(usize::from(number));
+        state.ok_or(Refusal::whole(34))
+    }
+
+    fn has(&self, device: Device) -> bool {
+        device.index() < self.mesh.devices
     }
 
     fn last(&self) -> &State {
@@ -665,6 +692,15 @@ impl Order {
         listed.unwrap_or(device.index())
     }
 
+    /// The place of each device, by its number.
+    fn places(&self, devices: usize) -> Vec<usize> {
+        let mut places: Vec<usize> = (0..devices).collect();
+        for (place, device) in self.0.iter().enumerate() {
+            places[device.index()] = place;
+        }
+        places
+    }
+
     /// Puts shards that lie by device number where the places are.
     fn by_place(&self, words: usize, old: &[u32], new: &mut [u32]) {
         for (shard, device) in new.chunks_exact_mut(words).zip(&self.0) {
@@ -737,6 +773,14 @@ impl State {
     }
 
     /// The words of one shard.
+    /// Where in the table the shard of the device at a place begins.
+    fn first(&self, mesh: &Mesh, place: usize) -> Sizes {
+        let lists = self.sharding.dims.iter().zip(&self.shard);
+        lists
+            .map(|(list, &size)| mesh.position(place, list) as u16 * size)
+            .collect()
+    }
+
     fn words(&self) -> usize {
         self.shard.iter().map(|&size| usize::from(size)).product()
     }

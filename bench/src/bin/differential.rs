@@ -6,6 +6,8 @@
 #[cfg_attr(library, path = "differential/boundary.rs")]
 #[cfg_attr(not(library), path = "differential/no_boundary.rs")]
 mod boundary;
+#[path = "differential/lists.rs"]
+mod lists;
 #[path = "differential/records.rs"]
 mod records;
 
@@ -57,6 +59,7 @@ struct Tally {
     runs_of_repeats: usize,
     runs_of_most_steps: usize,
     placements: usize,
+    lists: lists::Tally,
     listings: usize,
     listings_by_order: usize,
     runs: usize,
@@ -88,6 +91,12 @@ impl Met {
         if let Err(refusal) = answer {
             *self.0.entry(refusal.number).or_default() += 1;
         }
+    }
+
+    /// Those of a call's numbers that were not met.
+    fn missing(&self, call: &str, numbers: &[u8]) -> Vec<String> {
+        let missing = numbers.iter().filter(|number| !self.0.contains_key(number));
+        missing.map(|number| format!("{call} {number}")).collect()
     }
 }
 
@@ -139,7 +148,7 @@ fn main() -> ExitCode {
     let mut tally = Tally::default();
     let outcome = compare(&mut Random::new(seed), files, runs, &mut tally);
     println!("seed {seed}\n{tally}");
-    let missing = tally.records.missing();
+    let missing = [tally.lists.missing(), tally.records.missing()].concat();
     match outcome {
         Ok(()) if files >= ENOUGH_FILES && library().is_some() && !missing.is_empty() => {
             println!("refusals that were not met: {}", missing.join(", "));
@@ -161,6 +170,7 @@ fn compare(random: &mut Random, files: u64, runs: u64, tally: &mut Tally) -> Out
         for _ in 0..files {
             let file = random_file(random, tally);
             compare_file(random, library, &file, tally)?;
+            lists::compare_place_all(random, library, &file, &mut tally.lists)?;
             compare_groups(random, library, tally)?;
             records::compare_read(random, library, &file, &mut tally.records)?;
             records::compare_write(random, library, &mut tally.records)?;
@@ -683,6 +693,7 @@ impl fmt::Display for Tally {
         }
         let met = self.refusals.0.len();
         writeln!(f, "{} placements", self.placements)?;
+        writeln!(f, "{}", self.lists)?;
         let by_order = self.listings_by_order;
         writeln!(
             f,
