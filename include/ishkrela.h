@@ -146,7 +146,7 @@
  *     28  all-to-all: source or target is no dimension, or they are equal
  *     30  work is shorter than the room       31  spare is shorter than the room
  *     32  no such device                      34  no such state
- *     33  the group output is shorter than the number of devices
+ *     33  an output is too short: for all groups, all first indexes, the order or the records of a file
  *     35  the buffer is shorter than the file
  *     40  the goal has an unreduced axis that is not the start's, or another replicated list
  *     41  repeat: the sharding after the block is not the one before it
@@ -158,7 +158,8 @@
  * MEMORY
  *
  * All memory is the caller's. It is used during the call only; nothing is allocated or kept. On a
- * refusal every other field of the answer is 0, and memory lent for writing is as it was.
+ * refusal every other field of the answer is 0 (but for the place beside 32), and memory lent for
+ * writing is as it was.
  * Compare two answers field by field, not as bytes: what lies between fields has no value.
  *
  * A pointer and the length after it, which counts elements and not bytes, are a slice: the pointer
@@ -233,6 +234,12 @@ typedef struct {
     ishkrela_sharding sharding;  /* how the table is spread */
 } ishkrela_placed;
 
+/* The answer of the placement of a list of devices. */
+typedef struct {
+    uint32_t refusal; /* 0, or the refusal */
+    size_t place;     /* beside 32 the place in the list, from 0, of the first device refused; else 0 */
+} ishkrela_placed_all;
+
 /* The answer of the write. */
 typedef struct {
     uint32_t refusal; /* 0, or the refusal; bytes is then 0 */
@@ -253,6 +260,15 @@ ishkrela_checked ishkrela_check(const uint8_t *file, size_t file_len);
  * begins in the table.
  * Refusals of the check; then 34, then 32. */
 ishkrela_placed ishkrela_place(const uint8_t *file, size_t file_len, uint16_t state, uint16_t device);
+
+/* Announces where the shard of each device of a list begins, in a state of a plan: writes the first
+ * indexes that the call above gives for each in turn, as many as the rank (the check has it). A device
+ * may be named again, and a list may be empty. Numbers after those that are written stay.
+ * Refusals of the check; then 34; then 33, where first is shorter than devices_len times the rank; then
+ * 32, with its place in the list. */
+ishkrela_placed_all ishkrela_place_all(const uint8_t *file, size_t file_len, uint16_t state,
+                                       const uint16_t *devices, size_t devices_len, uint16_t *first,
+                                       size_t first_len);
 
 /* Lists the devices of a mesh, group by group along a list of axes: groups in row-major order of
  * the other axes, devices by position. Writes D numbers; those after them stay.
