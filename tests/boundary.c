@@ -1,4 +1,4 @@
-/* What include/ishkrela.h says, tried from C: the layout of the answers and each field of them,
+/* What include/ishkrela.h says, tried from C: the layout of the structs and each field of them,
  * lists by their macros, fields beside a refusal, empty slices at null, and memory after a refusal.
  * Prints nothing. */
 #include <assert.h>
@@ -344,7 +344,10 @@ static void reads(void)
         {2, 1, 1, 1, 1},
         {5, 0, 0, 0, 0, 0, 1, 0, 0, 0, 0, 0, 4, 0, 0, 0, 0, 0, 2, 0, 0, 0, 0, 0, 3},
     };
-    const ishkrela_step steps[2] = {{.kind = ISHKRELA_ALL_GATHER, .counts = {1}}, {.kind = ISHKRELA_ALL_SLICE, .counts = {1}}};
+    const ishkrela_step steps[2] = {
+        {.kind = ISHKRELA_ALL_GATHER, .counts = {1}},
+        {.kind = ISHKRELA_ALL_SLICE, .counts = {1}},
+    };
     ishkrela_step left[2];
     ishkrela_opened opened = ishkrela_read(full, sizeof full, NULL, 0, (uint8_t *)left, sizeof left);
     assert(opened.refusal == 0 && opened.n == 6 && opened.rank == 4 && opened.order == 0 && opened.steps_bytes == 76);
@@ -363,7 +366,8 @@ static void reads(void)
 static void plans(void)
 {
     const uint16_t mesh[] = {2, 2, 2}, table[] = {8};
-    const ishkrela_sharding start = {{1, 0, 0, 0, 2}, {[0] = 2, [24] = 0, [25] = 1}}, goal = {{1, 0, 0, 0, 1}, {[24] = 1}};
+    const ishkrela_sharding start = {{1, 0, 0, 0, 2}, {[0] = 2, [24] = 0, [25] = 1}};
+    const ishkrela_sharding goal = {{1, 0, 0, 0, 1}, {[24] = 1}};
     const ishkrela_step steps[3] = {
         {.kind = ISHKRELA_ALL_REDUCE, .counts = {[ISHKRELA_ONE_LIST] = 1}},
         {.kind = ISHKRELA_ALL_GATHER, .counts = {1}, .axes = {2}},
@@ -394,7 +398,8 @@ static void empty(void)
     assert(ishkrela_groups(mesh, 1, NULL, 0, out, 2) == 0 && out[0] == 0 && out[1] == 1);
     assert(ishkrela_write(NULL, 0, NULL, 0, NULL, 0, both, NULL, 0, NULL, 0).refusal == 5);
     assert(ishkrela_write(two, 2, NULL, 0, four, 2, both, NULL, 0, NULL, 0).refusal == 35);
-    assert(ishkrela_read(NULL, 0, NULL, 0, NULL, 0).refusal == 1 && ishkrela_read(w1, sizeof w1, NULL, 0, NULL, 0).refusal == 33);
+    assert(ishkrela_read(NULL, 0, NULL, 0, NULL, 0).refusal == 1);
+    assert(ishkrela_read(w1, sizeof w1, NULL, 0, NULL, 0).refusal == 33);
     assert(ishkrela_plan(NULL, 0, NULL, 0, NULL, 0, both, both).refusal == 5);
 }
 

@@ -24,7 +24,7 @@ static uint32_t refused;
 static const ishkrela_sharding start = {{2, 1, 1, 1, 1}, {[0] = 5, [6] = 1, [12] = 4, [18] = 2, [24] = 3}};
 static const ishkrela_sharding goal = {{1, 1, 1, 1}, {[0] = 0, [6] = 1, [12] = 4, [18] = 5}};
 static const ishkrela_step nested[] = {
-    {ISHKRELA_REPEAT, 1, 1, {0}, {0}}, {ISHKRELA_REPEAT, 1, 1, {0}, {0}},    {ISHKRELA_REPEAT, 1, 1, {0}, {0}},
+    {ISHKRELA_REPEAT, 1, 1, {0}, {0}}, {ISHKRELA_REPEAT, 1, 1, {0}, {0}},     {ISHKRELA_REPEAT, 1, 1, {0}, {0}},
     {ISHKRELA_REPEAT, 2, 2, {0}, {0}}, {ISHKRELA_ALL_GATHER, 0, 0, {1}, {0}}, {ISHKRELA_ALL_SLICE, 0, 0, {1}, {0}},
 };
 
@@ -60,7 +60,8 @@ static void run(void)
 
 static void write_nested(void)
 {
-    refused |= ishkrela_write(mesh, 6, order, 144, table, 4, start, (const uint8_t *)nested, sizeof nested, written, 8192).refusal;
+    const uint8_t *steps = (const uint8_t *)nested;
+    refused |= ishkrela_write(mesh, 6, order, 144, table, 4, start, steps, sizeof nested, written, 8192).refusal;
 }
 
 static void read_back(void)
@@ -74,7 +75,9 @@ static void plan_goal(void)
 }
 
 static const char *const names[CALLS] = {"check", "place", "groups", "groups_ordered", "run", "write", "read", "plan"};
-static void (*volatile const calls[CALLS])(void) = {check, place, groups, groups_ordered, run, write_nested, read_back, plan_goal};
+static void (*volatile const calls[CALLS])(void) = {
+    check, place, groups, groups_ordered, run, write_nested, read_back, plan_goal,
+};
 
 static void *calling(void *which)
 {
