@@ -8,7 +8,7 @@
  * start, state k is after the k-th of these steps, where a repeat with all that is in it is one.
  *
  * These calls judge a plan, say where its shards lie, run it, and list device groups; they write the
- * file of a plan, and make the plan from one sharding to another. Their code is
+ * file of a plan and read it back, and make the plan from one sharding to another. Their code is
  * proved to answer what the rules define on every input: any bytes may be handed over, nothing
  * asks for a valid plan, and no call stops the program. Build (for x86-64 Linux) and link:
  *
@@ -169,9 +169,9 @@
  * is 0, so it may be null. The calls keep no state of their own: threads may call at once where none
  * lends memory for writing that another uses.
  *
- * A call takes less than 24 KiB of stack: on the cases of tests/ at most 23,320 bytes for a run, 9,648
- * for a placement, 7,808 for a check, 1,232 for a group listing by an order and 144 for one without;
- * 4,880 for a write and 5,432 for a plan (tests/stack.c, which tools/try_c runs).
+ * A call takes less than 24 KiB of stack: on the cases of tests/ at most 23,448 bytes for a run, 9,568
+ * for a placement, 7,808 for a read, 7,728 for a check, 1,232 for a group listing by an order and 144
+ * for one without; 5,432 for making a plan and 4,880 for a write (tests/stack.c, which tools/try_c runs).
  */
 #ifndef ISHKRELA_H
 #define ISHKRELA_H
@@ -246,6 +246,18 @@ typedef struct {
     size_t bytes;     /* how many bytes the file has */
 } ishkrela_written;
 
+/* The answer of the reading call. */
+typedef struct {
+    uint32_t refusal;        /* 0, or the refusal; every other field is then 0 */
+    uint16_t n;              /* the number of axes */
+    uint16_t rank;           /* the number of dimensions */
+    uint16_t mesh[6];        /* the sizes of the mesh; 0 past its axes */
+    uint16_t table[4];       /* the sizes of the table; 0 past the rank */
+    ishkrela_sharding start; /* the starting sharding */
+    size_t order;            /* how many device numbers were written; 0 where the order is plain */
+    size_t steps_bytes;      /* how many bytes of step records were written, 38 for each */
+} ishkrela_opened;
+
 /* The answer of the planner. */
 typedef struct {
     uint32_t refusal;       /* 0, or the refusal; every other field is then 0 */
@@ -292,10 +304,18 @@ uint32_t ishkrela_run(const uint8_t *file, size_t file_len, uint32_t *work, size
  * sharding and its step records; and by the order of its devices, where it has one: an order of no
  * numbers is none. The file is the one that the check reads as these records, and bytes after it stay;
  * 8,192 bytes are enough for every plan. Refusals 5, 10, 11, 19, 12, 13, 8, 14 to 17; then those of the
- * records in turn, 20 to 28, 41 to 44, 8 and 7 among them; then 2, then 35. */
+ * records in turn, 20 to 28 and 41 to 44, 8 and 7 among them; then 2, then 35. More than 65,535 records
+ * are 2 before they are judged. */
 ishkrela_written ishkrela_write(const uint16_t *mesh, size_t mesh_len, const uint16_t *order, size_t order_len,
                                 const uint16_t *table, size_t table_len, ishkrela_sharding start,
                                 const uint8_t *steps, size_t steps_bytes, uint8_t *file, size_t file_len);
+
+/* Reads a plan file back: what it answers and writes are the arguments with which the write makes the
+ * same file. Device numbers and step records after those that it writes stay; 1,024 numbers and 38
+ * bytes for every three bytes of the file are enough. Refusals of the check; then 33, where the order's
+ * output is too short or that of the records. */
+ishkrela_opened ishkrela_read(const uint8_t *file, size_t file_len, uint16_t *order, size_t order_len,
+                              uint8_t *steps, size_t steps_bytes);
 
 /* Makes the plan from one sharding of a table to another, as step records for the write. Refusals 5,
  * 10, 11, 19, 12, 13; then 8, 14 to 17 of the start, then of the goal; then 40. */

@@ -1,4 +1,4 @@
-/* What include/ishkrela.h says, tried from C: the layout of the answers and each field of them,
+/* What include/ishkrela.h says, tried from C: the layout of the structs and each field of them,
  * lists by their macros, fields beside a refusal, empty slices at null, and memory after a refusal.
  * Prints nothing. */
 #include <assert.h>
@@ -42,6 +42,16 @@ _Static_assert(sizeof(ishkrela_step) == 38, "ishkrela_step");
 FIELD(ishkrela_written, refusal, 0, 4);
 FIELD(ishkrela_written, bytes, 8, 8);
 _Static_assert(sizeof(ishkrela_written) == 16, "ishkrela_written");
+
+FIELD(ishkrela_opened, refusal, 0, 4);
+FIELD(ishkrela_opened, n, 4, 2);
+FIELD(ishkrela_opened, rank, 6, 2);
+FIELD(ishkrela_opened, mesh, 8, 12);
+FIELD(ishkrela_opened, table, 20, 8);
+FIELD(ishkrela_opened, start, 28, 42);
+FIELD(ishkrela_opened, order, 72, 8);
+FIELD(ishkrela_opened, steps_bytes, 80, 8);
+_Static_assert(sizeof(ishkrela_opened) == 88, "ishkrela_opened");
 
 FIELD(ishkrela_planned, refusal, 0, 4);
 FIELD(ishkrela_planned, count, 4, 4);
@@ -335,11 +345,68 @@ static void writes_blocks(void)
     assert(ishkrela_check(file, 38).steps == 1);
 }
 
+/* Whether every field beside the refusal is 0. */
+static int unread(ishkrela_opened opened)
+{
+    const ishkrela_opened none = {0};
+    return opened.n == 0 && opened.rank == 0 && memcmp(opened.mesh, none.mesh, sizeof none.mesh) == 0 &&
+           memcmp(opened.table, none.table, sizeof none.table) == 0 &&
+           memcmp(&opened.start, &none.start, sizeof none.start) == 0 && opened.order == 0 && opened.steps_bytes == 0;
+}
+
+/* A file with so many device numbers and records, read and written again, comes out byte for byte; an output
+ * that is too short by one is refused, and what stands behind the last stays. */
+static void again(const uint8_t *file, size_t len, size_t numbers, size_t records)
+{
+    uint16_t order[8];
+    uint8_t steps[38 * 4], written[64];
+    memset(order, 0x55, sizeof order);
+    memset(steps, 0x55, sizeof steps);
+    ishkrela_opened opened = ishkrela_read(file, len, order, 8, steps, 38 * records - 1);
+    assert(opened.refusal == 33 && unread(opened) && order[0] == 0x5555 && steps[0] == 0x55);
+    if (numbers != 0) {
+        opened = ishkrela_read(file, len, order, numbers - 1, steps, sizeof steps);
+        assert(opened.refusal == 33 && unread(opened) && order[0] == 0x5555 && steps[0] == 0x55);
+    }
+    opened = ishkrela_read(file, len, order, 8, steps, sizeof steps);
+    assert(opened.refusal == 0 && opened.order == numbers && opened.steps_bytes == 38 * records);
+    assert(order[numbers] == 0x5555 && steps[38 * records] == 0x55);
+    ishkrela_written answer = ishkrela_write(opened.mesh, opened.n, order, opened.order, opened.table, opened.rank,
+                                             opened.start, steps, opened.steps_bytes, written, sizeof written);
+    assert(answer.refusal == 0 && answer.bytes == len && memcmp(written, file, len) == 0);
+}
+
+static void reads(void)
+{
+    const uint16_t sizes[6] = {2, 3, 2, 2, 3, 2}, table[4] = {12, 6, 15, 2};
+    const ishkrela_sharding lists = {
+        {2, 1, 1, 1, 1},
+        {5, 0, 0, 0, 0, 0, 1, 0, 0, 0, 0, 0, 4, 0, 0, 0, 0, 0, 2, 0, 0, 0, 0, 0, 3},
+    };
+    const ishkrela_step steps[2] = {
+        {.kind = ISHKRELA_ALL_GATHER, .counts = {1}},
+        {.kind = ISHKRELA_ALL_SLICE, .counts = {1}},
+    };
+    ishkrela_step left[2];
+    ishkrela_opened opened = ishkrela_read(full, sizeof full, NULL, 0, (uint8_t *)left, sizeof left);
+    assert(opened.refusal == 0 && opened.n == 6 && opened.rank == 4 && opened.order == 0 && opened.steps_bytes == 76);
+    assert(memcmp(opened.mesh, sizes, sizeof sizes) == 0 && memcmp(opened.table, table, sizeof table) == 0);
+    assert(memcmp(&opened.start, &lists, sizeof lists) == 0 && memcmp(left, steps, sizeof steps) == 0);
+    again(w1, sizeof w1, 0, 1);
+    again(tail, sizeof tail, 0, 1);
+    again(kept, sizeof kept, 0, 1);
+    again(cabled, sizeof cabled, 6, 1);
+    again(full, sizeof full, 0, 2);
+    again(block, sizeof block, 0, 3);
+    assert(ishkrela_read(front, sizeof front, NULL, 0, NULL, 0).refusal == 24 + 256);
+}
+
 /* Mesh 2x2x2, table of 8: from [[2]] with unreduced [0, 1] to [[0]] with unreduced [1], in three steps. */
 static void plans(void)
 {
     const uint16_t mesh[] = {2, 2, 2}, table[] = {8};
-    const ishkrela_sharding start = {{1, 0, 0, 0, 2}, {[0] = 2, [24] = 0, [25] = 1}}, goal = {{1, 0, 0, 0, 1}, {[24] = 1}};
+    const ishkrela_sharding start = {{1, 0, 0, 0, 2}, {[0] = 2, [24] = 0, [25] = 1}};
+    const ishkrela_sharding goal = {{1, 0, 0, 0, 1}, {[24] = 1}};
     const ishkrela_step steps[3] = {
         {.kind = ISHKRELA_ALL_REDUCE, .counts = {[ISHKRELA_ONE_LIST] = 1}},
         {.kind = ISHKRELA_ALL_GATHER, .counts = {1}, .axes = {2}},
@@ -373,6 +440,8 @@ static void empty(void)
     assert(ishkrela_groups(mesh, 1, NULL, 0, out, 2) == 0 && out[0] == 0 && out[1] == 1);
     assert(ishkrela_write(NULL, 0, NULL, 0, NULL, 0, both, NULL, 0, NULL, 0).refusal == 5);
     assert(ishkrela_write(two, 2, NULL, 0, four, 2, both, NULL, 0, NULL, 0).refusal == 35);
+    assert(ishkrela_read(NULL, 0, NULL, 0, NULL, 0).refusal == 1);
+    assert(ishkrela_read(w1, sizeof w1, NULL, 0, NULL, 0).refusal == 33);
     assert(ishkrela_plan(NULL, 0, NULL, 0, NULL, 0, both, both).refusal == 5);
 }
 
@@ -390,6 +459,7 @@ int main(void)
     runs();
     writes();
     writes_blocks();
+    reads();
     plans();
     empty();
     return 0;

@@ -10,7 +10,7 @@
 #include <string.h>
 #include "ishkrela.h"
 
-enum { CALLS = 8, PAINT = 0xa5, STACK = 1 << 18, ROOM = 67108864, SAID = 24576 };
+enum { CALLS = 9, PAINT = 0xa5, STACK = 1 << 18, ROOM = 67108864, SAID = 24576 };
 
 static _Alignas(64) unsigned char stack[STACK];
 static uint32_t work[ROOM], spare[ROOM];
@@ -24,14 +24,14 @@ static uint32_t refused;
 static const ishkrela_sharding start = {{2, 1, 1, 1, 1}, {[0] = 5, [6] = 1, [12] = 4, [18] = 2, [24] = 3}};
 static const ishkrela_sharding goal = {{1, 1, 1, 1}, {[0] = 0, [6] = 1, [12] = 4, [18] = 5}};
 static const ishkrela_step nested[] = {
-    {ISHKRELA_REPEAT, 1, 1, {0}, {0}}, {ISHKRELA_REPEAT, 1, 1, {0}, {0}},    {ISHKRELA_REPEAT, 1, 1, {0}, {0}},
+    {ISHKRELA_REPEAT, 1, 1, {0}, {0}}, {ISHKRELA_REPEAT, 1, 1, {0}, {0}},     {ISHKRELA_REPEAT, 1, 1, {0}, {0}},
     {ISHKRELA_REPEAT, 2, 2, {0}, {0}}, {ISHKRELA_ALL_GATHER, 0, 0, {1}, {0}}, {ISHKRELA_ALL_SLICE, 0, 0, {1}, {0}},
 };
 
 static const uint16_t mesh[] = {2, 3, 2, 2, 3, 2}, table[] = {12, 6, 15, 2};
 static const uint8_t axes[] = {5, 1, 3, 0, 4, 2};
 static uint16_t order[144], out[1024], every[1024], first[4 * 1024];
-static uint8_t written[8192];
+static uint8_t written[8192], records[38 * 8192 / 3];
 
 static void check(void)
 {
@@ -65,7 +65,13 @@ static void run(void)
 
 static void write_nested(void)
 {
-    refused |= ishkrela_write(mesh, 6, order, 144, table, 4, start, (const uint8_t *)nested, sizeof nested, written, 8192).refusal;
+    const uint8_t *steps = (const uint8_t *)nested;
+    refused |= ishkrela_write(mesh, 6, order, 144, table, 4, start, steps, sizeof nested, written, 8192).refusal;
+}
+
+static void read_back(void)
+{
+    ishkrela_read(file, len, out, 1024, records, sizeof records);
 }
 
 static void plan_goal(void)
@@ -74,10 +80,10 @@ static void plan_goal(void)
 }
 
 static const char *const names[CALLS] = {
-    "check", "place", "place_all", "groups", "groups_ordered", "run", "write", "plan",
+    "check", "place", "place_all", "groups", "groups_ordered", "run", "write", "read", "plan",
 };
 static void (*volatile const calls[CALLS])(void) = {
-    check, place, place_all, groups, groups_ordered, run, write_nested, plan_goal,
+    check, place, place_all, groups, groups_ordered, run, write_nested, read_back, plan_goal,
 };
 
 static void *calling(void *which)

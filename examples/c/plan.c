@@ -8,7 +8,10 @@
 #include "ishkrela.h"
 
 static const uint16_t mesh[] = {2, 2}, table[] = {4, 4};
-static const ishkrela_sharding start = {.counts = {[0] = 1, [ISHKRELA_UNREDUCED] = 1}, .axes = {[0] = 0, [6 * ISHKRELA_UNREDUCED] = 1}};
+static const ishkrela_sharding start = {
+    .counts = {[0] = 1, [ISHKRELA_UNREDUCED] = 1},
+    .axes = {[0] = 0, [6 * ISHKRELA_UNREDUCED] = 1},
+};
 static const ishkrela_sharding goal = {.counts = {[1] = 1}, .axes = {[6] = 0}};
 
 /* Ends the program where a call refuses. */

@@ -1,13 +1,16 @@
--- Laws of the boundary: the library's answers in numbers (`check-told`, `place-told`, `plan-told`). Assumes nothing.
-use Prim.Native.Nat.{ℕ, _≤_}
+-- Laws of the boundary: the library's answers in numbers (`check-told`, `place-told`, `read-told`, `plan-told`). Assumes nothing.
+use Prim.Native.Nat.{ℕ, _+_, _*_, _≤_}
 use mathlib.Core.Path.{_≡_, refl, sym, ap, subst, _∙_}
 use mathlib.Core.List.{List, [], _∷_, map}
+use mathlib.Core.Bool.{Bool, true, false}
 use native.Mathlib.Omega.{arith}
+use lib.Dec.{leb}
 use lib.ListN.{length, getD}
-use Rattle.rules.specs.Limits.{mostDims}
+use Rattle.rules.specs.Limits.{mostAxes, mostDims}
 use Rattle.rules.specs.Sharding.{Sharding}
 use Rattle.rules.specs.Collectives.{Step}
-use Rattle.rules.specs.Refusals.{Judged, accept, refuse, refusedAs, _>>_}
+use Rattle.rules.specs.Refusals.{Judged, accept, refuse, _>>=_, _>>_, need, refusedAs, numberOf, reasonOf}
+use Rattle.rules.specs.PlanFile.{Plan, judge}
 use Rattle.rules.specs.Types.{fourPlaces}
 use Rattle.rules.specs.Calls.{CheckAnswer, checkOf, checkedOf, PlaceAnswer, placeOf, placedOf}
 use Rattle.rules.specs.Promises.{CheckPromise, PlacePromise}
@@ -20,17 +23,24 @@ use Rattle.rules.specs.declared.PlaceOutcome.the-variants as place
 use Rattle.rules.specs.declared.Refusal.{Refusal}
 use Rattle.rules.specs.declared.Sharding as code
 use Rattle.rules.specs.declared.Step as declared
-use Rattle.rules.proofs.Judging.{accept-inj, then-inv}
+use Rattle.rules.proofs.Judging.{never, accept-inj, then-inv}
+use Rattle.rules.proofs.Accepted.{AcceptedPlan, accepted}
 use Rattle.rules.proofs.Answers.{InPlaces, check-in-places, check-listed, place-in-places, place-listed}
-use Rattle.records.specs.Forms.{shardingGiven}
+use Rattle.records.specs.Forms.{shardingGiven, recordBytes, sixPlaces}
 use Rattle.records.specs.RoundTrip.{ShortSharding}
 use Rattle.records.specs.Planning.{planSteps, planOf}
 use Rattle.records.specs.PlanAnswer.{stepsFrom, stepsPlanned, plannedOf}
-use Rattle.records.specs.Promises.{PlanPromise}
+use Rattle.records.specs.Reading.{ReadAnswer, orderRead, readAnswer, readOf, openedOf}
+use Rattle.records.specs.Promises.{ReadPromise, PlanPromise}
+use Rattle.records.specs.declared.Opened.{Opened}
+use Rattle.records.specs.declared.ReadOutcome.{ReadOutcome}
+use Rattle.records.specs.declared.ReadOutcome.the-variants as read
 use Rattle.records.specs.declared.Steps.{Steps}
 use Rattle.records.specs.declared.Planned.{Planned}
 use Rattle.records.specs.declared.PlanOutcome.{PlanOutcome}
 use Rattle.records.specs.declared.PlanOutcome.the-variants as plan
+use Rattle.records.proofs.Reread.{sharding-short}
+use Rattle.records.proofs.Reading.{read-inv}
 use Rattle.records.proofs.Accepting.{plan-few}
 use Rattle.records.proofs.Arrives.{plan-short}
 use Rattle.placements.specs.PlaceAll.{placeAllOf, placedBefore, placeBeside, placedAllWith, PlaceAllPromise}
@@ -40,7 +50,7 @@ use Rattle.placements.proofs.Promises.{all-listed}
 use Rattle.marshal.specs.Structs.{stepNumbers}
 use Rattle.marshal.specs.declared.StepReply.{StepReply}
 use Rattle.marshal.proofs.Structs.{sharding-of, step-at}
-use Rattle.capi.specs.Boundary.{checkReply, placeReply, checkedReply, placedReply, plannedReply, madeReply, placedAllReply, allReply}
+use Rattle.capi.specs.Boundary.{checkReply, placeReply, checkedReply, placedReply, openedReply, plannedReply, readReply, madeReply, placedAllReply, allReply}
 
 -- each list of an answer has a place for its axes
 in-places : {rank : ℕ} (s : Sharding) → InPlaces rank s → ShortSharding s
@@ -118,6 +128,69 @@ module _ (file : List ℕ) (state : ℕ) (devices out : List ℕ) where
   place-all-told {r} p e =
       ap (λ (x : PlaceAllOutcome). allReply x r) (sym e) ∙ ap (λ (c : PlacedAll). allReply (c .outcome) c) (p .answers)
       ∙ all-placed (placeAllOf file state devices out) refl (placedBefore file state devices)
+
+-- ---- the reading call
+
+-- the numbers of axes and dimensions beside an answer
+abbrev pub Counted : ReadOutcome → Type 0
+Counted (read.Opened c) = (c .n ≤ mostAxes) × (c .rank ≤ mostDims)
+Counted (read.Refused x) = Unit {0}
+
+module _ (file order steps : List ℕ) where
+  abbrev opens : Judged ReadAnswer
+  opens = readOf file order steps
+
+  -- each number is a reason's: the check's, or 33
+  read-listed : (n k : ℕ) → opens ≡ refuse n k → numberOf (reasonOf n) ≡ n
+  unfolding readOf checkOf reasonOf
+  read-listed n k e = go (judge file) refl e
+    where
+      after : Plan → Judged ReadAnswer
+      after p =
+          _>>_ (need (leb (length (orderRead p)) (length order)) 33)
+          (_>>_ (need (leb (recordBytes * length (p .records)) (length steps)) 33) (accept (readAnswer p)))
+
+      first : {A : Type 0} {a b c d : ℕ} → _≡_ {A = Judged A} (refuse a b) (refuse c d) → a ≡ c
+      first q = cc
+
+      short : (b c : Bool) (a : ReadAnswer) → _>>_ (need b 33) (_>>_ (need c 33) (accept a)) ≡ refuse n k → 33 ≡ n
+      short true true a q = absurd (never (sym q))
+      short true false a q = first q
+      short false c a q = first q
+
+      go : (j : Judged Plan) → judge file ≡ j → _>>=_ j after ≡ refuse n k → numberOf (reasonOf n) ≡ n
+      go (accept p) q r =
+          subst (λ (x : ℕ). numberOf (reasonOf x) ≡ x)
+          (short (leb (length (orderRead p)) (length order)) (leb (recordBytes * length (p .records)) (length steps)) (readAnswer p) r) refl
+      go (refuse a b) q r = subst (λ (x : ℕ). numberOf (reasonOf x) ≡ x) (first r) (check-listed file a b (rw q refl))
+
+  -- an answer is within the places
+  opened : (j : Judged ReadAnswer) → opens ≡ j → (readReply (openedOf j .outcome) (openedOf j) ≡ openedReply j) × Counted (openedOf j .outcome)
+  opened (accept a) e =
+      let p = read-inv file order steps a e in
+      let w : AcceptedPlan (p .0) = accepted file (p .0) (p .1) in
+      subst (λ (x : ReadAnswer). (readReply (openedOf (accept x) .outcome) (openedOf (accept x)) ≡ openedReply (accept x)) × Counted (openedOf (accept x) .outcome)) (p .2) (
+        (let s = sharding-of (p .0 .start) (sharding-short (p .0 .mesh) (p .0 .sizes) (p .0 .start) (w .within .axes-few) (w .start-is)) in
+            (λ i. record {
+              refusal = 0;
+              n = length (p .0 .mesh);
+              rank = length (p .0 .sizes);
+              mesh = sixPlaces (p .0 .mesh);
+              table = fourPlaces 0 (p .0 .sizes);
+              start = s i;
+              order = length (orderRead (p .0));
+              «steps_bytes» = recordBytes * length (p .0 .records);
+            })),
+        (w .within .axes-few, w .within .rank-few),
+      )
+  opened (refuse n k) e = (ap (λ (m : ℕ). openedReply (refuse m k)) (read-listed n k e), tt)
+
+  module _ {r : Opened} {order′ steps′ : List ℕ} (p : ReadPromise file order steps r order′ steps′) {o : ReadOutcome} (e : r .outcome ≡ o) where
+    pub read-told : readReply o r ≡ openedReply opens
+    read-told = ap (λ (x : ReadOutcome). readReply x r) (sym e) ∙ ap (λ (c : Opened). readReply (c .outcome) c) (p .answers) ∙ opened opens refl .0
+
+    pub read-counts : Counted o
+    read-counts = subst Counted (ap (λ (c : Opened). c .outcome) (sym (p .answers)) ∙ e) (opened opens refl .1)
 
 -- ---- the planner
 

@@ -4,7 +4,7 @@ use Prim.Native.Nat.{ℕ, _+_, _*_}
 use mathlib.Core.List.{List, map}
 use lib.ListN.{length, getD, replicate}
 use Rattle.rules.specs.Lists.{tab}
-use Rattle.rules.specs.Limits.{mostDims}
+use Rattle.rules.specs.Limits.{mostAxes, mostDims}
 use Rattle.rules.specs.Collectives.{Step}
 use Rattle.rules.specs.PlanFile.{plain}
 use Rattle.rules.specs.Refusals.{Judged, accept, refuse, refusedAs}
@@ -16,6 +16,11 @@ use Rattle.rules.specs.declared.CheckOutcome.the-variants as check
 use Rattle.rules.specs.declared.Placed.{Placed}
 use Rattle.rules.specs.declared.PlaceOutcome.{PlaceOutcome}
 use Rattle.rules.specs.declared.PlaceOutcome.the-variants as place
+use Rattle.records.specs.Forms.{sixPlaces}
+use Rattle.records.specs.Reading.{ReadAnswer}
+use Rattle.records.specs.declared.Opened.{Opened}
+use Rattle.records.specs.declared.ReadOutcome.{ReadOutcome}
+use Rattle.records.specs.declared.ReadOutcome.the-variants as read
 use Rattle.records.specs.declared.Steps.{Steps}
 use Rattle.records.specs.declared.PlanOutcome.{PlanOutcome}
 use Rattle.records.specs.declared.PlanOutcome.the-variants as plan
@@ -28,6 +33,7 @@ use Rattle.capi.specs.declared.CheckReply.{CheckReply}
 use Rattle.capi.specs.declared.PlaceReply.{PlaceReply}
 use Rattle.capi.specs.declared.PlaceAllReply.{PlaceAllReply}
 use Rattle.capi.specs.declared.WriteReply.{WriteReply}
+use Rattle.capi.specs.declared.ReadReply.{ReadReply}
 use Rattle.capi.specs.declared.PlanReply.{PlanReply}
 
 -- the refusal as one number: 0 for none, else the refusal number and 256 times the step
@@ -82,6 +88,29 @@ abbrev pub writtenReply : Judged ℕ → WriteReply
 writtenReply (accept n) = record { refusal = 0; bytes = n }
 writtenReply (refuse n k) = record { refusal = n + 256 * k; bytes = 0 }
 
+-- the reading call's; mesh and table sizes past the last are 0
+abbrev pub openedReply : Judged ReadAnswer → ReadReply
+openedReply (accept a) = record {
+  refusal = 0;
+  n = length (a .mesh);
+  rank = length (a .sizes);
+  mesh = sixPlaces (a .mesh);
+  table = fourPlaces 0 (a .sizes);
+  start = shardingReply (a .start);
+  order = a .order;
+  «steps_bytes» = a .steps;
+}
+openedReply (refuse n k) = record {
+  refusal = n + 256 * k;
+  n = 0;
+  rank = 0;
+  mesh = replicate mostAxes 0;
+  table = replicate mostDims 0;
+  start = noSharding;
+  order = 0;
+  «steps_bytes» = 0;
+}
+
 -- the planner's: at most three steps as records, no step in the places past the last
 abbrev pub plannedReply : Judged (List Step) → PlanReply
 plannedReply (accept ts) = record { refusal = 0; count = length ts; steps = tab 3 (λ i. getD (map (λ (t : Step). stepReply (plain t)) ts) i noStep) }
@@ -118,3 +147,16 @@ madeReply (plan.Refused r) p = plannedReply (refusedAs r)
 abbrev pub allReply : PlaceAllOutcome → PlacedAll → PlaceAllReply
 allReply all.Placed r = record { refusal = 0; place = r .place }
 allReply (all.Refused x) r = record { refusal = refusalCode {A = List ℕ} (refusedAs x); place = r .place }
+
+abbrev pub readReply : ReadOutcome → Opened → ReadReply
+readReply (read.Opened c) r = record {
+  refusal = 0;
+  n = c .n;
+  rank = c .rank;
+  mesh = r .mesh;
+  table = r .table;
+  start = shardingReply (shardingOf mostDims (r .start));
+  order = c .order;
+  «steps_bytes» = c .steps;
+}
+readReply (read.Refused x) r = openedReply (refusedAs x)

@@ -2,24 +2,29 @@
 // What they answer is defined in specs/Boundary.antt, from the definitions of the library's calls (rules/specs/Calls.antt, records/specs).
 ghost use mathlib.Core.Path.{_≡_};
 ghost use Prim.Native.Nat.{_≤_, _+_, _*_};
-ghost use Rattle.rules.specs.Limits.{mostDims};
+ghost use Rattle.rules.specs.Limits.{mostAxes, mostDims};
 ghost use Rattle.rules.specs.Refusals.{numberOf, refusedAs};
 ghost use Rattle.rules.specs.Calls.{checkOf, placeOf, groupsOf, groupsLeave, groupsOrderedOf, groupsOrderedLeave, runOf};
 ghost use Rattle.records.specs.Writing.{writeOf, writeLeaves};
 ghost use Rattle.records.specs.Forms.{recordsGiven};
+ghost use Rattle.records.specs.Reading.{readOf, readLeavesOrder, readLeavesSteps};
 ghost use Rattle.records.specs.PlanAnswer.{stepsPlanned};
 ghost use Rattle.placements.specs.PlaceAll.{placeAllOf, placedBefore, placeAllLeaves};
 ghost use Rattle.marshal.specs.Structs.{shardingIn};
-ghost use Rattle.capi.specs.Boundary.{refusalCode, checkReply, placeReply, checkedReply, placedReply, placedAllReply, writtenReply, plannedReply, madeReply};
+ghost use Rattle.capi.specs.Boundary.{refusalCode, checkReply, placeReply, checkedReply, placedReply, writtenReply, openedReply, plannedReply, readReply, madeReply, placedAllReply};
+use ishkrela::Axis;
 use ishkrela::CheckOutcome;
 use ishkrela::Checked;
 use ishkrela::Device;
 use ishkrela::Dim;
 use ishkrela::GroupsOutcome;
+use ishkrela::Opened;
 use ishkrela::PlaceAllOutcome;
 use ishkrela::PlaceOutcome;
 use ishkrela::Placed;
 use ishkrela::PlanOutcome;
+use ishkrela::ReadCounts;
+use ishkrela::ReadOutcome;
 use ishkrela::Refusal;
 use ishkrela::RunOutcome;
 use ishkrela::Steps;
@@ -68,6 +73,19 @@ pub struct PlaceAllReply {
 pub struct WriteReply {
     pub refusal: u32,
     pub bytes: usize,
+}
+
+// C's ishkrela_opened: the numbers that stand for the reading call's answer.
+#[repr(C)]
+pub struct ReadReply {
+    pub refusal: u32,
+    pub n: u16,
+    pub rank: u16,
+    pub mesh: [u16; Axis::MOST],
+    pub table: [u16; Dim::MOST],
+    pub start: ShardingReply,
+    pub order: usize,
+    pub steps_bytes: usize,
 }
 
 // C's ishkrela_planned: the numbers that stand for the planner's answer.
@@ -263,6 +281,56 @@ pub extern "C" fn ishkrela_write<'a>(
             refusal: code_of(refusal),
             bytes: 0,
         },
+    }
+}
+
+fn read_refused(refusal: Refusal) -> ReadReply
+    ensures { λ r. ⌜ r ≡ openedReply (refusedAs refusal) ⌝ }
+{
+    let start = no_sharding();
+    ReadReply {
+        refusal: code_of(refusal),
+        n: 0,
+        rank: 0,
+        mesh: [0; Axis::MOST],
+        table: [0; Dim::MOST],
+        start,
+        order: 0,
+        steps_bytes: 0,
+    }
+}
+
+fn read_opened(counts: ReadCounts, opened: Opened) -> ReadReply
+    requires { ⌜ (counts .n ≤ mostAxes) × (counts .rank ≤ mostDims) ⌝ }
+    ensures { λ r. ⌜ r ≡ readReply (ReadOutcome.Opened counts) opened ⌝ }
+{
+    let start = sharding_reply(opened.start);
+    let mesh = opened.mesh;
+    let table = opened.table;
+    ReadReply {
+        refusal: 0,
+        n: counts.n as u16,
+        rank: counts.rank as u16,
+        mesh,
+        table,
+        start,
+        order: counts.order,
+        steps_bytes: counts.steps,
+    }
+}
+
+// The records of an accepted file.
+#[no_mangle]
+pub extern "C" fn ishkrela_read(file: &[u8], order: &mut [u16], steps: &mut [u8]) -> ReadReply
+    ensures answers { λ r. ⌜ r ≡ openedReply (readOf (now (file .entry)) (now (order .entry)) (now (steps .entry))) ⌝ }
+    ensures leaves_order { λ r. ⌜ now (order .exit) ≡ readLeavesOrder (now (file .entry)) (now (order .entry)) (now (steps .entry)) ⌝ }
+    ensures leaves_steps { λ r. ⌜ now (steps .exit) ≡ readLeavesSteps (now (file .entry)) (now (order .entry)) (now (steps .entry)) ⌝ }
+{
+    let opened = ishkrela::read(file, order, steps);
+    let outcome = opened.outcome;
+    match outcome {
+        ReadOutcome::Opened(counts) => read_opened(counts, opened),
+        ReadOutcome::Refused(refusal) => read_refused(refusal),
     }
 }
 

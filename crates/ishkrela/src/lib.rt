@@ -2,11 +2,14 @@
 // No call asks anything of its input; what each promises is in rules/specs/Promises.antt, and of the calls on records in records/specs/Promises.antt.
 ghost use Rattle.rules.specs.Promises.{CheckPromise, PlacePromise, GroupsPromise, GroupsOrderedPromise, RunPromise};
 ghost use Rattle.placements.specs.PlaceAll.{PlaceAllPromise};
-ghost use Rattle.records.specs.Promises.{WritePromise, PlanPromise};
+ghost use Rattle.records.specs.Promises.{WritePromise, ReadPromise, PlanPromise};
 pub use placements::PlaceAllOutcome;
 pub use placements::PlacedAll;
+pub use records::Opened;
 pub use records::PlanOutcome;
 pub use records::Planned;
+pub use records::ReadCounts;
+pub use records::ReadOutcome;
 pub use records::Steps;
 pub use records::WriteOutcome;
 pub use rules::Axis;
@@ -83,6 +86,14 @@ pub fn write<'a>(
     ensures { λ r. ⌜ WritePromise (now (mesh .entry)) (now (order .entry)) (now (table .entry)) start (now (steps .entry)) (now (file .entry)) r (now (file .exit)) ⌝ }
 {
     writer::write(mesh, order, table, start, steps, file)
+}
+
+// Reads an accepted file back as the records that the write takes: mesh, table and start are answered, the order and the step records written at the front of
+// two lists.
+pub fn read(file: &[u8], order: &mut [u16], steps: &mut [u8]) -> Opened
+    ensures { λ r. ⌜ ReadPromise (now (file .entry)) (now (order .entry)) (now (steps .entry)) r (now (order .exit)) (now (steps .exit)) ⌝ }
+{
+    decode::read(file, order, steps)
 }
 
 // Makes the plan from one sharding of a table to another: at most three steps.

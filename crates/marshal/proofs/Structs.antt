@@ -11,13 +11,13 @@ use Rattle.rules.specs.Limits.{mostAxes, mostDims}
 use Rattle.rules.specs.Sharding.{Sharding}
 use Rattle.rules.specs.Collectives.{Step, allSlice, allGather, allReduce, allToAll}
 use Rattle.rules.specs.PlanFile.{plain}
-use Rattle.rules.specs.Types.{axesOf, dimsOf, shardingOf, fourPlaces, listFrom, listsFrom, shardingFrom}
+use Rattle.rules.specs.Types.{axesOf, dimsOf, shardingOf, listFrom, listsFrom, shardingFrom}
 use Rattle.rules.specs.declared.Kind.{Kind}
 use Rattle.rules.specs.declared.Kind.the-variants.{AllSlice, AllGather, AllReduce, AllToAll}
 use Rattle.rules.proofs.Lists.{tab-cong}
 use Rattle.rules.proofs.Fronts.{lent-put}
 use Rattle.rules.proofs.Types.{list-axes}
-use Rattle.records.specs.Forms.{sixPlaces}
+use Rattle.records.specs.Forms.{fiveLists, sixPlaces}
 use Rattle.records.specs.RoundTrip.{ShortLists, ShortSharding, ShortStep, AllShort}
 use Rattle.records.specs.PlanAnswer.{stepWith, stepFrom}
 use Rattle.records.specs.PlanAnswer as planner
@@ -67,11 +67,8 @@ module _ (s : Sharding) (f : ShortSharding s) where
       (λ i. record { counts = counts (lists-of i); axes = axes (lists-of i) })
 
 module _ (kind : Kind) (source target : ℕ) (Ss : List (List ℕ)) (L : List ℕ) (few : ShortLists Ss) (one : length L ≤ mostAxes) where
-  abbrev five : List (List ℕ)
-  five = fourPlaces [] Ss ++ L ∷ []
-
   with-numbers : stepNumbers (stepWith kind source target Ss L)
-      ≡ record { kind = kindByte kind; source = source; target = target; counts = map length five; axes = flat (map sixPlaces five) }
+      ≡ record { kind = kindByte kind; source = source; target = target; counts = map length (fiveLists Ss L); axes = flat (map sixPlaces (fiveLists Ss L)) }
   with-numbers =
       let e = sharding-of (record { dims = Ss; unreduced = L; replicated = L }) (record { dims = few; unreduced = one; replicated = one }) in
       (λ i. record { kind = kindByte kind; source = source; target = target; counts = take 5 (e i .counts); axes = take 30 (e i .axes) })

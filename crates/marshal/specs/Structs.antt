@@ -3,7 +3,7 @@
 use Prim.Native.Nat.{ℕ, _+_, _*_, _/_, _%_}
 use mathlib.Core.List.{List, [], _∷_, _++_, map}
 use lib.ListN.{length, getD, take, replicate}
-use Rattle.rules.specs.Lists.{tab}
+use Rattle.rules.specs.Lists.{tab, flat}
 use Rattle.rules.specs.Limits.{mostAxes, mostDims}
 use Rattle.rules.specs.Sharding.{Sharding}
 use Rattle.rules.specs.PlanFile.{Record}
@@ -13,7 +13,7 @@ use Rattle.rules.specs.declared.Sharding as code
 use Rattle.rules.specs.declared.Kind.{Kind}
 use Rattle.rules.specs.declared.Kind.the-variants.{AllSlice, AllGather, AllReduce, AllToAll, Unknown}
 use Rattle.rules.specs.declared.Step.{Step}
-use Rattle.records.specs.Forms.{placesAt, recordHead, recordCounts, recordAxes}
+use Rattle.records.specs.Forms.{placesAt, recordHead, recordLists, sixPlaces}
 use Rattle.marshal.specs.declared.ShardingReply.{ShardingReply}
 use Rattle.marshal.specs.declared.StepReply.{StepReply}
 
@@ -70,8 +70,8 @@ stepReply g = record {
   kind = getD (recordHead g) 0 0;
   source = getD (recordHead g) 1 0;
   target = getD (recordHead g) 2 0;
-  counts = recordCounts g;
-  axes = recordAxes g;
+  counts = map length (recordLists g);
+  axes = flat (map sixPlaces (recordLists g));
 }
 
 abbrev pub noStep : StepReply

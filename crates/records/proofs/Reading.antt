@@ -87,7 +87,7 @@ module _ (file order steps : List ℕ) where
   unfolding readLeavesOrder readLeavesSteps
   left-all q = (rw q refl, rw q refl)
 
-  read-inv : (a : ReadAnswer) → readOf file order steps ≡ accept a → (p : Plan) × (judge file ≡ accept p) × (readAnswer p ≡ a)
+  pub read-inv : (a : ReadAnswer) → readOf file order steps ≡ accept a → (p : Plan) × (judge file ≡ accept p) × (readAnswer p ≡ a)
   unfolding readOf
   read-inv a q =
       let p = bind-inv (judge file) _ a q in

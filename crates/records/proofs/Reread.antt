@@ -158,7 +158,7 @@ module _ (rank : ℕ) (few : rank ≤ mostDims) where
 
 -- ---- an accepted plan
 
-sharding-short : (mesh sizes : List ℕ) (s : Sharding) → length mesh ≤ mostAxes → IsSharding mesh sizes s → ShortSharding s
+pub sharding-short : (mesh sizes : List ℕ) (s : Sharding) → length mesh ≤ mostAxes → IsSharding mesh sizes s → ShortSharding s
 sharding-short mesh sizes s h is =
     let n : ℕ = length mesh in
     let x = distinct-split (varying s) (s .replicated) (is .once) in

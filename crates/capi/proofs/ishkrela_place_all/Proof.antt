@@ -17,6 +17,8 @@ ishkrela-place-all-spec =
     (λ c. search needs)
     (λ c κs. search needs)
     (λ c. search needs)
-    (λ c. ?)
+    (λ c. let g = c .before .before .before .before .place-all .ensures in
+    (place-all-told _ _ _ _ g (c .enum-told .given .1), g .leaves))
     (λ c. search needs)
-    (λ c. ?))
+    (λ c. let g = c .before .before .before .before .before .before .place-all .ensures in
+    ((λ i. record { refusal = c .code-of .ensures i; place = c .before .before .before .before .before .before .place-all .result .place }) ∙ place-all-told _ _ _ _ g (c .before .before .outcome .given .1), g .leaves)))
