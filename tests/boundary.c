@@ -207,39 +207,48 @@ static void refusals(void)
     assert(ishkrela_place(tail, sizeof tail, 1, 4).refusal == 32);
 }
 
-/* Whether a list of devices, in state 0, gets this answer, and its output has these numbers afterwards. */
-static int placed_all(const uint8_t *file, size_t len, const uint16_t *devices, size_t count, size_t room,
-                      ishkrela_placed_all answer, const uint16_t left[9])
+/* Whether a list of devices gets this answer, and its output has these numbers afterwards. */
+static int placed_all(const uint8_t *file, size_t len, uint16_t state, const uint16_t *devices, size_t count,
+                      size_t room, ishkrela_placed_all answer, const uint16_t left[9])
 {
     uint16_t first[9];
     memset(first, 0x55, sizeof first);
-    ishkrela_placed_all placed = ishkrela_place_all(file, len, 0, devices, count, first, room);
+    ishkrela_placed_all placed = ishkrela_place_all(file, len, state, devices, count, first, room);
     return placed.refusal == answer.refusal && placed.place == answer.place && memcmp(first, left, sizeof first) == 0;
 }
 
-/* W4's four devices and one of them again; of a table of four dimensions; and by an order. */
+/* W4's four devices, and the second again, in both states; of a table of four dimensions; and by an order. */
 static void places_all(void)
 {
     const uint16_t w4[] = {0, 1, 2, 3, 1, 4, 9}, ends[] = {143, 0, 144}, by_order[] = {5, 3, 1, 4, 2, 0, 5, 6};
-    const uint16_t firsts[9] = {0, 2, 1, 3, 2, 0x5555, 0x5555, 0x5555, 0x5555};
+    const uint16_t before[9] = {0, 2, 1, 3, 2, 0x5555, 0x5555, 0x5555, 0x5555};
+    const uint16_t after[9] = {0, 2, 0, 2, 2, 0x5555, 0x5555, 0x5555, 0x5555};
     const uint16_t corners[9] = {9, 4, 10, 1, 0, 0, 0, 0, 0x5555}, cables[9] = {4, 4, 2, 2, 0, 0, 4, 0x5555, 0x5555};
+    const ishkrela_placed_all all = {0, 0};
+    assert(placed_all(tail, sizeof tail, 0, w4, 5, 5, all, before));
+    assert(placed_all(tail, sizeof tail, 1, w4, 5, 9, all, after));
+    assert(placed_all(full, sizeof full, 2, ends, 2, 8, all, corners));
+    assert(placed_all(cabled, sizeof cabled, 0, by_order, 7, 9, all, cables));
+}
+
+/* The first of two devices that are not there; before it an output that is one short, the state, the file. */
+static void places_none(void)
+{
+    const uint16_t w4[] = {0, 1, 2, 3, 1, 4, 9}, ends[] = {143, 0, 144}, by_order[] = {5, 3, 6};
     const uint16_t none[9] = {0x5555, 0x5555, 0x5555, 0x5555, 0x5555, 0x5555, 0x5555, 0x5555, 0x5555};
-    const ishkrela_placed_all all = {0, 0}, shorter = {33, 0}, spoilt = {24 + 256, 0};
-    assert(placed_all(tail, sizeof tail, w4, 5, 5, all, firsts));
-    assert(placed_all(tail, sizeof tail, w4, 5, 9, all, firsts));
-    assert(placed_all(full, sizeof full, ends, 2, 8, all, corners));
-    assert(placed_all(cabled, sizeof cabled, by_order, 7, 9, all, cables));
-    assert(placed_all(tail, sizeof tail, w4, 7, 7, (ishkrela_placed_all){32, 5}, none));
-    assert(placed_all(tail, sizeof tail, w4 + 6, 1, 9, (ishkrela_placed_all){32, 0}, none));
-    assert(placed_all(full, sizeof full, ends, 3, 12, (ishkrela_placed_all){32, 2}, none));
-    assert(placed_all(cabled, sizeof cabled, by_order, 8, 9, (ishkrela_placed_all){32, 7}, none));
-    assert(placed_all(tail, sizeof tail, w4, 7, 6, shorter, none));
-    assert(placed_all(tail, sizeof tail, w4, 4, 3, shorter, none));
-    assert(placed_all(full, sizeof full, ends, 3, 11, shorter, none));
-    assert(placed_all(full, sizeof full, ends, 2, 7, shorter, none));
-    assert(placed_all(front, sizeof front, w4, 7, 0, spoilt, none));
-    assert(placed_all(tail, sizeof tail, NULL, 0, 9, all, none));
-    assert(ishkrela_place_all(tail, sizeof tail, 2, w4, 7, NULL, 0).refusal == 34);
+    const ishkrela_placed_all all = {0, 0}, shorter = {33, 0}, stateless = {34, 0}, spoilt = {24 + 256, 0};
+    assert(placed_all(tail, sizeof tail, 0, w4, 7, 7, (ishkrela_placed_all){32, 5}, none));
+    assert(placed_all(tail, sizeof tail, 1, w4 + 5, 2, 9, (ishkrela_placed_all){32, 0}, none));
+    assert(placed_all(full, sizeof full, 0, ends, 3, 12, (ishkrela_placed_all){32, 2}, none));
+    assert(placed_all(cabled, sizeof cabled, 0, by_order, 3, 3, (ishkrela_placed_all){32, 2}, none));
+    assert(placed_all(tail, sizeof tail, 0, w4, 7, 6, shorter, none));
+    assert(placed_all(tail, sizeof tail, 1, w4, 4, 3, shorter, none));
+    assert(placed_all(full, sizeof full, 0, ends, 3, 11, shorter, none));
+    assert(placed_all(full, sizeof full, 2, ends, 2, 7, shorter, none));
+    assert(placed_all(tail, sizeof tail, 2, w4, 7, 6, stateless, none));
+    assert(placed_all(tail, sizeof tail, 2, NULL, 0, 9, stateless, none));
+    assert(placed_all(front, sizeof front, 2, w4, 7, 6, spoilt, none));
+    assert(placed_all(tail, sizeof tail, 1, NULL, 0, 9, all, none));
 }
 
 static void groups(void)
@@ -454,6 +463,7 @@ int main(void)
     repeats();
     refusals();
     places_all();
+    places_none();
     groups();
     groups_ordered();
     runs();
