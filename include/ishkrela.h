@@ -4,8 +4,9 @@
  * most 65,536 words of 32 bits) is spread over it: each dimension is split along some of the axes.
  * How it is spread is its sharding. A plan is a small file that names the mesh's sizes, the
  * table's sizes, the sharding at the start, and up to 64 steps that change it: all-slice,
- * all-gather, all-reduce (by sum) and all-to-all, and repeats of blocks of steps. State 0 is the
- * start, state k is after the k-th of these steps, where a repeat with all that is in it is one.
+ * all-gather, all-reduce (by sum), all-to-all and reduce-scatter, and repeats of blocks of steps.
+ * State 0 is the start, state k is after the k-th of these steps, where a repeat with all that is in
+ * it is one.
  *
  * These calls judge a plan, say where its shards lie, run it, and list device groups; they write the
  * file of a plan and read it back, and make the plan from one sharding to another. Their code is
@@ -50,6 +51,7 @@
  *                    1 all-slice, 2 all-gather   a list for each dimension
  *                    3 all-reduce                one list
  *                    4 all-to-all                source dimension, target dimension (bytes), one list
+ *                    5 reduce-scatter            a list for each dimension
  *                    9 repeat                    count, number of inner steps (bytes), these steps
  *
  * A list is a count byte and that many axis bytes. A plan has one file: its edition is 3 where its
@@ -58,7 +60,7 @@
  * them, test by test.
  *
  *
- * THE FOUR STEPS
+ * THE FIVE STEPS
  *
  * Numbers in parentheses are refusals. Every step names at least one axis (21), and axes of the
  * mesh alone (22). No step changes the replicated list. docs/COLLECTIVES.md draws each step before
@@ -77,6 +79,11 @@
  * all-to-all  moves a split from a source dimension to another, the target (28). Its one list is
  *             gathered off the source (24) and then sliced on the target (25), as one step: there
  *             is no state between, and no room is needed for one
+ * reduce-scatter
+ *             adds and splits. It has a list for each dimension, of unreduced axes (27), each named
+ *             once in the step (23). It is an all-reduce along all of them and then the all-slice
+ *             with its lists (25), as one step: the axes leave the unreduced list and join the ends of
+ *             their dimensions' lists
  *
  *
  * REPEATS
@@ -84,7 +91,7 @@
  * A repeat runs a block, its inner steps, as often as its count says: 1 to 255 times (44), a block of
  * 1 to 255 steps (44). These may be repeats themselves, down to depth 4 (42); an outermost repeat has
  * depth 1. After the block the sharding is the one before it, list for list (41). A plan runs at most
- * 4,096 plain steps, the four above, each counted as often as it is run (43). State numbers and the
+ * 4,096 plain steps, the five above, each counted as often as it is run (43). State numbers and the
  * numbers of steps in the header and in the check's answer count outermost steps alone.
  *
  *
@@ -138,15 +145,15 @@
  *     19  the order is no rearrangement of 0 to D-1, or it is the plain one
  *     20  unknown kind of step                21  a step names no axis
  *     22  step: no such axis
- *     23  all-slice: the axis is in a list of the sharding, or was named earlier in this step
+ *     23  an axis was named earlier in this step or, by an all-slice, is in a list of the sharding
  *     24  the gathered list is not the tail of the dimension's list
  *     25  a dimension's shard size is not divisible
  *     26  all-reduce: list not strictly increasing
- *     27  all-reduce: an axis is not unreduced
+ *     27  all-reduce, reduce-scatter: an axis is not unreduced
  *     28  all-to-all: source or target is no dimension, or they are equal
  *     30  work is shorter than the room       31  spare is shorter than the room
  *     32  no such device                      34  no such state
- *     33  an output is too short: for the devices of all groups; for the order or the records of a file
+ *     33  an output is too short: for all groups, all first indexes, the order or the records of a file
  *     35  the buffer is shorter than the file
  *     40  the goal has an unreduced axis that is not the start's, or another replicated list
  *     41  repeat: the sharding after the block is not the one before it
@@ -158,7 +165,8 @@
  * MEMORY
  *
  * All memory is the caller's. It is used during the call only; nothing is allocated or kept. On a
- * refusal every other field of the answer is 0, and memory lent for writing is as it was.
+ * refusal every other field of the answer is 0 (but for the place beside 32), and memory lent for
+ * writing is as it was.
  * Compare two answers field by field, not as bytes: what lies between fields has no value.
  *
  * A pointer and the length after it, which counts elements and not bytes, are a slice: the pointer
@@ -168,9 +176,10 @@
  * is 0, so it may be null. The calls keep no state of their own: threads may call at once where none
  * lends memory for writing that another uses.
  *
- * A call takes less than 24 KiB of stack: on the cases of tests/ at most 23,448 bytes for a run, 9,568
- * for a placement, 7,808 for a read, 7,728 for a check, 1,232 for a group listing by an order and 144
- * for one without; 5,432 for making a plan and 4,880 for a write (tests/stack.c, which tools/try_c runs).
+ * A call takes less than 24 KiB of stack: on the cases of tests/ at most 23,448 bytes for a run, 12,000
+ * for a placement of a list, 10,016 for one of a device, 7,808 for a read, 7,728 for a check, 1,232 for a
+ * group listing by an order and 144 for one without; 4,880 for a write and 2,473 for making a plan
+ * (tests/stack.c, which tools/try_c runs).
  */
 #ifndef ISHKRELA_H
 #define ISHKRELA_H
@@ -233,6 +242,12 @@ typedef struct {
     ishkrela_sharding sharding;  /* how the table is spread */
 } ishkrela_placed;
 
+/* The answer of the placement of a list of devices. */
+typedef struct {
+    uint32_t refusal; /* 0, or the refusal */
+    size_t place;     /* beside 32 the place in the list, from 0, of the first device refused; else 0 */
+} ishkrela_placed_all;
+
 /* The answer of the write. */
 typedef struct {
     uint32_t refusal; /* 0, or the refusal; bytes is then 0 */
@@ -265,6 +280,15 @@ ishkrela_checked ishkrela_check(const uint8_t *file, size_t file_len);
  * begins in the table.
  * Refusals of the check; then 34, then 32. */
 ishkrela_placed ishkrela_place(const uint8_t *file, size_t file_len, uint16_t state, uint16_t device);
+
+/* Announces where the shard of each device of a list begins, in a state of a plan: writes the first
+ * indexes that the call above gives for each in turn, as many as the rank (the check has it). A device
+ * may be named again, and a list may be empty. Numbers after those that are written stay.
+ * Refusals of the check; then 34; then 33, where first is shorter than devices_len times the rank; then
+ * 32, with its place in the list. */
+ishkrela_placed_all ishkrela_place_all(const uint8_t *file, size_t file_len, uint16_t state,
+                                       const uint16_t *devices, size_t devices_len, uint16_t *first,
+                                       size_t first_len);
 
 /* Lists the devices of a mesh, group by group along a list of axes: groups in row-major order of
  * the other axes, devices by position. Writes D numbers; those after them stay.

@@ -12,6 +12,8 @@ Devices are numbered in row-major order of their coordinates, or as the order of
     (2, 4)
     >>> place(file, 0, 3).first
     (2, 2)
+    >>> place_all(file, 1, [0, 1, 2, 3])
+    [(0, 0), (0, 0), (2, 0), (2, 0)]
     >>> groups([2, 2], [0])
     [[0, 2], [1, 3]]
     >>> print(picture(file, 0, spread(file, range(1, 17))))
@@ -39,8 +41,8 @@ From one sharding to another there is a plan that the library makes, and a file 
     >>> Plan.from_bytes(plan.to_bytes()) == plan
     True
 
-check, place, groups, run, plan_file, plan_between and the two ways of Plan are calls of the verified
-library, which answers what the rules define on every input; where they refuse, Refused is raised.
+check, place, place_all, groups, run, plan_file, plan_between and the two ways of Plan are calls of the
+verified library, which answers what the rules define on every input; where they refuse, Refused is raised.
 spread, moved and picture are plain Python beside it.
 
 A plan file is any bytes-like object, taken whole: bytes, a bytearray, a memoryview, an array. Memory
@@ -59,8 +61,9 @@ from dataclasses import dataclass, replace
 from typing import Any, Iterable, Iterator, List, Optional, Sequence, Tuple, Union
 
 __all__ = [
-    "AllGather", "AllReduce", "AllSlice", "AllToAll", "Checked", "Placed", "Plan", "Refused", "Repeat", "Sharding",
-    "check", "groups", "moved", "picture", "place", "plan_between", "plan_file", "run", "spread",
+    "AllGather", "AllReduce", "AllSlice", "AllToAll", "Checked", "Placed", "Plan", "ReduceScatter", "Refused", "Repeat",
+    "Sharding", "check", "groups", "moved", "picture", "place", "place_all", "plan_between", "plan_file", "run",
+    "spread",
 ]
 
 MOST_AXES = 6
@@ -93,16 +96,16 @@ TEXTS = {
     20: "unknown kind of step",
     21: "a step names no axis",
     22: "step: no such axis",
-    23: "all-slice: the axis is in a list of the sharding, or was named earlier in this step",
+    23: "an axis was named earlier in this step or, by an all-slice, is in a list of the sharding",
     24: "the gathered list is not the tail of the dimension's list",
     25: "a dimension's shard size is not divisible",
     26: "all-reduce: list not strictly increasing",
-    27: "all-reduce: an axis is not unreduced",
+    27: "all-reduce, reduce-scatter: an axis is not unreduced",
     28: "all-to-all: source or target is no dimension, or they are equal",
     30: "work is shorter than the room",
     31: "spare is shorter than the room",
     32: "no such device",
-    33: "an output is too short: for the devices of all groups; for the order or the records of a file",
+    33: "an output is too short: for all groups, all first indexes, the order or the records of a file",
     34: "no such state",
     35: "the buffer is shorter than the file",
     40: "the goal has an unreduced axis that is not the start's, or another replicated list",
@@ -121,18 +124,20 @@ Lists = Sequence[Axes]
 
 class Refused(Exception):
     """A refusal: its number, the step that it is given in (0 outside the steps), and a text. Steps are
-    numbered from 1 in the order of the file, repeats and the steps inside them too.
+    numbered from 1 in the order of the file, repeats and the steps inside them too. Where a device of a
+    list is refused (32), `place` is the place in the list, from 0, of the first; it is None otherwise.
 
     docs/REFUSALS.md says of each number when it is given and what to do.
     """
 
-    def __init__(self, number: int, step: int = 0) -> None:
-        self.number, self.step = number, step
+    def __init__(self, number: int, step: int = 0, place: Optional[int] = None) -> None:
+        self.number, self.step, self.place = number, step, place
         self.text = TEXTS.get(number, "unknown refusal")
-        super().__init__(f"{number}: {self.text}" + (f" (step {step})" if step else ""))
+        where = f" (step {step})" if step else "" if place is None else f" (place {place} of the list)"
+        super().__init__(f"{number}: {self.text}{where}")
 
-    def __reduce__(self) -> Tuple[type, Tuple[int, int]]:
-        return type(self), (self.number, self.step)  # so that it comes whole out of another process
+    def __reduce__(self) -> Tuple[type, Tuple[int, int, Optional[int]]]:
+        return type(self), (self.number, self.step, self.place)  # so that it comes whole out of another process
 
 
 @dataclass(frozen=True)
@@ -188,6 +193,23 @@ def place(file: Bytes, state: int, device: int) -> Placed:
     _raise(answer.refusal)
     sharding, shard = _sharding(answer.sharding, answer.rank), _front(answer.shard, answer.rank)
     return Placed(sharding, shard, _front(answer.first, answer.rank))
+
+
+def place_all(file: Bytes, state: int, devices: Iterable[int], out: Optional[Lent] = None) -> List[Tuple[int, ...]]:
+    """Where the shard of each device of a list begins, in a state of a plan: the first indexes that `place` gives for
+    each of them, in one call. A device may be named again. Raises Refused with 32, and its `place` in the list, at the
+    first device that is not there.
+
+    `out`, 16-bit words such as an array.array("H") where it is given, is lent to the call: its first
+    entries become the first indexes of each device in turn, and the others stay.
+    """
+    listed = array.array("H", [*devices])
+    first = array.array("H", bytes(2 * MOST_DIMS * len(listed))) if out is None else out
+    answer = _library().ishkrela_place_all(*_read(file), _number(state, 16), *_lent(listed, "H"), *_lent(first, "H"))
+    _raise(answer.refusal, answer.place)
+    rank = len(check(file).shard)
+    indexes = array.array("H", memoryview(first).tobytes()[:2 * rank * len(listed)])
+    return [tuple(indexes[at:at + rank]) for at in range(0, len(indexes), rank)]
 
 
 def groups(
@@ -271,6 +293,16 @@ class AllToAll:
 
 
 @dataclass(frozen=True)
+class ReduceScatter:
+    """Adds the shards along unreduced axes, and splits each dimension further along them: a list for each dimension."""
+
+    lists: Lists
+
+    def __post_init__(self) -> None:
+        _keep(self, lists=_tuples(self.lists))
+
+
+@dataclass(frozen=True)
 class Repeat:
     """Runs a block of steps so many times, up to 255. The block has up to 255 steps, which may be repeats themselves
     down to depth 4, and ends in the sharding that it begins with."""
@@ -282,7 +314,8 @@ class Repeat:
         _keep(self, steps=tuple(self.steps))
 
 
-Step = Union[AllSlice, AllGather, AllReduce, AllToAll, Repeat]
+Step = Union[AllSlice, AllGather, AllReduce, AllToAll, ReduceScatter, Repeat]
+BY_DIM = {1: AllSlice, 2: AllGather, 5: ReduceScatter}  # the kinds with a list for each dimension
 
 
 @dataclass(frozen=True)
@@ -379,11 +412,11 @@ def spread(file: Bytes, table: Iterable[int]) -> List[int]:
         raise ValueError(f"a table of {_by(sizes)} has {math.prod(sizes)} words: {len(table)} were given")
     words = []
     tuples = dict(zip(order, itertools.product(*map(range, mesh))))
-    for device in range(len(order)):
-        at = place(file, 0, device)
-        zero = any(tuples[device][axis] for axis in at.sharding.unreduced)
-        for index in itertools.product(*map(range, at.shard)):
-            words.append(0 if zero else table[_row_major(sizes, map(sum, zip(at.first, index)))])
+    start = place(file, 0, 0)
+    for device, first in enumerate(place_all(file, 0, range(len(order)))):
+        zero = any(tuples[device][axis] for axis in start.sharding.unreduced)
+        for index in itertools.product(*map(range, start.shard)):
+            words.append(0 if zero else table[_row_major(sizes, map(sum, zip(first, index)))])
     return words
 
 
@@ -442,6 +475,10 @@ class _Placed(ctypes.Structure):
     ]
 
 
+class _PlacedAll(ctypes.Structure):
+    _fields_ = [("refusal", ctypes.c_uint32), ("place", ctypes.c_size_t)]
+
+
 class _Step(ctypes.Structure):
     _fields_ = [
         ("kind", ctypes.c_uint8), ("source", ctypes.c_uint8), ("target", ctypes.c_uint8),
@@ -486,6 +523,7 @@ def _typed(library: Any) -> Any:
     calls = {
         "ishkrela_check": (_Checked, file),
         "ishkrela_place": (_Placed, file + [ctypes.c_uint16, ctypes.c_uint16]),
+        "ishkrela_place_all": (_PlacedAll, file + [ctypes.c_uint16] + 2 * slice_of),
         "ishkrela_groups": (ctypes.c_uint32, 3 * slice_of),
         "ishkrela_groups_ordered": (ctypes.c_uint32, 4 * slice_of),
         "ishkrela_run": (ctypes.c_uint32, file + 2 * slice_of),
@@ -501,9 +539,9 @@ def _typed(library: Any) -> Any:
     return library
 
 
-def _raise(refusal: int) -> None:
+def _raise(refusal: int, place: Optional[int] = None) -> None:
     if refusal:
-        raise Refused(refusal % 256, refusal // 256)
+        raise Refused(refusal % 256, refusal // 256, place if refusal == 32 else None)
 
 
 def _number(number: int, bits: int) -> int:
@@ -596,9 +634,9 @@ def _write(plan: Plan, records: bytes, buffer: Lent) -> int:
 def _records(steps: Iterable[Step], rank: int) -> Iterator[bytes]:
     """The record of each step, those inside a repeat after its own."""
     for number, step in enumerate(_in_file_order(steps), 1):
-        if isinstance(step, (AllSlice, AllGather)):
+        if isinstance(step, tuple(BY_DIM.values())):
             _count_lists(f"step {number}, {type(step).__name__},", step.lists, rank)
-            yield _record(1 if isinstance(step, AllSlice) else 2, lists=step.lists)
+            yield _record(next(kind for kind, by_dim in BY_DIM.items() if isinstance(step, by_dim)), lists=step.lists)
         elif isinstance(step, AllReduce):
             yield _record(3, axes=step.axes)
         elif isinstance(step, AllToAll):
@@ -630,7 +668,7 @@ def _steps(records: Iterator[_Step], rank: int) -> Iterator[Step]:
         elif record.kind == 3:
             yield AllReduce(axes)
         else:
-            yield (AllSlice if record.kind == 1 else AllGather)(lists[:rank])
+            yield BY_DIM[record.kind](lists[:rank])
 
 
 def _in_file_order(steps: Iterable[Step]) -> Iterator[Step]:

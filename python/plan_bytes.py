@@ -1,7 +1,7 @@
 """For the tests: the bytes of plan files made without the library, of any plan, refused ones too, in any edition."""
 import itertools
 
-from ishkrela import AllGather, AllReduce, AllSlice, AllToAll
+from ishkrela import AllGather, AllReduce, AllSlice, AllToAll, ReduceScatter
 
 
 def file_of(mesh, table, start, steps=(), order=(), edition=None):
@@ -28,6 +28,8 @@ def encoded(step):
         return b"\3" + lists([step.axes])
     if isinstance(step, AllToAll):
         return bytes([4, step.source, step.target]) + lists([step.axes])
+    if isinstance(step, ReduceScatter):
+        return b"\5" + lists(step.lists)
     return bytes([9, step.count, len(step.steps)]) + b"".join(map(encoded, step.steps))
 
 

@@ -18,8 +18,8 @@ import typing
 import unittest
 
 import ishkrela
-from ishkrela import AllGather, AllReduce, AllSlice, AllToAll, Plan, Refused, Repeat, Sharding
-from ishkrela import check, groups, moved, picture, place, plan_between, plan_file, run, spread
+from ishkrela import AllGather, AllReduce, AllSlice, AllToAll, Plan, ReduceScatter, Refused, Repeat, Sharding
+from ishkrela import check, groups, moved, picture, place, place_all, plan_between, plan_file, run, spread
 from plan_bytes import file_of
 
 W1 = bytes.fromhex("0100020002000100120016001a001f002300" "02000200" "04000400" "0100010100" "02000101")
@@ -112,6 +112,17 @@ class Worked(Case):
     def test_w8_rows_to_columns(self):
         file = made([2], [2, 2], Sharding([[0], []]), [AllToAll(0, 1, [0])])
         self.assertEqual(moved(file, [1, 2, 3, 4]), [1, 3, 2, 4])
+
+    def test_reduce_scatter_as_000_draws_it(self):
+        file = made([2], [4], Sharding([[]], [0]), [ReduceScatter([[0]])])
+        self.assertEqual(moved(file, [1, 2, 3, 4, 5, 6, 7, 8]), [6, 8, 10, 12])
+        self.assertEqual(check(file).sharding, Sharding([[0]]))
+
+    def test_reduce_scatter_refused(self):
+        for number, table, unreduced, axes in ((21, 4, [0, 1], []), (22, 4, [0, 1], [2]), (23, 4, [0, 1], [0, 0]),
+                                               (23, 4, [], [1, 1]), (27, 4, [0], [1]), (27, 3, [0], [1]), (25, 3, [0], [0])):
+            file = made([2, 2], [table], Sharding([[]], unreduced), [ReduceScatter([axes])])
+            self.assertRefused(number, 1, check, file)
 
     def test_w9_divides(self):
         self.assertRefused(17, 0, check, made([4], [6], Sharding([[0]])))
@@ -248,6 +259,73 @@ class Orders(Case):
         for order in (self.ORDER[:5] + (5, 6), self.ORDER[:5], (0,)):
             self.assertRefused(19, 0, plan_file, [3, 2], [6], Sharding([[0]]), (), order)
         self.assertRefused(6, 0, check, file_of([3, 2], [6], Sharding([[0]]), order=self.ORDER[:5] + (5, 6)))
+
+
+class Lists(Case):
+    """First indexes for a whole list of devices: of document 02, Ask 1."""
+
+    def assertNotPlaced(self, number, step, at, file, state, devices, length=99):
+        """The refusal, with the place in the list beside it; nothing is written."""
+        out = array.array("H", length * [9999])
+        with self.assertRaises(Refused) as caught:
+            place_all(file, state, devices, out)
+        refused = caught.exception
+        self.assertEqual((refused.number, refused.step, refused.place), (number, step, at))
+        self.assertEqual(out.tolist(), length * [9999])
+
+    def test_w4_in_one_call(self):
+        self.assertEqual(place_all(w4(), 0, range(4)), [(0,), (2,), (1,), (3,)])
+        self.assertEqual(place_all(w4(), 0, iter([1, 3, 1, 1])), [(2,), (3,), (2,), (2,)])
+
+    def test_one_by_one(self):
+        mesh, table, start = [2, 3, 2, 2, 3, 2], [12, 6, 15, 2], Sharding([[5, 0], [1], [4], [2]], [3])
+        to_and_fro = Repeat(2, [AllToAll(1, 0, [5]), AllToAll(0, 1, [5])])
+        steps = [AllGather([[0], [], [], []]), AllToAll(0, 1, [5]), to_and_fro]
+        for order in ((), [*range(100, 144), *range(100)]):
+            file = made(mesh, table, start, steps, order)
+            for state in range(4):
+                devices = [*range(143, -1, -1), 0, 77, 0]
+                self.assertEqual(place_all(file, state, devices), [place(file, state, each).first for each in devices])
+
+    def test_the_order_of_the_devices(self):
+        file = made([3, 2], [6], Sharding([[0]]), order=Orders.ORDER)
+        self.assertEqual(place_all(file, 0, [5, 4, 3, 2, 1, 0, 5]), [(4,), (2,), (4,), (0,), (2,), (0,), (4,)])
+        self.assertNotPlaced(32, 0, 1, file, 0, [5, 6])
+
+    def test_a_lent_output(self):
+        for more in (0, 3):
+            out = array.array("H", (4 + more) * [9999])
+            self.assertEqual(place_all(W1, 0, [3, 1], out), [(2, 2), (0, 2)])
+            self.assertEqual(out.tolist(), [2, 2, 0, 2] + more * [9999])
+        for out in (bytes(8), array.array("B", bytes(8)), [0] * 4):
+            with self.assertRaisesRegex(TypeError, r'array\.array\("H"\)'):
+                place_all(W1, 0, [3, 1], out)
+
+    def test_an_empty_list(self):
+        for out in (None, array.array("H"), array.array("H", [9999])):
+            self.assertEqual(place_all(W1, 1, [], out), [])
+        self.assertEqual(out.tolist(), [9999])
+        self.assertNotPlaced(34, 0, None, W1, 2, [])
+        self.assertNotPlaced(24, 1, None, w4(AllGather([[1]])), 0, [])
+
+    def test_the_first_that_is_not_there(self):
+        for devices, at in (([4], 0), ([0, 1, 4], 2), ([0, 65535, 1, 4], 1), ([*(999 * [3]), 4], 999)):
+            self.assertNotPlaced(32, 0, at, w4(), 0, devices, 2000)
+
+    def test_what_is_refused_first(self):
+        bad = w4(AllGather([[1]]))
+        self.assertNotPlaced(24, 1, None, bad, 9, [9], 0)
+        self.assertNotPlaced(34, 0, None, W1, 2, [9], 0)
+        for devices, length in (([9], 1), ([0], 1), ([9, 9], 3), ([0, 1, 2], 5), ([0], 0)):
+            self.assertNotPlaced(33, 0, None, W1, 1, devices, length)
+        self.assertNotPlaced(32, 0, 0, W1, 1, [9], 2)
+
+    def test_the_texts(self):
+        with self.assertRaisesRegex(Refused, r"^32: no such device \(place 1 of the list\)$"):
+            place_all(W1, 0, [0, 4])
+        with self.assertRaisesRegex(Refused, "^32: no such device$"):
+            place(W1, 0, 4)
+        self.assertIsNone(Refused(32).place)
 
 
 class Repeats(Case):
@@ -541,6 +619,7 @@ class Boundary(Case):
             (ishkrela._Sharding, 42, [0, 6]),
             (ishkrela._Checked, 64, [0, 4, 8, 10, 12, 14, 22]),
             (ishkrela._Placed, 64, [0, 4, 6, 14, 22]),
+            (ishkrela._PlacedAll, 16, [0, 8]),
             (ishkrela._Step, ishkrela.RECORD_BYTES, [0, 1, 2, 3, 8]),
             (ishkrela._Written, 16, [0, 8]),
             (ishkrela._Opened, 88, [0, 4, 6, 8, 20, 28, 72, 80]),
@@ -617,6 +696,16 @@ class Boundary(Case):
         self.assertRefused(20, 2, ishkrela._write, plan, record + bytes(38), bytearray(40))
         self.assertRefused(7, 0, ishkrela._write, plan, ishkrela._record(9, 1, 2) + record, bytearray(40))
 
+    def test_the_place_is_0_beside_every_outcome_but_32(self):
+        none, some = array.array("H"), array.array("H", [0, 9])
+        short, file = array.array("H", [7]), w4()
+        for number, state, devices, first, place in (
+            (0, 0, none, none, 0), (32, 0, some, some[:], 1), (33, 0, some, short, 0), (34, 1, some, short, 0),
+        ):
+            lent = [*ishkrela._lent(devices, "H"), *ishkrela._lent(first, "H")]
+            answer = ishkrela._library().ishkrela_place_all(file, len(file), state, *lent)
+            self.assertEqual((answer.refusal, answer.place), (number, place))
+
     def test_places_not_used_are_0(self):
         answer = ishkrela._library().ishkrela_check(w4(), len(w4()))
         self.assertEqual((list(answer.shard), list(answer.sharding.counts)), ([1, 0, 0, 0], [2, 0, 0, 0, 0, 0]))
@@ -631,6 +720,8 @@ class Boundary(Case):
     def test_no_bytes_at_no_place(self):
         self.assertEqual(ishkrela._library().ishkrela_check(None, 0).refusal, 1)
         self.assertEqual(ishkrela._library().ishkrela_place(None, 0, 0, 0).refusal, 1)
+        self.assertEqual(ishkrela._library().ishkrela_place_all(None, 0, 0, None, 0, None, 0).refusal, 1)
+        self.assertEqual(ishkrela._library().ishkrela_place_all(W1, len(W1), 0, None, 0, None, 0).refusal, 0)
         self.assertEqual(ishkrela._library().ishkrela_groups(None, 0, None, 0, None, 0), 5)
         self.assertEqual(ishkrela._library().ishkrela_groups_ordered(None, 0, None, 0, None, 0, None, 0), 5)
         none = ishkrela._given("", Sharding([]), 0)
@@ -642,6 +733,8 @@ class Boundary(Case):
         for state, device in ((65536, 0), (0, 65536), (-1, 0)):
             with self.assertRaises(OverflowError):
                 place(w4(), state, device)
+            with self.assertRaises(OverflowError):
+                place_all(w4(), state, [0, device])
         for mesh, order in (([65538], None), ([2], [1, 65536])):
             with self.assertRaises(OverflowError):
                 groups(mesh, [0], None, order)
@@ -727,6 +820,7 @@ class Given(Case):
             (Sharding([[0]]), [], "the sharding has 1 list for a table of 2 dimensions"),
             (Sharding([[0], [1], []]), [], "the sharding has 3 lists"),
             (both, [AllGather([[]])], "step 1, AllGather, has 1 list"),
+            (both, [ReduceScatter([[]])], "step 1, ReduceScatter, has 1 list"),
             (both, [AllGather([[], [1]]), AllSlice([])], "step 2, AllSlice, has 0 lists"),
             (both, [Repeat(2, [AllReduce([0]), AllSlice([[]])])], "step 3, AllSlice, has 1 list"),
             (both, [Repeat(2, [Repeat(2, [AllReduce([0])])]), AllGather([[]])], "step 4, AllGather, has 1 list"),
@@ -762,17 +856,20 @@ class Given(Case):
         self.assertEqual(moved(w4(), bytes([4, 3, 2, 1])), [4, 3, 2, 1])
 
     def test_steps_are_values(self):
-        steps = [AllSlice([[], [1]]), AllGather([[], [1]]), AllReduce([0]), AllToAll(0, 1, [0])]
-        again = [AllSlice(((), (1,))), AllGather([(), [1]]), AllReduce((0,)), AllToAll(0, 1, iter([0]))]
+        steps = [AllSlice([[], [1]]), AllGather([[], [1]]), AllReduce([0]), AllToAll(0, 1, [0]), ReduceScatter([[], [1]])]
+        again = [AllSlice(((), (1,))), AllGather([(), [1]]), AllReduce((0,)), AllToAll(0, 1, iter([0])),
+                 ReduceScatter(((), iter([1])))]
         steps, again = [*steps, Repeat(2, steps)], [*again, Repeat(2, iter(again))]
         self.assertEqual(steps, again)
-        self.assertEqual(len({*steps, *again}), 5)
+        self.assertEqual(len({*steps, *again}), 6)
         self.assertEqual(Sharding([[0], []]), Sharding(((0,), ()), [], iter([])))
         self.assertEqual(eval(repr(steps)), steps)
 
     def test_a_refusal_comes_whole_out_of_a_pickle(self):
-        refused = pickle.loads(pickle.dumps(Refused(24, 1)))
-        self.assertEqual((refused.number, refused.step, str(refused)), (24, 1, str(Refused(24, 1))))
+        for given in ((24, 1), (32, 0, 7)):
+            refused = pickle.loads(pickle.dumps(Refused(*given)))
+            self.assertEqual((refused.number, refused.step, refused.place), (*given, None)[:3])
+            self.assertEqual(str(refused), str(Refused(*given)))
 
     def test_hints(self):
         for name in ishkrela.__all__:

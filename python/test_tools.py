@@ -88,7 +88,7 @@ class Missing(unittest.TestCase):
         self.assertStops("usage: tools/json_cases FILE.jsonl", "json_cases")
         self.assertStops("none.jsonl: No such file or directory: name a file of cases", "json_cases", "none.jsonl")
         lines = ["no JSON", "[]", '{"file": "00"}', '{"file": 0, "check": {}}', '{"mesh": [2], "groups": []}']
-        lines += ['{"mesh": [2], "write": ""}', '{"mesh": [2], "plan": []}', *self.cases_of_no_steps()]
+        lines += ['{"file": "00", "state": 0, "devices": [0], "place_all": []}', '{"mesh": [2], "write": ""}', '{"mesh": [2], "plan": []}', *self.cases_of_no_steps()]
         for line in lines:
             self.write("cases.jsonl", line)
             self.assertStops("cases.jsonl, line 1: not a case: `tools/json_cases --help` shows", "json_cases", "cases.jsonl")
@@ -133,6 +133,7 @@ class JsonCases(unittest.TestCase):
         ({"file": FILE}, "check", {"room": 8, "devices": 2, "states": STATES}),
         ({"file": FILE, "work": WORDS, "spare": WORDS}, "run", {"work": [1, 2, 7, 8, 0, 0, 0, 0], "spare": 8 * [0]}),
         ({"file": FILE, "state": 1, "device": 1}, "place", {"sharding": SPLIT, "shard": [2], "first": [2]}),
+        ({"file": FILE, "state": 1, "devices": [1, 0, 1], "room": 4}, "place_all", [2, 0, 2]),
         ({"mesh": [2], "order": [1, 0], "axes": [0], "room": 3}, "groups", [1, 0]),
         ({**ON, "start": WHOLE, "steps": [[1, [[0]]]], "room": 27}, "write", FILE),
         ({**ON, "start": WHOLE, "goal": SPLIT}, "plan", [[1, [[0]]]]),
@@ -141,10 +142,12 @@ class JsonCases(unittest.TestCase):
         ({"file": FILE[2:]}, "check", {"no": [3, 0]}),
         ({"file": FILE, "work": [1], "spare": []}, "run", {"no": [30, 0]}),
         ({"file": FILE, "state": 1, "device": 2}, "place", {"no": [32, 0]}),
+        ({"file": FILE, "state": 1, "devices": [1, 2, 3], "room": 3}, "place_all", {"no": [32, 0], "place": 1}),
+        ({"file": FILE, "state": 1, "devices": [1, 2, 3], "room": 2}, "place_all", {"no": [33, 0], "place": 0}),
         ({"mesh": [2], "order": [1, 0], "axes": [], "room": 1}, "groups", {"no": [33, 0]}),
         ({**ON, "start": WHOLE, "steps": [[1, [[0]]]], "room": 26}, "write", {"no": [35, 0]}),
         ({**ON, "start": WHOLE, "steps": [[9, 1, 2], [1, [[0]]]], "room": 40}, "write", {"no": [7, 0]}),
-        ({**ON, "start": WHOLE, "steps": [[1, [[0]]], [5]], "room": 40}, "write", {"no": [20, 2]}),
+        ({**ON, "start": WHOLE, "steps": [[1, [[0]]], [6]], "room": 40}, "write", {"no": [20, 2]}),
         ({**ON, "start": SPLIT, "goal": {**WHOLE, "unreduced": [0]}}, "plan", {"no": [40, 0]}),
     ]
 
@@ -162,7 +165,8 @@ class JsonCases(unittest.TestCase):
 
     def test_answered_otherwise(self):
         cases = [(given, call, {"no": [1, 0]}) for given, call, _ in self.CASES]
-        cases += [(given, call, {"no": [answer["no"][0], 9]}) for given, call, answer in self.REFUSED]
+        cases += [(given, call, {**answer, "no": [answer["no"][0], 9]}) for given, call, answer in self.REFUSED]
+        cases += [(given, call, {**answer, "place": 9}) for given, call, answer in self.REFUSED if "place" in answer]
         status, said, _ = self.said(cases)
         self.assertEqual((status, said.split("\n")[0]), (1, "file, line 1: answered otherwise"))
         self.assertIn(f"file: {len(cases)} cases, {len(cases)} differences\n", said)

@@ -28,6 +28,10 @@ FIELD(ishkrela_placed, first, 14, 8);
 FIELD(ishkrela_placed, sharding, 22, 42);
 _Static_assert(sizeof(ishkrela_placed) == 64, "ishkrela_placed");
 
+FIELD(ishkrela_placed_all, refusal, 0, 4);
+FIELD(ishkrela_placed_all, place, 8, 8);
+_Static_assert(sizeof(ishkrela_placed_all) == 16, "ishkrela_placed_all");
+
 FIELD(ishkrela_step, kind, 0, 1);
 FIELD(ishkrela_step, source, 1, 1);
 FIELD(ishkrela_step, target, 2, 1);
@@ -203,6 +207,50 @@ static void refusals(void)
     assert(ishkrela_place(tail, sizeof tail, 1, 4).refusal == 32);
 }
 
+/* Whether a list of devices gets this answer, and its output has these numbers afterwards. */
+static int placed_all(const uint8_t *file, size_t len, uint16_t state, const uint16_t *devices, size_t count,
+                      size_t room, ishkrela_placed_all answer, const uint16_t left[9])
+{
+    uint16_t first[9];
+    memset(first, 0x55, sizeof first);
+    ishkrela_placed_all placed = ishkrela_place_all(file, len, state, devices, count, first, room);
+    return placed.refusal == answer.refusal && placed.place == answer.place && memcmp(first, left, sizeof first) == 0;
+}
+
+/* W4's four devices, and the second again, in both states; of a table of four dimensions; and by an order. */
+static void places_all(void)
+{
+    const uint16_t w4[] = {0, 1, 2, 3, 1, 4, 9}, ends[] = {143, 0, 144}, by_order[] = {5, 3, 1, 4, 2, 0, 5, 6};
+    const uint16_t before[9] = {0, 2, 1, 3, 2, 0x5555, 0x5555, 0x5555, 0x5555};
+    const uint16_t after[9] = {0, 2, 0, 2, 2, 0x5555, 0x5555, 0x5555, 0x5555};
+    const uint16_t corners[9] = {9, 4, 10, 1, 0, 0, 0, 0, 0x5555}, cables[9] = {4, 4, 2, 2, 0, 0, 4, 0x5555, 0x5555};
+    const ishkrela_placed_all all = {0, 0};
+    assert(placed_all(tail, sizeof tail, 0, w4, 5, 5, all, before));
+    assert(placed_all(tail, sizeof tail, 1, w4, 5, 9, all, after));
+    assert(placed_all(full, sizeof full, 2, ends, 2, 8, all, corners));
+    assert(placed_all(cabled, sizeof cabled, 0, by_order, 7, 9, all, cables));
+}
+
+/* The first of two devices that are not there; before it an output that is one short, the state, the file. */
+static void places_none(void)
+{
+    const uint16_t w4[] = {0, 1, 2, 3, 1, 4, 9}, ends[] = {143, 0, 144}, by_order[] = {5, 3, 6};
+    const uint16_t none[9] = {0x5555, 0x5555, 0x5555, 0x5555, 0x5555, 0x5555, 0x5555, 0x5555, 0x5555};
+    const ishkrela_placed_all all = {0, 0}, shorter = {33, 0}, stateless = {34, 0}, spoilt = {24 + 256, 0};
+    assert(placed_all(tail, sizeof tail, 0, w4, 7, 7, (ishkrela_placed_all){32, 5}, none));
+    assert(placed_all(tail, sizeof tail, 1, w4 + 5, 2, 9, (ishkrela_placed_all){32, 0}, none));
+    assert(placed_all(full, sizeof full, 0, ends, 3, 12, (ishkrela_placed_all){32, 2}, none));
+    assert(placed_all(cabled, sizeof cabled, 0, by_order, 3, 3, (ishkrela_placed_all){32, 2}, none));
+    assert(placed_all(tail, sizeof tail, 0, w4, 7, 6, shorter, none));
+    assert(placed_all(tail, sizeof tail, 1, w4, 4, 3, shorter, none));
+    assert(placed_all(full, sizeof full, 0, ends, 3, 11, shorter, none));
+    assert(placed_all(full, sizeof full, 2, ends, 2, 7, shorter, none));
+    assert(placed_all(tail, sizeof tail, 2, w4, 7, 6, stateless, none));
+    assert(placed_all(tail, sizeof tail, 2, NULL, 0, 9, stateless, none));
+    assert(placed_all(front, sizeof front, 2, w4, 7, 6, spoilt, none));
+    assert(placed_all(tail, sizeof tail, 1, NULL, 0, 9, all, none));
+}
+
 static void groups(void)
 {
     const uint16_t mesh[] = {2, 3, 4, 5};
@@ -290,7 +338,7 @@ static void writes_blocks(void)
         {.kind = ISHKRELA_REPEAT, .source = 3, .target = 2},
         {.kind = ISHKRELA_ALL_SLICE, .counts = {1}},
         {.kind = ISHKRELA_ALL_GATHER, .counts = {1}},
-        {.kind = 5},
+        {.kind = 6},
     };
     const uint16_t mesh[] = {2}, table[] = {2}, cables[] = {1, 0}, unmoved[] = {0, 1};
     const ishkrela_sharding whole = {0};
@@ -393,6 +441,9 @@ static void empty(void)
     const uint16_t mesh[] = {2};
     uint16_t out[2] = {9, 9};
     assert(ishkrela_check(NULL, 0).refusal == 1 && ishkrela_place(NULL, 0, 0, 0).refusal == 1);
+    assert(ishkrela_place_all(NULL, 0, 0, NULL, 0, NULL, 0).refusal == 1);
+    assert(ishkrela_place_all(tail, sizeof tail, 0, NULL, 0, NULL, 0).refusal == 0);
+    assert(ishkrela_place_all(tail, sizeof tail, 0, mesh, 1, NULL, 0).refusal == 33);
     assert(ishkrela_run(NULL, 0, NULL, 0, NULL, 0) == 1 && ishkrela_run(tail, sizeof tail, NULL, 0, NULL, 0) == 30);
     assert(ishkrela_groups(NULL, 0, NULL, 0, NULL, 0) == 5 && ishkrela_groups(mesh, 1, NULL, 0, NULL, 0) == 33);
     assert(ishkrela_groups(mesh, 1, NULL, 0, out, 2) == 0 && out[0] == 0 && out[1] == 1);
@@ -411,6 +462,8 @@ int main(void)
     ordered();
     repeats();
     refusals();
+    places_all();
+    places_none();
     groups();
     groups_ordered();
     runs();

@@ -10,7 +10,7 @@
 #include <string.h>
 #include "ishkrela.h"
 
-enum { CALLS = 8, PAINT = 0xa5, STACK = 1 << 18, ROOM = 67108864, SAID = 24576 };
+enum { CALLS = 9, PAINT = 0xa5, STACK = 1 << 18, ROOM = 67108864, SAID = 24576 };
 
 static _Alignas(64) unsigned char stack[STACK];
 static uint32_t work[ROOM], spare[ROOM];
@@ -30,7 +30,7 @@ static const ishkrela_step nested[] = {
 
 static const uint16_t mesh[] = {2, 3, 2, 2, 3, 2}, table[] = {12, 6, 15, 2};
 static const uint8_t axes[] = {5, 1, 3, 0, 4, 2};
-static uint16_t order[144], out[1024];
+static uint16_t order[144], out[1024], every[1024], first[4 * 1024];
 static uint8_t written[8192], records[38 * 8192 / 3];
 
 static void check(void)
@@ -41,6 +41,11 @@ static void check(void)
 static void place(void)
 {
     ishkrela_place(file, len, plan.steps, plan.devices - 1);
+}
+
+static void place_all(void)
+{
+    ishkrela_place_all(file, len, plan.steps, every, plan.devices, first, 4 * 1024);
 }
 
 static void groups(void)
@@ -74,9 +79,11 @@ static void plan_goal(void)
     refused |= ishkrela_plan(mesh, 6, order, 144, table, 4, start, goal).refusal;
 }
 
-static const char *const names[CALLS] = {"check", "place", "groups", "groups_ordered", "run", "write", "read", "plan"};
+static const char *const names[CALLS] = {
+    "check", "place", "place_all", "groups", "groups_ordered", "run", "write", "read", "plan",
+};
 static void (*volatile const calls[CALLS])(void) = {
-    check, place, groups, groups_ordered, run, write_nested, read_back, plan_goal,
+    check, place, place_all, groups, groups_ordered, run, write_nested, read_back, plan_goal,
 };
 
 static void *calling(void *which)
@@ -119,6 +126,8 @@ int main(int argc, char **argv)
     int count = 0, over = 0;
     for (uint16_t at = 0; at < 144; at++)
         order[at] = (uint16_t)(143 - at);
+    for (uint16_t device = 0; device < 1024; device++)
+        every[device] = device;
     for (int i = 1; i < argc; i++) {
         FILE *cases = fopen(argv[i], "r");
         if (!cases) {

@@ -56,6 +56,14 @@ pub struct Refusal {
     pub step: u16,
 }
 
+/// Why no device of a list was placed: the refusal, and with 32 the place in the list, from 0, of the
+/// first device that is not there.
+#[derive(Clone, Copy, Debug, PartialEq, Eq)]
+pub struct NotPlaced {
+    pub refusal: Refusal,
+    pub place: Option<usize>,
+}
+
 #[derive(Clone, Copy, Debug, PartialEq, Eq)]
 pub struct Checked {
     pub room: u32,
@@ -98,6 +106,14 @@ impl Refusal {
     /// A refusal that belongs to no step.
     pub fn whole(number: u8) -> Self {
         Refusal { number, step: 0 }
+    }
+}
+
+impl From<Refusal> for NotPlaced {
+    /// A refusal that is of no device of the list.
+    fn from(refusal: Refusal) -> Self {
+        let place = None;
+        NotPlaced { refusal, place }
     }
 }
 

@@ -17,17 +17,26 @@ pub mod short;
 pub mod spoilt;
 pub mod spreads;
 
-use answers::{Axis, Checked, Device, Placed, Refusal, Sizes};
+use answers::{Axis, Checked, Device, NotPlaced, Placed, Refusal, Sizes};
 use records::{MeshAndTable, Opened, Records, ShardingRecord, StepRecord};
 
-/// The four calls of document 01, and of document 02 the listing by an order, the writer, the way
-/// back and the planner.
+/// The four calls of document 01, and of document 02 the placement of a list of devices, the listing
+/// by an order, the writer, the way back and the planner.
 pub trait Implementation {
     fn name(&self) -> &'static str;
 
     fn check(&self, file: &[u8]) -> Result<Checked, Refusal>;
 
     fn place(&self, file: &[u8], state: u16, device: Device) -> Result<Placed, Refusal>;
+
+    /// Writes the first indexes of each device of a list.
+    fn place_all(
+        &self,
+        file: &[u8],
+        state: u16,
+        devices: &[Device],
+        first: &mut [u16],
+    ) -> Result<(), NotPlaced>;
 
     fn groups(&self, mesh: &[u16], axes: &[Axis], out: &mut [Device]) -> Result<(), Refusal>;
 
@@ -77,6 +86,16 @@ impl Implementation for Reference {
 
     fn place(&self, file: &[u8], state: u16, device: Device) -> Result<Placed, Refusal> {
         reference::place(file, state, device)
+    }
+
+    fn place_all(
+        &self,
+        file: &[u8],
+        state: u16,
+        devices: &[Device],
+        first: &mut [u16],
+    ) -> Result<(), NotPlaced> {
+        reference::place_all(file, state, devices, first)
     }
 
     fn groups(&self, mesh: &[u16], axes: &[Axis], out: &mut [Device]) -> Result<(), Refusal> {
@@ -134,6 +153,16 @@ impl Implementation for Library {
 
     fn place(&self, file: &[u8], state: u16, device: Device) -> Result<Placed, Refusal> {
         library::place(file, state, device)
+    }
+
+    fn place_all(
+        &self,
+        file: &[u8],
+        state: u16,
+        devices: &[Device],
+        first: &mut [u16],
+    ) -> Result<(), NotPlaced> {
+        library::place_all(file, state, devices, first)
     }
 
     fn groups(&self, mesh: &[u16], axes: &[Axis], out: &mut [Device]) -> Result<(), Refusal> {

@@ -6,8 +6,8 @@
 #![allow(unsafe_code)]
 
 use crate::answers::{
-    Axis, AxisList, Checked, Device, DimLists, Placed, Refusal, Sharding, Sizes, MOST_AXES,
-    MOST_BYTES, MOST_DEVICES, MOST_RANK,
+    Axis, AxisList, Checked, Device, DimLists, NotPlaced, Placed, Refusal, Sharding, Sizes,
+    MOST_AXES, MOST_BYTES, MOST_DEVICES, MOST_RANK,
 };
 use crate::records::{
     MeshAndTable, Opened, Records, ShardingRecord, StepRecord, LEAST_STEP_BYTES, RECORD_BYTES,
@@ -23,6 +23,17 @@ pub fn check(file: &[u8]) -> Result<Checked, Refusal> {
 /// Tells how a state is sharded, and where in the table a device's shard begins.
 pub fn place(file: &[u8], state: u16, device: Device) -> Result<Placed, Refusal> {
     raw::place(file, state, device).into()
+}
+
+/// Tells where the shard of each device of a list begins: writes the first indexes of each in turn, as
+/// many as the rank. Entries after them stay.
+pub fn place_all(
+    file: &[u8],
+    state: u16,
+    devices: &[Device],
+    first: &mut [u16],
+) -> Result<(), NotPlaced> {
+    raw::place_all(file, state, devices, first).into()
 }
 
 /// Lists the devices of a mesh group by group. Entries after the last device stay.
@@ -156,6 +167,14 @@ pub struct RawPlaced {
     sharding: RawSharding,
 }
 
+/// The answer of the placement of a list, as it crosses the boundary.
+#[derive(Clone, Copy, Debug, Default, PartialEq, Eq)]
+#[repr(C)]
+pub struct RawPlacedAll {
+    refusal: u32,
+    place: usize,
+}
+
 /// A step record as it crosses the boundary: five lists in six places each.
 #[derive(Clone, Copy, Debug, Default, PartialEq, Eq)]
 #[repr(C)]
@@ -214,6 +233,7 @@ macro_rules! layout {
 layout!(RawSharding, 42, counts 0, axes 6);
 layout!(RawChecked, 64, refusal 0, room 4, devices 8, steps 10, rank 12, shard 14, sharding 22);
 layout!(RawPlaced, 64, refusal 0, rank 4, shard 6, first 14, sharding 22);
+layout!(RawPlacedAll, 16, refusal 0, place 8);
 layout!(RawStep, 38, kind 0, source 1, target 2, counts 3, axes 8);
 layout!(RawWritten, 16, refusal 0, bytes 8);
 layout!(RawOpened, 88, refusal 0, n 4, rank 6, mesh 8, table 20, start 28, order 72, steps_bytes 80);
@@ -329,6 +349,15 @@ impl From<RawPlaced> for Result<Placed, Refusal> {
     }
 }
 
+impl From<RawPlacedAll> for Result<(), NotPlaced> {
+    fn from(raw: RawPlacedAll) -> Self {
+        refused(raw.refusal).map_err(|refusal| NotPlaced {
+            refusal,
+            place: (refusal.number == 32).then_some(raw.place),
+        })
+    }
+}
+
 impl From<RawWritten> for Result<usize, Refusal> {
     fn from(raw: RawWritten) -> Self {
         refused(raw.refusal)?;
@@ -350,7 +379,7 @@ impl From<RawOpened> for Result<Opened, Refusal> {
 }
 
 // The other way: what the boundary has to give for an answer, down to the places not used. A
-// refusal leaves every other field 0.
+// refusal leaves every other field 0, but for the place beside 32.
 
 impl From<Result<Checked, Refusal>> for RawChecked {
     fn from(answer: Result<Checked, Refusal>) -> Self {
@@ -386,6 +415,18 @@ impl From<Result<Placed, Refusal>> for RawPlaced {
                 refusal: code(refusal),
                 ..RawPlaced::default()
             },
+        }
+    }
+}
+
+impl From<Result<(), NotPlaced>> for RawPlacedAll {
+    fn from(answer: Result<(), NotPlaced>) -> Self {
+        let Err(NotPlaced { refusal, place }) = answer else {
+            return RawPlacedAll::default();
+        };
+        RawPlacedAll {
+            refusal: code(refusal),
+            place: place.unwrap_or(0),
         }
     }
 }
@@ -437,12 +478,16 @@ impl From<Result<Vec<StepRecord>, Refusal>> for RawPlanned {
 
 /// The calls with their answers as they cross the boundary.
 pub mod raw {
-    use super::{RawChecked, RawOpened, RawPlaced, RawPlanned, RawSharding, RawWritten};
+    use super::{
+        RawChecked, RawOpened, RawPlaced, RawPlacedAll, RawPlanned, RawSharding, RawWritten,
+    };
     use crate::answers::{Axis, Device};
     use crate::records::MeshAndTable;
 
     mod c {
-        use super::{RawChecked, RawOpened, RawPlaced, RawPlanned, RawSharding, RawWritten};
+        use super::{
+            RawChecked, RawOpened, RawPlaced, RawPlacedAll, RawPlanned, RawSharding, RawWritten,
+        };
 
         // The names and types are those of include/ishkrela.h.
         extern "C" {
@@ -454,6 +499,16 @@ pub mod raw {
                 state: u16,
                 device: u16,
             ) -> RawPlaced;
+
+            pub fn ishkrela_place_all(
+                file: *const u8,
+                file_len: usize,
+                state: u16,
+                devices: *const u16,
+                devices_len: usize,
+                first: *mut u16,
+                first_len: usize,
+            ) -> RawPlacedAll;
 
             pub fn ishkrela_groups(
                 mesh: *const u16,
@@ -530,9 +585,29 @@ pub mod raw {
         unsafe { c::ishkrela_place(file.as_ptr(), file.len(), state, device.0) }
     }
 
+    pub fn place_all(
+        file: &[u8],
+        state: u16,
+        devices: &[Device],
+        first: &mut [u16],
+    ) -> RawPlacedAll {
+        // Safe: as above; `first` is borrowed alone. Device, and Axis below, have the layout of the
+        // number inside them.
+        unsafe {
+            c::ishkrela_place_all(
+                file.as_ptr(),
+                file.len(),
+                state,
+                devices.as_ptr().cast(),
+                devices.len(),
+                first.as_mut_ptr(),
+                first.len(),
+            )
+        }
+    }
+
     pub fn groups(mesh: &[u16], axes: &[Axis], out: &mut [Device]) -> u32 {
-        // Safe: as above; `out` is borrowed alone. Axis and Device have the layout of the number
-        // inside them.
+        // Safe: as above; `out` is borrowed alone.
         unsafe {
             c::ishkrela_groups(
                 mesh.as_ptr(),

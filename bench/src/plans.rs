@@ -33,6 +33,7 @@ pub enum Step {
     Gather(Lists),
     Reduce(Vec<Axis>),
     AllToAll(Dim, Dim, Vec<Axis>),
+    Scatter(Lists),
     /// A block that is run so many times.
     Repeat(u8, Vec<Step>),
     /// Bytes that are no step.
@@ -192,6 +193,7 @@ impl Step {
             Step::AllToAll(source, target, list) => {
                 [vec![4, source.0, target.0], list_section(list)].concat()
             }
+            Step::Scatter(lists) => [vec![5], lists_section(lists)].concat(),
             Step::Repeat(count, block) => {
                 let inner: Vec<u8> = block.iter().flat_map(Step::encode).collect();
                 [vec![9, *count, block.len() as u8], inner].concat()
@@ -276,6 +278,11 @@ impl<'a> Tracked<'a> {
                 onto[target.index()] = list.clone();
                 self.slice(&onto);
             }
+            Step::Scatter(lists) => {
+                let scattered = lists.concat();
+                self.unreduced.retain(|axis| !scattered.contains(axis));
+                self.slice(lists);
+            }
             // A block ends in the sharding that it begins with.
             Step::Repeat(..) | Step::Bytes(_) => {}
         }
@@ -298,7 +305,7 @@ impl<'a> Tracked<'a> {
 
     /// A plain step that is accepted here, if there is one of some kind.
     pub(crate) fn random_step(&self, random: &mut Random) -> Option<Step> {
-        self.step_of(random, &mut [1, 1, 2, 2, 3, 4, 4])
+        self.step_of(random, &mut [1, 1, 2, 2, 3, 4, 4, 5])
     }
 
     /// The same of steps that another one undoes.
@@ -312,14 +319,24 @@ impl<'a> Tracked<'a> {
             1 => self.random_slice(random),
             2 => self.random_gather(random),
             3 => self.random_reduce(random),
-            _ => self.random_all_to_all(random),
+            4 => self.random_all_to_all(random),
+            _ => self.random_scatter(random),
         })
     }
 
     pub(crate) fn random_slice(&self, random: &mut Random) -> Option<Step> {
+        self.spread_out(random, self.free()).map(Step::Slice)
+    }
+
+    fn random_scatter(&self, random: &mut Random) -> Option<Step> {
+        self.spread_out(random, self.unreduced.clone())
+            .map(Step::Scatter)
+    }
+
+    /// Some of the axes, in any order, on dimensions whose shard sizes they divide.
+    fn spread_out(&self, random: &mut Random, mut axes: Vec<Axis>) -> Option<Lists> {
         let mut left = self.shard.clone();
         let mut lists = self.no_lists();
-        let mut axes = self.free();
         random.shuffle(&mut axes);
         let wanted = random.between(1, MOST_AXES);
         for axis in axes {
@@ -331,7 +348,7 @@ impl<'a> Tracked<'a> {
             }
         }
         let names_some = lists.iter().any(|list| !list.is_empty());
-        names_some.then_some(Step::Slice(lists))
+        names_some.then_some(lists)
     }
 
     pub(crate) fn random_gather(&self, random: &mut Random) -> Option<Step> {
@@ -742,7 +759,7 @@ impl CountPlaces {
 
     fn pass_step(&mut self, step: &Step) {
         match step {
-            Step::Slice(lists) | Step::Gather(lists) => self.pass(1, lists),
+            Step::Slice(lists) | Step::Gather(lists) | Step::Scatter(lists) => self.pass(1, lists),
             Step::Reduce(list) => self.pass(1, std::slice::from_ref(list)),
             Step::AllToAll(_, _, list) => self.pass(3, std::slice::from_ref(list)),
             Step::Repeat(_, block) => {
@@ -908,10 +925,12 @@ fn faulty(random: &mut Random, state: &Tracked, number: u8) -> Option<Step> {
         20 => Some(no_kind(random)),
         21 => Some(names_nothing(random, state)),
         22 => Some(names_no_axis(random, state)),
+        23 if random.once_in(3) => scatters_again(random, state),
         23 => slices_again(random, state),
         24 => gathers_no_tail(random, state),
         25 => leaves_a_remainder(random, state),
         26 => reduces_unsorted(random, state),
+        27 if random.once_in(2) => scatters_other(random, state),
         27 => reduces_other(random, state),
         28 => bad_dims(random, state),
         _ => None,
@@ -921,8 +940,8 @@ fn faulty(random: &mut Random, state: &Tracked, number: u8) -> Option<Step> {
 fn no_kind(random: &mut Random) -> Step {
     let kind = match random.below(3) {
         0 => 0,
-        // Next to a repeat's.
-        1 => random.pick(&[5, 8, 10]),
+        // Next to the others.
+        1 => random.pick(&[6, 8, 10]),
         _ => random.between(10, 255) as u8,
     };
     let rest = (0..random.below(6)).map(|_| random.byte());
@@ -930,10 +949,11 @@ fn no_kind(random: &mut Random) -> Step {
 }
 
 fn names_nothing(random: &mut Random, state: &Tracked) -> Step {
-    match random.below(4) {
+    match random.below(5) {
         0 => Step::Slice(state.no_lists()),
         1 => Step::Gather(state.no_lists()),
         2 => Step::Reduce(Vec::new()),
+        3 => Step::Scatter(state.no_lists()),
         _ => Step::AllToAll(Dim(random.byte() % 6), Dim(random.byte() % 6), Vec::new()),
     }
 }
@@ -946,10 +966,11 @@ fn names_no_axis(random: &mut Random, state: &Tracked) -> Step {
         *list = some_axes(random, state, 0, state.mesh.len());
     }
     lists[random.below(state.rank())] = list.clone();
-    match random.below(4) {
+    match random.below(5) {
         0 => Step::Slice(lists),
         1 => Step::Gather(lists),
         2 => Step::Reduce(list),
+        3 => Step::Scatter(lists),
         _ => Step::AllToAll(Dim(random.byte() % 6), Dim(random.byte() % 6), list),
     }
 }
@@ -978,6 +999,40 @@ fn slices_again(random: &mut Random, state: &Tracked) -> Option<Step> {
     }
     list.insert(random.below(list.len() + 1), random.pick(&bad));
     Some(Step::Slice(lists))
+}
+
+/// Scatters any axes, one of them twice.
+fn scatters_again(random: &mut Random, state: &Tracked) -> Option<Step> {
+    let mut lists = state.no_lists();
+    for axis in state.axes() {
+        if random.once_in(2) {
+            lists[random.below(state.rank())].push(axis);
+        }
+    }
+    let named = lists.concat();
+    let list = &mut lists[random.below(state.rank())];
+    if named.is_empty() || list.len() == state.mesh.len() {
+        return None;
+    }
+    list.insert(random.below(list.len() + 1), random.pick(&named));
+    Some(Step::Scatter(lists))
+}
+
+/// Scatters any axes, each once, of which one is not unreduced.
+fn scatters_other(random: &mut Random, state: &Tracked) -> Option<Step> {
+    let mut lists = state.no_lists();
+    let mut axes = state.axes();
+    random.shuffle(&mut axes);
+    for axis in axes {
+        if random.once_in(2) {
+            lists[random.below(state.rank())].push(axis);
+        }
+    }
+    let all_unreduced = lists
+        .iter()
+        .flatten()
+        .all(|axis| state.unreduced.contains(axis));
+    (!all_unreduced).then_some(Step::Scatter(lists))
 }
 
 /// Gathers something that is not the tail of its dimension's list.
@@ -1015,7 +1070,11 @@ fn leaves_a_remainder(random: &mut Random, state: &Tracked) -> Option<Step> {
         return (!divides).then_some(Step::AllToAll(source, target, list));
     }
     let dim = random.below(state.rank());
-    let mut list = state.free();
+    let scatters = random.once_in(2);
+    let mut list = match scatters {
+        true => state.unreduced.clone(),
+        false => state.free(),
+    };
     random.shuffle(&mut list);
     list.truncate(random.between(0, list.len()));
     if state.shard[dim].is_multiple_of(state.pieces(&list)) {
@@ -1023,7 +1082,10 @@ fn leaves_a_remainder(random: &mut Random, state: &Tracked) -> Option<Step> {
     }
     let mut lists = state.no_lists();
     lists[dim] = list;
-    Some(Step::Slice(lists))
+    Some(match scatters {
+        true => Step::Scatter(lists),
+        false => Step::Slice(lists),
+    })
 }
 
 fn reduces_unsorted(random: &mut Random, state: &Tracked) -> Option<Step> {

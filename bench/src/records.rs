@@ -27,6 +27,7 @@ pub enum StepRecord {
     Gather(Lists),
     Reduce(Vec<Axis>),
     AllToAll(Dim, Dim, Vec<Axis>),
+    Scatter(Lists),
     /// A block that is run `count` times; its `steps` steps are the records behind it.
     Repeat {
         count: u8,
@@ -74,6 +75,7 @@ impl StepRecord {
             StepRecord::Gather(lists) => (2, 0, 0, &lists[..], no_list),
             StepRecord::Reduce(axes) => (3, 0, 0, none, &axes[..]),
             StepRecord::AllToAll(source, target, axes) => (4, source.0, target.0, none, &axes[..]),
+            StepRecord::Scatter(lists) => (5, 0, 0, &lists[..], no_list),
             StepRecord::Repeat { count, steps } => (9, *count, *steps, none, no_list),
             StepRecord::Unknown(kind) => (*kind, 0, 0, none, no_list),
         };
@@ -111,6 +113,7 @@ impl StepRecord {
             2 => StepRecord::Gather(lists()?),
             3 => StepRecord::Reduce(list(MOST_RANK)?),
             4 => StepRecord::AllToAll(Dim(source), Dim(target), list(MOST_RANK)?),
+            5 => StepRecord::Scatter(lists()?),
             9 => StepRecord::Repeat {
                 count: source,
                 steps: target,
@@ -122,7 +125,9 @@ impl StepRecord {
     /// All its axes in file order.
     pub fn axes(&self) -> Vec<Axis> {
         match self {
-            StepRecord::Slice(lists) | StepRecord::Gather(lists) => lists.concat(),
+            StepRecord::Slice(lists) | StepRecord::Gather(lists) | StepRecord::Scatter(lists) => {
+                lists.concat()
+            }
             StepRecord::Reduce(axes) | StepRecord::AllToAll(_, _, axes) => axes.clone(),
             StepRecord::Repeat { .. } | StepRecord::Unknown(_) => Vec::new(),
         }
@@ -182,6 +187,7 @@ fn next_step(left: &mut std::slice::Iter<StepRecord>) -> Option<Step> {
         StepRecord::AllToAll(source, target, axes) => {
             Step::AllToAll(*source, *target, axes.clone())
         }
+        StepRecord::Scatter(lists) => Step::Scatter(lists.clone()),
         StepRecord::Repeat { count, steps } => {
             let block: Option<Vec<Step>> = (0..*steps).map(|_| next_step(left)).collect();
             Step::Repeat(*count, block?)
@@ -226,6 +232,7 @@ fn flatten(step: &Step, records: &mut Vec<StepRecord>) {
         Step::AllToAll(source, target, axes) => {
             StepRecord::AllToAll(*source, *target, axes.clone())
         }
+        Step::Scatter(lists) => StepRecord::Scatter(lists.clone()),
         Step::Repeat(count, block) => StepRecord::Repeat {
             count: *count,
             steps: u8::try_from(block.len()).expect("a block of at most 255 steps"),

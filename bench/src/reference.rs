@@ -1,5 +1,6 @@
-//! Document 01 with the limits, the editions and the repeats of document 02 in plain Rust, written
-//! from these documents alone. `records` has its writer, the way back and its planner.
+//! Document 01 with the limits, the editions, the repeats and the reduce-scatters of document 02 in
+//! plain Rust, written from these documents alone. `records` has its writer, the way back and its
+//! planner.
 //!
 //! A file is judged into a `Plan`, which holds the state after every outermost step. The calls read
 //! their answers off the plan. A run moves the words between the two lent buffers, step by step; the
@@ -9,8 +10,9 @@
 //! devices tells which one stands there.
 
 use crate::answers::{
-    Axis, AxisList, Checked, Device, Dim, DimLists, Placed, Refusal, Sharding, Sizes, LEAST_BYTES,
-    MOST_AXES, MOST_BYTES, MOST_DEPTH, MOST_DEVICES, MOST_RANK, MOST_RUN, MOST_STEPS, MOST_WORDS,
+    Axis, AxisList, Checked, Device, Dim, DimLists, NotPlaced, Placed, Refusal, Sharding, Sizes,
+    LEAST_BYTES, MOST_AXES, MOST_BYTES, MOST_DEPTH, MOST_DEVICES, MOST_RANK, MOST_RUN, MOST_STEPS,
+    MOST_WORDS,
 };
 use crate::short::Short;
 use std::mem;
@@ -70,24 +72,41 @@ pub fn check_within(file: &[u8], limits: Limits) -> Result<Judged, Refusal> {
 /// Tells how a state is sharded, and where in the table a device's shard begins.
 pub fn place(file: &[u8], state: u16, device: Device) -> Result<Placed, Refusal> {
     let plan = Plan::judge(file)?;
-    let state = plan
-        .states
-        .get(usize::from(state))
-        .ok_or(Refusal::whole(34))?;
-    if device.index() >= plan.mesh.devices {
+    let state = plan.state(state)?;
+    if !plan.has(device) {
         return Err(Refusal::whole(32));
     }
-    let place = plan.order.place(device);
-    let lists = state.sharding.dims.iter();
-    let first = lists
-        .zip(&state.shard)
-        .map(|(list, &size)| plan.mesh.position(place, list) as u16 * size)
-        .collect();
     Ok(Placed {
         sharding: state.sharding,
         shard: state.shard,
-        first,
+        first: state.first(&plan.mesh, plan.order.place(device)),
     })
+}
+
+/// Writes where the shard of each device of a list begins, as many numbers for each as the rank.
+pub fn place_all(
+    file: &[u8],
+    state: u16,
+    devices: &[Device],
+    first: &mut [u16],
+) -> Result<(), NotPlaced> {
+    let plan = Plan::judge(file)?;
+    let state = plan.state(state)?;
+    let rank = state.shard.len();
+    if first.len() < devices.len() * rank {
+        return Err(Refusal::whole(33).into());
+    }
+    if let Some(place) = devices.iter().position(|&device| !plan.has(device)) {
+        return Err(NotPlaced {
+            refusal: Refusal::whole(32),
+            place: Some(place),
+        });
+    }
+    let places = plan.order.places(plan.mesh.devices);
+    for (entries, device) in first.chunks_exact_mut(rank).zip(devices) {
+        entries.copy_from_slice(&state.first(&plan.mesh, places[device.index()]));
+    }
+    Ok(())
 }
 
 /// Lists the devices of a mesh group by group.
@@ -202,6 +221,15 @@ impl Plan {
             states,
             most,
         })
+    }
+
+    fn state(&self, number: u16) -> Result<&State, Refusal> {
+        let state = self.states.get(usize::from(number));
+        state.ok_or(Refusal::whole(34))
+    }
+
+    fn has(&self, device: Device) -> bool {
+        device.index() < self.mesh.devices
     }
 
     fn last(&self) -> &State {
@@ -540,6 +568,7 @@ impl Source for Reader<'_> {
                 target: Dim(self.byte()?),
                 axes: self.list(axes)?,
             },
+            5 => Step::Scatter(self.lists(axes, rank)?),
             _ => return Ok(None),
         };
         Ok(Some(step))
@@ -665,6 +694,15 @@ impl Order {
         listed.unwrap_or(device.index())
     }
 
+    /// The place of each device, by its number.
+    fn places(&self, devices: usize) -> Vec<usize> {
+        let mut places: Vec<usize> = (0..devices).collect();
+        for (place, device) in self.0.iter().enumerate() {
+            places[device.index()] = place;
+        }
+        places
+    }
+
     /// Puts shards that lie by device number where the places are.
     fn by_place(&self, words: usize, old: &[u32], new: &mut [u32]) {
         for (shard, device) in new.chunks_exact_mut(words).zip(&self.0) {
@@ -737,6 +775,14 @@ impl State {
     }
 
     /// The words of one shard.
+    /// Where in the table the shard of the device at a place begins.
+    fn first(&self, mesh: &Mesh, place: usize) -> Sizes {
+        let lists = self.sharding.dims.iter().zip(&self.shard);
+        lists
+            .map(|(list, &size)| mesh.position(place, list) as u16 * size)
+            .collect()
+    }
+
     fn words(&self) -> usize {
         self.shard.iter().map(|&size| usize::from(size)).product()
     }
@@ -754,6 +800,25 @@ impl State {
             dim.extend(list);
         }
         next.shard = divided(mesh, &self.shard, lists).ok_or(25)?;
+        Ok(next)
+    }
+
+    fn scattered(&self, mesh: &Mesh, lists: &DimLists) -> Result<State, u8> {
+        let named: Vec<Axis> = lists.iter().flatten().copied().collect();
+        if (1..named.len()).any(|at| named[..at].contains(&named[at])) {
+            return Err(23);
+        }
+        let unreduced = self.sharding.unreduced;
+        if named.iter().any(|axis| !unreduced.contains(axis)) {
+            return Err(27);
+        }
+        let mut next = *self;
+        next.shard = divided(mesh, &self.shard, lists).ok_or(25)?;
+        let kept = unreduced.iter().filter(|axis| !named.contains(axis));
+        next.sharding.unreduced = kept.copied().collect();
+        for (dim, list) in next.sharding.dims.iter_mut().zip(lists) {
+            dim.extend(list);
+        }
         Ok(next)
     }
 
@@ -808,13 +873,15 @@ enum Step {
         target: Dim,
         axes: AxisList,
     },
+    /// A reduction along all its axes, and then a slice.
+    Scatter(DimLists),
 }
 
 impl Step {
     /// All axes of the step, in file order.
     fn axes(&self) -> &[AxisList] {
         match self {
-            Step::Slice(lists) | Step::Gather(lists) => lists,
+            Step::Slice(lists) | Step::Gather(lists) | Step::Scatter(lists) => lists,
             Step::Reduce(axes) | Step::AllToAll { axes, .. } => std::slice::from_ref(axes),
         }
     }
@@ -840,6 +907,7 @@ impl Step {
                 let (gathered, sliced) = self.movement(rank);
                 state.gathered(mesh, &gathered)?.sliced(mesh, &sliced)
             }
+            Step::Scatter(lists) => state.scattered(mesh, lists),
         }
     }
 
@@ -848,7 +916,7 @@ impl Step {
         let none: DimLists = (0..rank).map(|_| AxisList::new()).collect();
         let (mut gathered, mut sliced) = (none, none);
         match self {
-            Step::Slice(lists) => sliced = *lists,
+            Step::Slice(lists) | Step::Scatter(lists) => sliced = *lists,
             Step::Gather(lists) => gathered = *lists,
             Step::Reduce(_) => {}
             Step::AllToAll {
@@ -867,18 +935,28 @@ impl Step {
     fn apply(&self, mesh: &Mesh, before: &State, after: &State, old: &[u32], new: &mut [u32]) {
         match self {
             Step::Reduce(axes) => reduce(mesh, axes, before.words(), old, new),
-            _ => {
-                let (gathered, sliced) = self.movement(before.shard.len());
-                let moved = Move {
-                    mesh,
-                    before,
-                    after,
-                    gathered,
-                    sliced,
-                };
-                moved.apply(old, new);
+            Step::Scatter(lists) => {
+                let mut axes: Vec<Axis> = lists.iter().flatten().copied().collect();
+                axes.sort();
+                let mut sums = vec![0; mesh.devices * before.words()];
+                reduce(mesh, &axes, before.words(), old, &mut sums);
+                self.moves(mesh, before, after, &sums, new);
             }
+            _ => self.moves(mesh, before, after, old, new),
         }
+    }
+
+    /// Gathers and slices.
+    fn moves(&self, mesh: &Mesh, before: &State, after: &State, old: &[u32], new: &mut [u32]) {
+        let (gathered, sliced) = self.movement(before.shard.len());
+        let moved = Move {
+            mesh,
+            before,
+            after,
+            gathered,
+            sliced,
+        };
+        moved.apply(old, new);
     }
 }
 

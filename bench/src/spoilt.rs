@@ -89,9 +89,9 @@ fn spoil_record(random: &mut Random, steps: &mut [StepRecord]) -> Option<()> {
             false => *steps = steps.wrapping_add(random.pick(&[1, 255])),
         },
         _ if random.once_in(2) => {
-            *step = StepRecord::Unknown(random.pick(&[0, 5, 6, 7, 8, 10, 255]))
+            *step = StepRecord::Unknown(random.pick(&[0, 6, 7, 8, 10, 255]))
         }
-        StepRecord::Slice(lists) | StepRecord::Gather(lists) => {
+        StepRecord::Slice(lists) | StepRecord::Gather(lists) | StepRecord::Scatter(lists) => {
             let list = random.below(lists.len());
             lists[list].resize(random.pick(&[0, MOST_AXES, MOST_AXES + 1, 255]), Axis(1));
         }
@@ -108,7 +108,7 @@ fn spoil_record(random: &mut Random, steps: &mut [StepRecord]) -> Option<()> {
 fn random_list<'a>(random: &mut Random, draft: &'a mut Draft) -> Option<&'a mut Vec<Axis>> {
     fn gathered<'a>(step: &'a mut Step, all: &mut Vec<&'a mut Vec<Axis>>) {
         match step {
-            Step::Slice(lists) | Step::Gather(lists) => all.extend(lists),
+            Step::Slice(lists) | Step::Gather(lists) | Step::Scatter(lists) => all.extend(lists),
             Step::Reduce(axes) | Step::AllToAll(_, _, axes) => all.push(axes),
             Step::Repeat(_, block) => block.iter_mut().for_each(|step| gathered(step, all)),
             Step::Bytes(_) => {}
@@ -142,7 +142,7 @@ pub fn spoil(random: &mut Random, draft: &mut Draft) -> Option<()> {
             let at = random.below(draft.steps.len() + 1);
             let block = draft.steps.clone();
             let step = match random.below(4) {
-                0 => Step::Bytes(vec![random.pick(&[0, 5, 8, 10, 255])]),
+                0 => Step::Bytes(vec![random.pick(&[0, 6, 8, 10, 255])]),
                 1 => Step::AllToAll(Dim(random.byte() % 5), Dim(1), axes(&[0])),
                 _ => Step::Repeat(random.pick(&[0, 1, 2, 255]), block),
             };

@@ -34,7 +34,7 @@ fn accepted_plans_are_accepted() {
 fn repeats_are_of_many_kinds() {
     let mut random = Random::new(7);
     let (mut of_depth, mut odd, mut past_64) = ([0; 5], 0, 0);
-    for _ in 0..1000 {
+    for _ in 0..3000 {
         let draft = small(&mut random);
         of_depth[blocks::depth(&draft.steps)] += 1;
         past_64 += usize::from(blocks::kinds(&draft.steps) > 64);

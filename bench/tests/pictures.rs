@@ -114,6 +114,22 @@ fn all_to_all_as_drawn() {
     assert_picture(&draft, &shards(before, 3), &shards(after, 3));
 }
 
+/// Its types do not match its picture, and it names max where its numbers are sums: document 02 goes
+/// by the picture. The table is 4x2, rows split along axis 0 and parts of a sum along axis 1.
+#[test]
+fn reduce_scatter_as_drawn() {
+    let after = "
+        |  6  8 | 10 12 |
+        ---
+        | 22 24 | 26 28 |";
+    let draft = Draft {
+        table: vec![4, 2],
+        unreduced: axes(&[1]),
+        ..on_mesh_2x2(&[&[0], &[]], Step::Scatter(lists(&[&[1], &[]])))
+    };
+    assert_picture(&draft, &shards(APART, 2), &shards(after, 2));
+}
+
 /// 000's words on group order: with the list [3, 1], device (i, 1, k, 0) comes before both
 /// (i, 0, k, 1) and (i, 2, k, 0).
 #[test]

@@ -266,7 +266,7 @@ fn a_file_past_the_limit_gets_2_before_35() {
         assert_refused(&records, 2, 0);
         // The refusal of the records themselves comes first.
         let last = records.steps.len() as u16;
-        *records.steps.last_mut().expect("a step") = StepRecord::Unknown(5);
+        *records.steps.last_mut().expect("a step") = StepRecord::Unknown(6);
         assert_refused(&records, 20, last);
     }
     assert_refused(&small(vec![repeat(1, 1); 65535]), 42, 5);

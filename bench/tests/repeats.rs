@@ -317,7 +317,7 @@ fn step_numbers_count_kind_bytes() {
     assert_refused(&after(bytes(&[9, 0])), 44, 9);
     assert_accepted(&after(slice(&[0])), 4);
     // Kinds next to a repeat's are none, inside a block too.
-    for kind in [0, 5, 8, 10, 255] {
+    for kind in [0, 6, 8, 10, 255] {
         assert_refused(&plan(vec![bytes(&[kind])]), 20, 1);
         assert_refused(&plan(vec![repeat(1, vec![bytes(&[kind])])]), 20, 2);
     }

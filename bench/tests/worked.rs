@@ -1,7 +1,8 @@
 //! The worked plans of document 01, the cases at the limits, those in its ledger's last line, as
-//! document 02 moves them, the replicated list of edition 2 and the order of edition 3.
+//! document 02 moves them, the replicated list of edition 2, the order of edition 3 and the placement
+//! of a list of devices.
 
-use bench::answers::{Device, Dim, Refusal};
+use bench::answers::{Device, Dim, NotPlaced, Refusal};
 use bench::plans::{axes, devices, lists, mend_length, Draft, Step};
 use bench::{hex, implementations, Implementation};
 
@@ -136,6 +137,57 @@ fn w4_places_by_the_order_of_the_list() {
         assert_eq!([0, 1, 2, 3].map(first), [0, 2, 1, 3]);
         assert_eq!(one.place(&w4(vec![]), 1, Device(4)), refusal(34, 0));
         assert_eq!(one.place(&w4(vec![]), 0, Device(4)), refusal(32, 0));
+    }
+}
+
+/// A list is placed, or refused, into an output that is filled before, and it has these numbers after.
+fn assert_list(
+    one: &dyn Implementation,
+    (file, state, list): (&[u8], u16, &[u16]),
+    length: usize,
+    answer: Result<&[u16], NotPlaced>,
+) {
+    let mut first = vec![9999; length];
+    let mut after = first.clone();
+    let told = one.place_all(file, state, &devices(list), &mut first);
+    assert_eq!(told, answer.map(|_| ()), "{}", one.name());
+    let written = answer.unwrap_or(&[]);
+    after[..written.len()].copy_from_slice(written);
+    assert_eq!(first, after, "{}", one.name());
+}
+
+fn not_placed<T>(number: u8, step: u16, place: Option<usize>) -> Result<T, NotPlaced> {
+    let refusal = Refusal { number, step };
+    Err(NotPlaced { refusal, place })
+}
+
+#[test]
+fn w4_places_a_list_in_one_call() {
+    let file = &w4(vec![]);
+    for one in implementations() {
+        assert_list(one, (file, 0, &[0, 1, 2, 3]), 4, Ok(&[0, 2, 1, 3]));
+        assert_list(one, (file, 0, &[1, 3, 1]), 7, Ok(&[2, 3, 2]));
+        assert_list(one, (file, 0, &[]), 0, Ok(&[]));
+        assert_list(one, (file, 0, &[]), 2, Ok(&[]));
+        assert_list(one, (&w1(), 0, &[3, 1]), 5, Ok(&[2, 2, 0, 2]));
+        assert_list(one, (&w1(), 1, &[3, 1]), 4, Ok(&[2, 0, 0, 0]));
+    }
+}
+
+#[test]
+fn a_list_is_refused_at_the_first_device_that_is_not_there() {
+    let file = &w4(vec![]);
+    let outer = &w4(vec![Step::Gather(lists(&[&[1]]))]);
+    for one in implementations() {
+        assert_list(one, (file, 0, &[4]), 1, not_placed(32, 0, Some(0)));
+        let two = (&file[..], 0, &[0, 3, 65535, 1, 4][..]);
+        assert_list(one, two, 9, not_placed(32, 0, Some(2)));
+        // A short output before that, then the state, then the file.
+        assert_list(one, two, 4, not_placed(33, 0, None));
+        assert_list(one, (&w1(), 0, &[0, 1]), 3, not_placed(33, 0, None));
+        assert_list(one, (file, 1, two.2), 4, not_placed(34, 0, None));
+        assert_list(one, (file, 1, &[]), 0, not_placed(34, 0, None));
+        assert_list(one, (outer, 9, two.2), 0, not_placed(24, 1, None));
     }
 }
 
@@ -434,6 +486,10 @@ fn a_device_is_placed_where_the_order_lists_it() {
         let after = [(0, 0), (0, 1), (0, 1), (0, 0), (0, 0), (0, 1)];
         assert_eq!(firsts(one, &draft, 1), after);
         assert_eq!(one.place(&draft.encode(), 0, Device(6)), refusal(32, 0));
+        let list = (&draft.encode()[..], 0, &[5, 1, 4, 1, 6][..]);
+        assert_list(one, list, 10, not_placed(32, 0, Some(4)));
+        let list = (list.0, 0, &list.2[..4]);
+        assert_list(one, list, 9, Ok(&[4, 1, 2, 1, 2, 0, 2, 1]));
     }
     // W4's mesh with an order that is not its own inverse.
     draft.mesh = vec![2, 2];

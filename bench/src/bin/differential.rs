@@ -6,6 +6,8 @@
 #[cfg_attr(library, path = "differential/boundary.rs")]
 #[cfg_attr(not(library), path = "differential/no_boundary.rs")]
 mod boundary;
+#[path = "differential/lists.rs"]
+mod lists;
 #[path = "differential/records.rs"]
 mod records;
 
@@ -57,13 +59,14 @@ struct Tally {
     runs_of_repeats: usize,
     runs_of_most_steps: usize,
     placements: usize,
+    lists: lists::Tally,
     listings: usize,
     listings_by_order: usize,
     runs: usize,
     runs_at_a_limit: usize,
     runs_at_most_room: usize,
     /// Slices, gathers, reductions, all-to-alls.
-    steps: [usize; 4],
+    steps: [usize; 5],
     longer_buffers: usize,
     refused_runs: usize,
     faithful: usize,
@@ -88,6 +91,12 @@ impl Met {
         if let Err(refusal) = answer {
             *self.0.entry(refusal.number).or_default() += 1;
         }
+    }
+
+    /// Those of a call's numbers that were not met.
+    fn missing(&self, call: &str, numbers: &[u8]) -> Vec<String> {
+        let missing = numbers.iter().filter(|number| !self.0.contains_key(number));
+        missing.map(|number| format!("{call} {number}")).collect()
     }
 }
 
@@ -118,6 +127,7 @@ impl Tally {
                 Step::Gather(_) => self.steps[1] += 1,
                 Step::Reduce(_) => self.steps[2] += 1,
                 Step::AllToAll(..) => self.steps[3] += 1,
+                Step::Scatter(_) => self.steps[4] += 1,
                 Step::Repeat(..) | Step::Bytes(_) => {}
             }
         }
@@ -139,7 +149,7 @@ fn main() -> ExitCode {
     let mut tally = Tally::default();
     let outcome = compare(&mut Random::new(seed), files, runs, &mut tally);
     println!("seed {seed}\n{tally}");
-    let missing = tally.records.missing();
+    let missing = [tally.lists.missing(), tally.records.missing()].concat();
     match outcome {
         Ok(()) if files >= ENOUGH_FILES && library().is_some() && !missing.is_empty() => {
             println!("refusals that were not met: {}", missing.join(", "));
@@ -161,6 +171,7 @@ fn compare(random: &mut Random, files: u64, runs: u64, tally: &mut Tally) -> Out
         for _ in 0..files {
             let file = random_file(random, tally);
             compare_file(random, library, &file, tally)?;
+            lists::compare_place_all(random, library, &file, &mut tally.lists)?;
             compare_groups(random, library, tally)?;
             records::compare_read(random, library, &file, &mut tally.records)?;
             records::compare_write(random, library, &mut tally.records)?;
@@ -654,7 +665,7 @@ fn is_cleared(layout: &Layout, work: &[u32], spare: &[u32]) -> bool {
 impl fmt::Display for Tally {
     fn fmt(&self, f: &mut fmt::Formatter) -> fmt::Result {
         let files = self.accepted + self.broken + self.damaged + self.limits;
-        let [slices, gathers, reductions, all_to_alls] = self.steps;
+        let [slices, gathers, reductions, all_to_alls, scatters] = self.steps;
         writeln!(f, "{files} files checked")?;
         writeln!(f, "    {} accepted", self.accepted)?;
         writeln!(f, "    {} broken in a chosen way", self.broken)?;
@@ -683,6 +694,7 @@ impl fmt::Display for Tally {
         }
         let met = self.refusals.0.len();
         writeln!(f, "{} placements", self.placements)?;
+        writeln!(f, "{}", self.lists)?;
         let by_order = self.listings_by_order;
         writeln!(
             f,
@@ -700,7 +712,10 @@ impl fmt::Display for Tally {
             "    {repeats} with repeats, {most} of {MOST_RUN} plain steps"
         )?;
         writeln!(f, "    {slices} slices, {gathers} gathers")?;
-        writeln!(f, "    {reductions} reductions, {all_to_alls} all-to-alls")?;
+        writeln!(
+            f,
+            "    {reductions} reductions, {all_to_alls} all-to-alls, {scatters} reduce-scatters"
+        )?;
         let any = self.runs - self.faithful;
         let (refused, longer) = (self.refused_runs, self.longer_buffers);
         writeln!(

@@ -92,6 +92,7 @@ fn main() -> ExitCode {
         bench.begin_round();
         preface(&mut bench.page, rounds);
         small_calls(&mut bench);
+        placed_lists(&mut bench);
         one_step_runs(&mut bench);
         steps_alone(&mut bench);
         whole_runs(&mut bench);
@@ -140,6 +141,7 @@ struct Limits {
     reduction: Limit,
     order: Limit,
     repeated: Limit,
+    placed_list: Limit,
     small_call: Limit,
     one_step_run: Limit,
     step: Limit,
@@ -194,6 +196,7 @@ impl Limits {
             reduction: Limit::new("reduction / addition of shards", 1.5),
             order: Limit::new("an order's part / copies in and out", 2.0),
             repeated: Limit::new("step of a block / step of a flat file", 1.2),
+            placed_list: Limit::new("list of devices / single placements", 1.0),
             small_call: Limit::new("small call / reference", 1.0),
             one_step_run: Limit::new("run of one step / reference", 1.0),
             step: Limit::new("step / reference", 1.0),
@@ -238,7 +241,7 @@ impl Limits {
             &self.whole,
             &self.order,
         ];
-        let beside_others = [&self.reduction, &self.repeated];
+        let beside_others = [&self.reduction, &self.repeated, &self.placed_list];
         let beside_reference = [
             &self.small_call,
             &self.one_step_run,
@@ -657,21 +660,26 @@ fn with_order(label: &str, devices: usize) -> String {
     format!("{label}{order}")
 }
 
-/// A plan of some steps of several kinds, on four axes and three dimensions. Its 32 devices have an
-/// order, or none.
-fn steps_file(steps: usize, order: usize) -> Vec<u8> {
+/// So many steps along axes 2 and 3, and back again.
+fn of_several_kinds(steps: usize) -> Vec<Step> {
     let there_and_back = [
         Step::Slice(vec![axes(&[2]), axes(&[]), axes(&[3])]),
         Step::AllToAll(Dim(0), Dim(1), axes(&[2])),
         Step::Gather(vec![axes(&[]), axes(&[2]), axes(&[])]),
         Step::Gather(vec![axes(&[]), axes(&[]), axes(&[3])]),
     ];
+    there_and_back.into_iter().cycle().take(steps).collect()
+}
+
+/// A plan of some steps of several kinds, on four axes and three dimensions. Its 32 devices have an
+/// order, or none.
+fn steps_file(steps: usize, order: usize) -> Vec<u8> {
     let draft = Draft {
         mesh: vec![2, 2, 4, 2],
         order: any_order(order),
         table: vec![16, 16, 16],
         start: vec![axes(&[0]), axes(&[1]), axes(&[])],
-        steps: there_and_back.iter().cycle().take(steps).cloned().collect(),
+        steps: of_several_kinds(steps),
         ..Draft::default()
     };
     draft.encode()
@@ -695,14 +703,17 @@ fn repeated_file(count: u8, pairs: usize) -> Vec<u8> {
     draft.encode()
 }
 
-fn small_call(bench: &mut Bench, label: &str, mut call: impl FnMut(&dyn Implementation)) {
-    const CALLS: usize = 2000;
-    let times = Times::NONE.least(|one| {
+/// The times of one call among so many.
+fn call_times(calls: usize, mut call: impl FnMut(&dyn Implementation)) -> Times {
+    Times::NONE.least(|one| {
         let start = Instant::now();
-        (0..CALLS).for_each(|_| call(one));
-        start.elapsed().as_secs_f64() * 1e6 / CALLS as f64
-    });
-    let times = bench.kept_both(times);
+        (0..calls).for_each(|_| call(one));
+        start.elapsed().as_secs_f64() * 1e6 / calls as f64
+    })
+}
+
+fn small_call(bench: &mut Bench, label: &str, call: impl FnMut(&dyn Implementation)) {
+    let times = bench.kept_both(call_times(2000, call));
     let limit = &mut bench.limits.small_call;
     limit.see(times.library, times.reference, label);
     say!(
@@ -712,6 +723,82 @@ fn small_call(bench: &mut Bench, label: &str, mut call: impl FnMut(&dyn Implemen
         times.reference,
         shown(ratio(times.library, times.reference), 7, 2),
     );
+}
+
+fn placed_lists(bench: &mut Bench) {
+    say!(bench.page, "\n### Placements of a list\n");
+    say!(
+        bench.page,
+        "The first indexes of every device of a mesh, in a state of a plan of 8 steps: all in"
+    );
+    say!(
+        bench.page,
+        "one call, and with a single placement for each. `reference` is in one call.\n"
+    );
+    say!(
+        bench.page,
+        "    {:<20} {:>9} {:>9} {:>10} {:>9} {:>7}",
+        "devices",
+        "one call",
+        "single",
+        "one/single",
+        "reference",
+        "lib/ref"
+    );
+    for devices in [MIDDLE.devices, MOST_DEVICES] {
+        for order in [0, devices] {
+            placed_list(bench, devices, order);
+        }
+    }
+}
+
+fn placed_list(bench: &mut Bench, devices: usize, order: usize) {
+    const CALLS: usize = 40;
+    const STATE: u16 = 6;
+    let file = placed_file(devices, order);
+    let list: Vec<Device> = (0..devices as u16).map(Device).collect();
+    let mut first = vec![0; 3 * devices];
+    let at_once = call_times(CALLS, |one| {
+        let answer = one.place_all(black_box(&file), STATE, &list, &mut first);
+        answer.expect("devices of the benchmark");
+        black_box(&mut first);
+    });
+    let single = call_times(CALLS, |one| {
+        for &device in &list {
+            black_box(one.place(black_box(&file), STATE, device).is_ok());
+        }
+    });
+    let (at_once, single) = (bench.kept_both(at_once), bench.kept_both(single));
+    let label = with_order(&format!("{devices} devices"), order);
+    let against = at_once.with(single, |at_once, single| at_once / single);
+    let limits = &mut bench.limits;
+    limits.placed_list.see(against.library, 1.0, &label);
+    limits
+        .small_call
+        .see(at_once.library, at_once.reference, &label);
+    say!(
+        bench.page,
+        "    {:<20} {} {} {} {:>9.1} {}",
+        with_order(&devices.to_string(), order),
+        shown(at_once.library, 9, 1),
+        shown(single.library, 9, 1),
+        shown(against.library, 10, 3),
+        at_once.reference,
+        shown(ratio(at_once.library, at_once.reference), 7, 2),
+    );
+}
+
+/// A plan of 8 steps, on four axes and three dimensions. Its devices have an order, or none.
+fn placed_file(devices: usize, order: usize) -> Vec<u8> {
+    let draft = Draft {
+        mesh: vec![4, 4, 8, (devices / 128) as u16],
+        order: any_order(order),
+        table: vec![32, 64, 32],
+        start: vec![axes(&[0]), axes(&[1]), axes(&[])],
+        steps: of_several_kinds(8),
+        ..Draft::default()
+    };
+    draft.encode()
 }
 
 fn one_step_runs(bench: &mut Bench) {

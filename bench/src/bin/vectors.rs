@@ -6,7 +6,7 @@
 //! are no cases. A file whose name ends with `-CALL.jsonl` has a JSON object in each line, as
 //! `tools/json_cases` takes them, and is compared where it is named itself.
 
-use bench::answers::{Axis, Device, Dim, Refusal, Sharding};
+use bench::answers::{Axis, Device, Dim, NotPlaced, Refusal, Sharding};
 use bench::json::Json;
 use bench::records::{MeshAndTable, Records, ShardingRecord, StepRecord};
 use bench::{hex, implementations, Implementation};
@@ -27,10 +27,11 @@ const FILES: [(&str, Compare); 8] = [
 ];
 
 /// The same of files in JSON, by the end of their name.
-const JSON_FILES: [(&str, CompareJson); 6] = [
+const JSON_FILES: [(&str, CompareJson); 7] = [
     ("-check.jsonl", json_check),
     ("-run.jsonl", json_run),
     ("-place.jsonl", json_place),
+    ("-place_all.jsonl", json_place_all),
     ("-groups.jsonl", json_groups),
     ("-write.jsonl", json_write),
     ("-plan.jsonl", json_plan),
@@ -290,6 +291,25 @@ fn json_place(implementation: &dyn Implementation, case: &Json) -> Option<bool> 
     same_json(case, "place", answer)
 }
 
+fn json_place_all(implementation: &dyn Implementation, case: &Json) -> Option<bool> {
+    let state = case.get("state")?.number()?;
+    let devices = case.get("devices")?.list(|id| id.number().map(Device))?;
+    // No shard begins at this index, so an entry that was written can be told from one that was not.
+    let before = vec![u16::MAX; case.get("room")?.number()?];
+    let mut first = before.clone();
+    let answer = implementation.place_all(&json_file(case)?, state, &devices, &mut first);
+    let written = first.partition_point(|index| *index != u16::MAX);
+    let stayed = first[written..] == before[written..] && (answer.is_ok() || written == 0);
+    let answered = match answer {
+        Ok(()) => json_numbers(&first[..written]),
+        Err(NotPlaced { refusal, place }) => object([
+            ("no", json_refusal(refusal)),
+            ("place", Json::Number(place.unwrap_or(0) as u64)),
+        ]),
+    };
+    Some(*case.get("place_all")? == answered && stayed)
+}
+
 fn json_groups(implementation: &dyn Implementation, case: &Json) -> Option<bool> {
     let mesh: Vec<u16> = case.get("mesh")?.numbers()?;
     let order = case.get("order")?.list(|id| id.number().map(Device))?;
@@ -369,20 +389,23 @@ fn json_step(step: &Json) -> Option<StepRecord> {
             let (source, target) = (dim(source)?, dim(target)?);
             Some(StepRecord::AllToAll(source, target, json_axes(axes)?))
         }
+        (5, [lists]) => Some(StepRecord::Scatter(lists.list(json_axes)?)),
         (9, [count, steps]) => {
             let (count, steps) = (count.number()?, steps.number()?);
             Some(StepRecord::Repeat { count, steps })
         }
-        (1..=4 | 9, _) => None,
+        (1..=5 | 9, _) => None,
         _ => Some(StepRecord::Unknown(kind)),
     }
 }
 
 fn same_json(case: &Json, call: &str, answer: Result<Json, Refusal>) -> Option<bool> {
-    let answer = answer.unwrap_or_else(|refusal| {
-        object([("no", json_numbers(&[refusal.number.into(), refusal.step]))])
-    });
+    let answer = answer.unwrap_or_else(|refusal| object([("no", json_refusal(refusal))]));
     Some(*case.get(call)? == answer)
+}
+
+fn json_refusal(refusal: Refusal) -> Json {
+    json_numbers(&[refusal.number.into(), refusal.step])
 }
 
 fn json_file(case: &Json) -> Option<Vec<u8>> {

@@ -68,6 +68,7 @@ fn add_records(item: &Item, records: &mut Vec<StepRecord>) {
                 target,
                 axes,
             } => StepRecord::AllToAll(*source, *target, axes.to_vec()),
+            Step::Scatter(lists) => StepRecord::Scatter(vecs(lists)),
         }),
         Item::Repeat(count, block) => {
             records.push(StepRecord::Repeat {
@@ -203,6 +204,7 @@ impl Source for Walk<'_> {
                 target: *target,
                 axes: list(given, axes)?,
             }),
+            Some(StepRecord::Scatter(given)) => Some(Step::Scatter(lists(given, axes)?)),
             _ => None,
         })
     }
@@ -214,6 +216,7 @@ fn kind(step: &StepRecord) -> u8 {
         StepRecord::Gather(_) => 2,
         StepRecord::Reduce(_) => 3,
         StepRecord::AllToAll(..) => 4,
+        StepRecord::Scatter(_) => 5,
         StepRecord::Repeat { .. } => REPEAT,
         StepRecord::Unknown(kind) => *kind,
     }
@@ -275,7 +278,9 @@ fn list_bytes(lists: &[Vec<Axis>]) -> Vec<u8> {
 fn step_bytes(step: &StepRecord) -> Vec<u8> {
     let mut bytes = vec![kind(step)];
     match step {
-        StepRecord::Slice(lists) | StepRecord::Gather(lists) => bytes.extend(list_bytes(lists)),
+        StepRecord::Slice(lists) | StepRecord::Gather(lists) | StepRecord::Scatter(lists) => {
+            bytes.extend(list_bytes(lists))
+        }
         StepRecord::Reduce(axes) => bytes.extend(list_bytes(slice::from_ref(axes))),
         StepRecord::AllToAll(source, target, axes) => {
             bytes.extend([source.0, target.0]);

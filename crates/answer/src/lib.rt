@@ -3,8 +3,8 @@
 // the steps inside it, and the sizes are those of `dims::shard_of` after it. These calls answer document 01's
 // definitions; that the lines are 01's is tested (tests/plans.txt).
 ghost use mathlib.Core.Path.{_≡_};
-ghost use Rattle.rules.specs.Refusals.{numberOf};
-ghost use Rattle.rules.specs.Promises.{CheckPromise};
+ghost use Rattle.types.specs.Answers.{numberOf};
+ghost use Rattle.types.specs.Promises.{CheckPromise};
 ghost use Rattle.plan.specs.Parts.{Begins};
 use blocks::judge_item;
 use dims::shard_of;
@@ -19,10 +19,10 @@ use libc::STDOUT_FILENO;
 use opening::open;
 use reader::Next;
 use reasons::number_of;
-use rules::Mesh;
-use rules::Step;
-use rules::Table;
 use taking::shard_words;
+use types::Mesh;
+use types::Step;
+use types::Table;
 
 fn print_number(n: u64) {
     io::print_decimal(STDOUT_FILENO, n);

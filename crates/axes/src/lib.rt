@@ -4,16 +4,16 @@ ghost use mathlib.Core.Bool.{true, false};
 ghost use mathlib.Core.List.{[], _∷_, _++_};
 ghost use Prim.Native.Nat.{_+_, _≤_, _<_};
 ghost use lib.ListN.{length, getD, set};
-ghost use Rattle.rules.specs.Lists.{pick, mem, without as withoutOf};
+ghost use Rattle.rules.specs.Lists.{tab, pick, mem, keep, without as withoutOf};
 ghost use Rattle.rules.specs.Limits.{mostAxes};
 ghost use Rattle.rules.specs.Mesh.{span as spanOf};
 ghost use Rattle.rules.specs.Collectives.{cutTail};
 ghost use Rattle.rules.specs.PlanFile.{allBelow, increasingFrom, allIn, isTail};
-ghost use Rattle.rules.specs.Types.{axesOf, meshOf, Sized};
+ghost use Rattle.types.specs.Types.{axesOf, meshOf, Sized};
 ghost use Rattle.axes.specs.Marks.{marksWith};
-use rules::Axis;
-use rules::AxisList;
-use rules::Mesh;
+use types::Axis;
+use types::AxisList;
+use types::Mesh;
 
 // The product of the sizes of a list's axes.
 pub fn span(list: AxisList, mesh: Mesh) -> usize
@@ -181,6 +181,22 @@ pub fn is_marked(marks: &[bool], a: Axis) -> bool
 {
     let i = a.0 as usize;
     if i < marks.len() { marks[i] } else { false }
+}
+
+// The axes below n that are marked, in increasing order.
+pub fn marked_below(marks: &[bool], n: usize) -> AxisList
+    requires { ⌜ n ≤ mostAxes ⌝ }
+    ensures { λ r. ⌜ axesOf r ≡ keep (λ a. getD (now (marks .entry)) a false) (tab n (λ a. a)) ⌝ }
+{
+    let mut kept = AxisList::empty();
+    let mut i: usize = 0;
+    while i < n {
+        let axis = Axis(i as u8);
+        let free = !is_marked(marks, axis);
+        kept = unless(free, kept, axis);
+        i += 1;
+    }
+    kept
 }
 
 // Marks one axis more. Marks are lent: handed on by value they would be copied for each axis.

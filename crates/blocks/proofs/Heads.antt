@@ -9,11 +9,12 @@ use native.Mathlib.Omega.{arith}
 use native.Mathlib.Decide.{decLt}
 use borrow.Author.Tests.{lt-ltb, le-ltb}
 use lib.ListN.{length, getD, List·getD-eq-default}
-use Rattle.rules.specs.Refusals.{Judged, accept, refuse, _>>_, refusedAs}
+use Rattle.rules.specs.Refusals.{Judged, accept, refuse, _>>_}
+use Rattle.types.specs.Answers.{refusedAs}
 use Rattle.rules.specs.PlanFile.{positiveAt, isRepeat}
-use Rattle.rules.specs.declared.Refusal.{Refusal}
-use Rattle.rules.proofs.Judging.{never, accept-inj, bind-inv}
-use Rattle.rules.proofs.Repeats.{positive-inv}
+use Rattle.types.specs.declared.Refusal.{Refusal}
+use Rattle.laws.proofs.Judging.{never, accept-inj, bind-inv}
+use Rattle.laws.proofs.Repeats.{positive-inv}
 use Rattle.blocks.specs.Blocks.{positiveRead, positiveRefusal, Head, notTooDeep, headAt, repeatRead, repeatRefusal}
 use Rattle.blocks.specs.declared.Positive.{Positive}
 use Rattle.blocks.specs.declared.Positive.the-variants as positive

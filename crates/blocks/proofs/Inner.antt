@@ -2,21 +2,20 @@
 -- ways out. Assumes nothing.
 use Prim.Native.Nat.{ℕ, zero, suc, _+_, _-_, _*_, _≤_, _<_, max}
 use mathlib.Core.Path.{_≡_, refl, sym, ap, _∙_, subst}
-use mathlib.Core.Bool.{true}
 use mathlib.Core.List.{List, [], _++_, append-assoc, append-nil}
 use native.Mathlib.Omega.{arith}
 use lib.ListN.{length, getD, length-append}
 use Rattle.rules.specs.Lists.{inTurn}
-use Rattle.rules.specs.Limits.{mostRun}
+use Rattle.rules.specs.Limits.{mostRun, everyKind}
 use Rattle.rules.specs.Sharding.{Sharding, IsSharding}
 use Rattle.rules.specs.Collectives.{Step, after}
 use Rattle.rules.specs.Refusals.{Judged, accept, refuse, _>>=_}
 use Rattle.rules.specs.PlanFile.{Read, StepsRead, JudgesSteps, stepsAt, itemAt}
-use Rattle.rules.specs.Demands.{onePass, largestOn}
-use Rattle.rules.proofs.Lists.{in-turn-append}
-use Rattle.rules.proofs.Turns.{steps-sharding, last-largest, largest-append}
-use Rattle.rules.proofs.Repeats.{pass-append, Told, item-tells}
-use Rattle.rules.proofs.Bytes.{Takes, TakesAll, item-takes}
+use Rattle.laws.specs.Demands.{onePass, largestOn}
+use Rattle.laws.proofs.Lists.{in-turn-append}
+use Rattle.laws.proofs.Turns.{steps-sharding, last-largest, largest-append}
+use Rattle.laws.proofs.Repeats.{pass-append, Told, item-tells}
+use Rattle.laws.proofs.Bytes.{Takes, TakesAll, item-takes}
 use Rattle.blocks.specs.Blocks.{Summary, shardWords, summarized}
 use Rattle.blocks.proofs.Plain.{summary-inv}
 
@@ -50,7 +49,7 @@ after-joined d w (refuse a b) = refl
 
 module _ (mesh sizes file : List ℕ) (depth : ℕ) where
   abbrev steps : JudgesSteps
-  steps = stepsAt (itemAt true mesh sizes file depth)
+  steps = stepsAt (itemAt everyKind mesh sizes file depth)
 
   -- i of the inner steps are judged
   pub record Inner (count k₀ at₀ largest₀ : ℕ) (s₀ : Sharding) (i k at runs largest : ℕ) (s : Sharding) : Type 0 where
@@ -90,7 +89,7 @@ module _ (mesh sizes file : List ℕ) (depth : ℕ) where
   abbrev further : (count k : ℕ) → StepsRead → Judged StepsRead
   further count k w = _>>=_ (steps count (k + length (w .records)) (w .next) (w .sharding)) (λ r. accept (joined w r))
 
-  first-of : (count k at : ℕ) (s : Sharding) {j : Judged StepsRead} → 0 < count → itemAt true mesh sizes file depth k at s ≡ j
+  first-of : (count k at : ℕ) (s : Sharding) {j : Judged StepsRead} → 0 < count → itemAt everyKind mesh sizes file depth k at s ≡ j
       → steps count k at s ≡ _>>=_ j (further (count - 1) k)
   unfolding stepsAt
   first-of zero k at s h e = absurd (omega arith)
@@ -100,7 +99,7 @@ module _ (mesh sizes file : List ℕ) (depth : ℕ) where
 
   module _ {count k₀ at₀ largest₀ : ℕ} {s₀ : Sharding} {i k at runs largest : ℕ} {s : Sharding}
       (g : Inner count k₀ at₀ largest₀ s₀ i k at runs largest s) where
-    pub inner-stops : {a b : ℕ} → i < count → itemAt true mesh sizes file depth k at s ≡ refuse a b → steps count k₀ at₀ s₀ ≡ refuse a b
+    pub inner-stops : {a b : ℕ} → i < count → itemAt everyKind mesh sizes file depth k at s ≡ refuse a b → steps count k₀ at₀ s₀ ≡ refuse a b
     inner-stops h e = g .same ∙ ap (after-these (g .done)) (first-of (count - i) k at s (omega arith) e)
 
     pub inner-done : count ≤ i → steps count k₀ at₀ s₀ ≡ accept (g .done)
@@ -120,12 +119,12 @@ module _ (mesh sizes file : List ℕ) (depth : ℕ) where
 
     -- the next of them is accepted
     module _ (pos : (a : ℕ) → 0 < getD mesh a 1) (h : i < count) {k′ runs′ largest′ at′ : ℕ} {s′ : Sharding}
-        (e : summarized mesh sizes k largest s (itemAt true mesh sizes file depth k at s)
+        (e : summarized mesh sizes k largest s (itemAt everyKind mesh sizes file depth k at s)
         ≡ accept (record { value = record { number = k′; runs = runs′; largest = largest′; sharding = s′ }; next = at′ })) where
       pub runs-few : runs′ ≤ mostRun
       runs-few =
           let x = summary-inv mesh sizes k largest s _ _ e in
-          let t : Takes mesh sizes file at (x .0) = item-takes mesh sizes file true depth k at s (x .0) (x .1) in
+          let t : Takes mesh sizes file at (x .0) = item-takes mesh sizes file everyKind depth k at s (x .0) (x .1) in
           let z : length (x .0 .steps) ≡ runs′ = ap (λ (r : Read Summary). r .value .runs) (x .2) in
           omega (arith, t .few)
 
@@ -135,8 +134,8 @@ module _ (mesh sizes file : List ℕ) (depth : ℕ) where
           let w : StepsRead = x .0 in
           let d : StepsRead = g .done in
           let f : Sharding → ℕ = λ z. shardWords mesh sizes z in
-          let t : Takes mesh sizes file at w = item-takes mesh sizes file true depth k at s w (x .1) in
-          let u : Told mesh sizes file s w = item-tells mesh sizes file true depth k at s w (x .1) in
+          let t : Takes mesh sizes file at w = item-takes mesh sizes file everyKind depth k at s w (x .1) in
+          let u : Told mesh sizes file s w = item-tells mesh sizes file everyKind depth k at s w (x .1) in
           let n-is : k + length (w .records) ≡ k′ = ap (λ (r : Read Summary). r .value .number) (x .2) in
           let r-is : length (w .steps) ≡ runs′ = ap (λ (r : Read Summary). r .value .runs) (x .2) in
           let l-is : max largest (largestOn f s (onePass (w .records))) ≡ largest′ = ap (λ (r : Read Summary). r .value .largest) (x .2) in

@@ -7,27 +7,14 @@ use native.Mathlib.Omega.{arith}
 use lib.ListN.{length, replicate}
 use lib.Dec.{leb}
 use Rattle.rules.specs.Lists.{flat}
-use Rattle.rules.specs.Limits.{mostRun}
+use Rattle.rules.specs.Limits.{mostRun, everyKind}
 use Rattle.rules.specs.Sharding.{Sharding}
 use Rattle.rules.specs.Refusals.{Judged, accept, refuse, _>>=_, _>>_, needAt}
-use Rattle.rules.specs.PlanFile.{
-  Read,
-  repeat,
-  StepsRead,
-  stepsAt,
-  plainAt,
-  positiveAt,
-  sameSharding,
-  repeatAt,
-  isRepeat,
-  itemBy,
-  tooDeep,
-  itemAt,
-}
-use Rattle.rules.specs.Demands.{onePass, largestOn}
-use Rattle.rules.specs.Types.{shardingOf}
-use Rattle.rules.specs.declared.Sharding as code
-use Rattle.rules.proofs.Turns.{length-times}
+use Rattle.rules.specs.PlanFile.{Read, repeat, StepsRead, stepsAt, plainAt, positiveAt, sameSharding, repeatAt, isRepeat, itemBy, tooDeep, itemAt}
+use Rattle.laws.specs.Demands.{onePass, largestOn}
+use Rattle.types.specs.Types.{shardingOf}
+use Rattle.types.specs.declared.Sharding as code
+use Rattle.laws.proofs.Turns.{length-times}
 use Rattle.reader.specs.Reading.{reading, IfRefused, Tells}
 use Rattle.reader.specs.declared.Next.{Next}
 use Rattle.reader.specs.declared.Next.the-variants as next
@@ -66,7 +53,7 @@ module _ (mesh sizes file : List ℕ) (depth k at : ℕ) (s : Sharding) where
 
   -- the inner steps, and the end of the block
   abbrev pub innerSteps : ℕ → Judged StepsRead
-  innerSteps number = stepsAt (itemAt true mesh sizes file (depth - 1)) number (k + 1) (at + 2) s
+  innerSteps number = stepsAt (itemAt everyKind mesh sizes file (depth - 1)) number (k + 1) (at + 2) s
 
   abbrev pub ended : (count number : ℕ) → StepsRead → Judged StepsRead
   ended count number b = do
@@ -94,7 +81,7 @@ module _ (mesh sizes file : List ℕ) (depth k at : ℕ) (s : Sharding) where
       go zero e (accept c) (accept n) = refl
       go (suc d) e (accept c) (accept n) =
           let z : d ≡ depth - 1 = omega arith in
-          ap (λ (m : ℕ). _>>=_ (stepsAt (itemAt true mesh sizes file m) n (k + 1) (at + 2) s) (ended c n)) z
+          ap (λ (m : ℕ). _>>=_ (stepsAt (itemAt everyKind mesh sizes file m) n (k + 1) (at + 2) s) (ended c n)) z
 
   pub head-halts : (largest : ℕ) {a b : ℕ} → headAt depth k file at ≡ refuse a b → summarized mesh sizes k largest s wholeRepeat ≡ refuse a b
   head-halts largest e = ap (summarized mesh sizes k largest s) (by-head ∙ ap (λ (j : Judged Head). _>>=_ j behind) e)
@@ -145,18 +132,18 @@ module _ (mesh sizes file : List ℕ) (depth k at : ℕ) (s : Sharding) where
 -- ---- an item
 
 module _ (mesh sizes file : List ℕ) (depth k at : ℕ) (s : Sharding) where
-  pub item-repeat : isRepeat file at ≡ true → itemAt true mesh sizes file depth k at s ≡ repeatAt (innerAt mesh sizes file depth k) file k (at + 1) s
+  pub item-repeat : isRepeat file at ≡ true → itemAt everyKind mesh sizes file depth k at s ≡ repeatAt (innerAt mesh sizes file depth k) file k (at + 1) s
   unfolding itemAt itemBy
   item-repeat e = go depth
     where
-      go : (d : ℕ) → itemAt true mesh sizes file d k at s ≡ repeatAt (innerAt mesh sizes file d k) file k (at + 1) s
+      go : (d : ℕ) → itemAt everyKind mesh sizes file d k at s ≡ repeatAt (innerAt mesh sizes file d k) file k (at + 1) s
       go zero = ap (λ (b : Bool). itemBy b (tooDeep k) mesh sizes file k at s) e
-      go (suc d) = ap (λ (b : Bool). itemBy b (stepsAt (itemAt true mesh sizes file d)) mesh sizes file k at s) e
+      go (suc d) = ap (λ (b : Bool). itemBy b (stepsAt (itemAt everyKind mesh sizes file d)) mesh sizes file k at s) e
 
-  pub item-plain : isRepeat file at ≡ false → itemAt true mesh sizes file depth k at s ≡ plainAt mesh sizes file k at s
+  pub item-plain : isRepeat file at ≡ false → itemAt everyKind mesh sizes file depth k at s ≡ plainAt mesh sizes file k at s
   unfolding itemAt itemBy
   item-plain e = go depth
     where
-      go : (d : ℕ) → itemAt true mesh sizes file d k at s ≡ plainAt mesh sizes file k at s
+      go : (d : ℕ) → itemAt everyKind mesh sizes file d k at s ≡ plainAt mesh sizes file k at s
       go zero = ap (λ (b : Bool). itemBy b (tooDeep k) mesh sizes file k at s) e
-      go (suc d) = ap (λ (b : Bool). itemBy b (stepsAt (itemAt true mesh sizes file d)) mesh sizes file k at s) e
+      go (suc d) = ap (λ (b : Bool). itemBy b (stepsAt (itemAt everyKind mesh sizes file d)) mesh sizes file k at s) e

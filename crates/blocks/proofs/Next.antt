@@ -1,20 +1,20 @@
 -- A step or a repeat that was accepted leaves all that is asked before the next one. Assumes nothing.
 use Prim.Native.Nat.{ℕ, _+_, _<_, _≤_, max}
 use mathlib.Core.Path.{_≡_, ap, _∙_, subst}
-use mathlib.Core.Bool.{true}
 use mathlib.Core.List.{List}
 use native.Mathlib.Omega.{arith}
 use lib.ListN.{length, getD}
 use Rattle.rules.specs.Sharding.{Sharding, IsSharding}
+use Rattle.rules.specs.Limits.{everyKind}
 use Rattle.rules.specs.PlanFile.{Read, StepsRead, itemAt}
-use Rattle.rules.specs.Demands.{onePass, largestOn}
-use Rattle.rules.specs.Types.{shardingOf, meshOf, sizesOf}
-use Rattle.rules.proofs.Turns.{steps-sharding, last-largest}
-use Rattle.rules.proofs.Repeats.{Told, item-tells}
-use Rattle.rules.proofs.Bytes.{Takes, item-takes}
-use Rattle.rules.specs.declared.Mesh.{Mesh}
-use Rattle.rules.specs.declared.Table.{Table}
-use Rattle.rules.specs.declared.Sharding as code
+use Rattle.laws.specs.Demands.{onePass, largestOn}
+use Rattle.types.specs.Types.{shardingOf, meshOf, sizesOf}
+use Rattle.laws.proofs.Turns.{steps-sharding, last-largest}
+use Rattle.laws.proofs.Repeats.{Told, item-tells}
+use Rattle.laws.proofs.Bytes.{Takes, item-takes}
+use Rattle.types.specs.declared.Mesh.{Mesh}
+use Rattle.types.specs.declared.Table.{Table}
+use Rattle.types.specs.declared.Sharding as code
 use Rattle.judge.specs.Step.{Sharded}
 use Rattle.blocks.specs.Blocks.{shardWords, Summary, summaryIn, summarized, StepsTell, Judging}
 use Rattle.blocks.specs.declared.StepsJudged.{StepsJudged}
@@ -26,7 +26,7 @@ pub judging-next : (file : List ℕ) (depth : ℕ) (mesh : Mesh) (table : Table)
     → Judging file at k mesh table total largest s
     → StepsTell (table .rank) (shardingOf (table .rank) s)
     (summarized (meshOf mesh) (sizesOf table) k largest (shardingOf (table .rank) s)
-    (itemAt true (meshOf mesh) (sizesOf table) file depth k at (shardingOf (table .rank) s))) r
+    (itemAt everyKind (meshOf mesh) (sizesOf table) file depth k at (shardingOf (table .rank) s))) r
     → r .next ≡ next.At end → Judging file end (r .number) mesh table total (r .largest) (r .sharding)
 judging-next file depth mesh table {at} {k} {total} {largest} {end} {s} r g e n =
     let M : List ℕ = meshOf mesh in
@@ -34,8 +34,8 @@ judging-next file depth mesh table {at} {k} {total} {largest} {end} {s} r g e n 
     let z : Sharding = shardingOf (table .rank) s in
     let x = summary-inv M N k largest z _ _ (read-on _ (e .reads) n) in
     let w : StepsRead = x .0 in
-    let t : Takes M N file at w = item-takes M N file true depth k at z w (x .1) in
-    let u : Told M N file z w = item-tells M N file true depth k at z w (x .1) in
+    let t : Takes M N file at w = item-takes M N file everyKind depth k at z w (x .1) in
+    let u : Told M N file z w = item-tells M N file everyKind depth k at z w (x .1) in
     let f : Sharding → ℕ = λ y. shardWords M N y in
     let n-is : k + length (w .records) ≡ r .number = ap (λ (y : Read Summary). y .value .number) (x .2) in
     let m-is : max largest (largestOn f z (onePass (w .records))) ≡ r .largest = ap (λ (y : Read Summary). y .value .largest) (x .2) in

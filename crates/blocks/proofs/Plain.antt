@@ -8,7 +8,7 @@ use Rattle.rules.specs.Sharding.{Sharding}
 use Rattle.rules.specs.Collectives.{Step, after}
 use Rattle.rules.specs.Refusals.{Judged, accept, refuse, _>>=_}
 use Rattle.rules.specs.PlanFile.{Read, stepAt, judgeStep, plain, StepsRead, plainAt}
-use Rattle.rules.proofs.Judging.{never, accept-inj, bind-assoc}
+use Rattle.laws.proofs.Judging.{never, accept-inj, bind-assoc}
 use Rattle.taking.specs.Taking.{StepTaken, takeStep}
 use Rattle.taking.proofs.Takes.{is-after}
 use Rattle.blocks.specs.Blocks.{Summary, shardWords, summaryOf, summarized}

@@ -2,22 +2,22 @@
 -- rules' judgement reads (`summarized`), or its refusal. Assumes nothing.
 use Prim.Native.Nat.{ℕ, zero, suc, _+_, _*_, _≤_, max}
 use mathlib.Core.Path.{_≡_}
-use mathlib.Core.Bool.{true}
 use mathlib.Core.List.{List}
 use lib.ListN.{length}
 use lib.Dec.{leb}
 use Rattle.rules.specs.Lists.{product}
-use Rattle.rules.specs.Limits.{mostDims, mostBytes, mostRun}
+use Rattle.rules.specs.Limits.{mostDims, mostBytes, mostRun, everyKind}
 use Rattle.rules.specs.Sharding.{Sharding, shardSizes}
-use Rattle.rules.specs.Refusals.{Judged, accept, refuse, _>>=_, _>>_, needAt, refusedAs}
+use Rattle.rules.specs.Refusals.{Judged, accept, refuse, _>>=_, _>>_, needAt}
+use Rattle.types.specs.Answers.{refusedAs}
 use Rattle.rules.specs.PlanFile.{Read, StepsRead, JudgesSteps, stepsAt, positiveAt, sameSharding, tooDeep, itemAt}
-use Rattle.rules.specs.Demands.{onePass, largestOn}
-use Rattle.rules.specs.Types.{shardingOf, meshOf, sizesOf}
-use Rattle.rules.specs.declared.Refusal.{Refusal}
-use Rattle.rules.specs.declared.Reason.the-variants.{SectionPastEnd}
-use Rattle.rules.specs.declared.Mesh.{Mesh}
-use Rattle.rules.specs.declared.Sharding as code
-use Rattle.rules.specs.declared.Table.{Table}
+use Rattle.laws.specs.Demands.{onePass, largestOn}
+use Rattle.types.specs.Types.{shardingOf, meshOf, sizesOf}
+use Rattle.types.specs.declared.Refusal.{Refusal}
+use Rattle.types.specs.declared.Reason.the-variants.{SectionPastEnd}
+use Rattle.types.specs.declared.Mesh.{Mesh}
+use Rattle.types.specs.declared.Sharding as code
+use Rattle.types.specs.declared.Table.{Table}
 use Rattle.reader.specs.Reading.{reading, Tells}
 use Rattle.reader.specs.declared.Next.the-variants as next
 use Rattle.judge.specs.Step.{Sharded}
@@ -69,7 +69,7 @@ repeatRefusal (read.Refused r) = r
 -- what the repeat with number k judges its inner steps by
 abbrev pub innerAt : (mesh sizes file : List ℕ) → (depth k : ℕ) → JudgesSteps
 innerAt mesh sizes file zero k = tooDeep k
-innerAt mesh sizes file (suc depth) k = stepsAt (itemAt true mesh sizes file depth)
+innerAt mesh sizes file (suc depth) k = stepsAt (itemAt everyKind mesh sizes file depth)
 
 -- the words of a shard
 abbrev pub shardWords : (mesh sizes : List ℕ) → Sharding → ℕ

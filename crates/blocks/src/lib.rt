@@ -4,27 +4,27 @@ ghost use mathlib.Core.Path.{_≡_};
 ghost use mathlib.Core.Bool.{true};
 ghost use Prim.Native.Nat.{ℕ, _+_, _≤_};
 ghost use lib.ListN.{length, take};
-ghost use Rattle.rules.specs.Limits.{mostDims};
+ghost use Rattle.rules.specs.Limits.{mostDims, everyKind};
 ghost use Rattle.rules.specs.Lists.{both};
-ghost use Rattle.rules.specs.Refusals.{refusedAs};
+ghost use Rattle.types.specs.Answers.{refusedAs};
 ghost use Rattle.rules.specs.PlanFile.{same, plainAt, positiveAt, sameSharding, repeatAt, isRepeat, itemAt};
-ghost use Rattle.rules.specs.Types.{axesOf, dimsOf, shardingOf, meshOf, sizesOf};
+ghost use Rattle.types.specs.Types.{axesOf, dimsOf, shardingOf, meshOf, sizesOf};
 ghost use Rattle.blocks.specs.Blocks.{positiveRead, positiveRefusal, headAt, repeatRead, repeatRefusal, innerAt};
 ghost use Rattle.blocks.specs.Blocks.{summarized, StepsTell, Judging, Closing, closed};
 use axes::is_tail;
 use reader::Next;
-use rules::AxisList;
-use rules::Dim;
-use rules::DimLists;
-use rules::Mesh;
-use rules::Reason;
-use rules::Refusal;
-use rules::Sharding;
-use rules::Step;
-use rules::Table;
 use taking::larger;
 use taking::shard_words;
 use taking::take_step;
+use types::AxisList;
+use types::Dim;
+use types::DimLists;
+use types::Mesh;
+use types::Reason;
+use types::Refusal;
+use types::Sharding;
+use types::Step;
+use types::Table;
 
 // A byte that is not 0, or the refusal.
 pub enum Positive {
@@ -322,7 +322,7 @@ pub fn judge_item(
     requires { ⌜ Judging (now file) at k mesh table total largest sharding ⌝ }
     ensures { λ r. ⌜ StepsTell (table .rank) (shardingOf (table .rank) sharding)
         (summarized (meshOf mesh) (sizesOf table) k largest (shardingOf (table .rank) sharding)
-        (itemAt true (meshOf mesh) (sizesOf table) (now (file .entry)) depth k at (shardingOf (table .rank) sharding))) r ⌝ }
+        (itemAt everyKind (meshOf mesh) (sizesOf table) (now (file .entry)) depth k at (shardingOf (table .rank) sharding))) r ⌝ }
 {
     if is_repeat(file, at) {
         judge_block(

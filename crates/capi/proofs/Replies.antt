@@ -9,23 +9,24 @@ use lib.ListN.{length, getD}
 use Rattle.rules.specs.Limits.{mostAxes, mostDims}
 use Rattle.rules.specs.Sharding.{Sharding}
 use Rattle.rules.specs.Collectives.{Step}
-use Rattle.rules.specs.Refusals.{Judged, accept, refuse, _>>=_, _>>_, need, refusedAs, numberOf, reasonOf}
+use Rattle.rules.specs.Refusals.{Judged, accept, refuse, _>>=_, _>>_, need}
+use Rattle.types.specs.Answers.{refusedAs, numberOf, reasonOf, checkedOf, placedOf}
 use Rattle.rules.specs.PlanFile.{Plan, judge}
-use Rattle.rules.specs.Types.{fourPlaces}
-use Rattle.rules.specs.Calls.{CheckAnswer, checkOf, checkedOf, PlaceAnswer, placeOf, placedOf}
-use Rattle.rules.specs.Promises.{CheckPromise, PlacePromise}
-use Rattle.rules.specs.declared.Checked.{Checked}
-use Rattle.rules.specs.declared.Placed.{Placed}
-use Rattle.rules.specs.declared.CheckOutcome.{CheckOutcome}
-use Rattle.rules.specs.declared.CheckOutcome.the-variants as check
-use Rattle.rules.specs.declared.PlaceOutcome.{PlaceOutcome}
-use Rattle.rules.specs.declared.PlaceOutcome.the-variants as place
-use Rattle.rules.specs.declared.Refusal.{Refusal}
-use Rattle.rules.specs.declared.Sharding as code
-use Rattle.rules.specs.declared.Step as declared
-use Rattle.rules.proofs.Judging.{never, accept-inj, then-inv}
-use Rattle.rules.proofs.Accepted.{AcceptedPlan, accepted}
-use Rattle.rules.proofs.Answers.{InPlaces, check-in-places, check-listed, place-in-places, place-listed}
+use Rattle.types.specs.Types.{fourPlaces}
+use Rattle.rules.specs.Calls.{CheckAnswer, checkOf, PlaceAnswer, placeOf}
+use Rattle.types.specs.Promises.{CheckPromise, PlacePromise}
+use Rattle.types.specs.declared.Checked.{Checked}
+use Rattle.types.specs.declared.Placed.{Placed}
+use Rattle.types.specs.declared.CheckOutcome.{CheckOutcome}
+use Rattle.types.specs.declared.CheckOutcome.the-variants as check
+use Rattle.types.specs.declared.PlaceOutcome.{PlaceOutcome}
+use Rattle.types.specs.declared.PlaceOutcome.the-variants as place
+use Rattle.types.specs.declared.Refusal.{Refusal}
+use Rattle.types.specs.declared.Sharding as code
+use Rattle.types.specs.declared.Step as declared
+use Rattle.laws.proofs.Judging.{never, accept-inj, then-inv}
+use Rattle.laws.proofs.Accepted.{AcceptedPlan, accepted}
+use Rattle.types.proofs.Answers.{InPlaces, check-in-places, check-listed, place-in-places, place-listed}
 use Rattle.records.specs.Forms.{shardingGiven, recordBytes, sixPlaces}
 use Rattle.records.specs.RoundTrip.{ShortSharding}
 use Rattle.records.specs.Planning.{planSteps, planOf}

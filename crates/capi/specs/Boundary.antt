@@ -7,15 +7,16 @@ use Rattle.rules.specs.Lists.{tab}
 use Rattle.rules.specs.Limits.{mostAxes, mostDims}
 use Rattle.rules.specs.Collectives.{Step}
 use Rattle.rules.specs.PlanFile.{plain}
-use Rattle.rules.specs.Refusals.{Judged, accept, refuse, refusedAs}
-use Rattle.rules.specs.Types.{fourPlaces, shardingOf}
+use Rattle.rules.specs.Refusals.{Judged, accept, refuse}
+use Rattle.types.specs.Answers.{refusedAs}
+use Rattle.types.specs.Types.{fourPlaces, shardingOf}
 use Rattle.rules.specs.Calls.{CheckAnswer, PlaceAnswer}
-use Rattle.rules.specs.declared.Checked.{Checked}
-use Rattle.rules.specs.declared.CheckOutcome.{CheckOutcome}
-use Rattle.rules.specs.declared.CheckOutcome.the-variants as check
-use Rattle.rules.specs.declared.Placed.{Placed}
-use Rattle.rules.specs.declared.PlaceOutcome.{PlaceOutcome}
-use Rattle.rules.specs.declared.PlaceOutcome.the-variants as place
+use Rattle.types.specs.declared.Checked.{Checked}
+use Rattle.types.specs.declared.CheckOutcome.{CheckOutcome}
+use Rattle.types.specs.declared.CheckOutcome.the-variants as check
+use Rattle.types.specs.declared.Placed.{Placed}
+use Rattle.types.specs.declared.PlaceOutcome.{PlaceOutcome}
+use Rattle.types.specs.declared.PlaceOutcome.the-variants as place
 use Rattle.records.specs.Forms.{sixPlaces}
 use Rattle.records.specs.Reading.{ReadAnswer}
 use Rattle.records.specs.declared.Opened.{Opened}

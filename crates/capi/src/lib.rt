@@ -3,7 +3,7 @@
 ghost use mathlib.Core.Path.{_≡_};
 ghost use Prim.Native.Nat.{_≤_, _+_, _*_};
 ghost use Rattle.rules.specs.Limits.{mostAxes, mostDims};
-ghost use Rattle.rules.specs.Refusals.{numberOf, refusedAs};
+ghost use Rattle.types.specs.Answers.{numberOf, refusedAs};
 ghost use Rattle.rules.specs.Calls.{checkOf, placeOf, groupsOf, groupsLeave, groupsOrderedOf, groupsOrderedLeave, runOf};
 ghost use Rattle.records.specs.Writing.{writeOf, writeLeaves};
 ghost use Rattle.records.specs.Forms.{recordsGiven};

@@ -8,12 +8,12 @@ use native.Mathlib.Omega.{arith}
 use lib.ListN.{length, drop}
 use lib.Seq.{drop-length, sets-eq}
 use Rattle.rules.specs.Lists.{tab, pick}
-use Rattle.rules.specs.Limits.{mostDepth}
+use Rattle.rules.specs.Limits.{mostDepth, everyKind}
 use Rattle.rules.specs.Refusals.{accept, refuse}
 use Rattle.rules.specs.PlanFile.{u16At, edition, carriesOrder, Record, itemAt, Outermost, Plan, judge}
-use Rattle.rules.proofs.Lists.{length-tab}
-use Rattle.rules.proofs.Repeats.{readBy, outermost-steps}
-use Rattle.rules.proofs.Accepted.{AcceptedPlan, accepted}
+use Rattle.laws.proofs.Lists.{length-tab}
+use Rattle.laws.proofs.Repeats.{readBy, outermost-steps}
+use Rattle.laws.proofs.Accepted.{AcceptedPlan, accepted}
 use Rattle.reader.specs.Reading.{orderOf}
 use Rattle.plan.specs.Parts.{HoldsPlan}
 use Rattle.plan.specs.declared.Whole.{Whole}
@@ -54,9 +54,9 @@ module _ {file : List ℕ} {at : ℕ} {w : Whole} (h : (p : Plan) × (judge file
   spelled =
       let o : Outermost = record { records = p .records; steps = p .steps; runs = p .runs; next = length file } in
       let s : Spells file at (length file) (stepsBytes (map known (p .records))) =
-      steps-spell (p .mesh) (p .sizes) file (itemAt true (p .mesh) (p .sizes) file mostDepth) (item-spells (p .mesh) (p .sizes) file true mostDepth) (w .steps) 1 at
+      steps-spell (p .mesh) (p .sizes) file (itemAt everyKind (p .mesh) (p .sizes) file mostDepth) (item-spells (p .mesh) (p .sizes) file everyKind mostDepth) (w .steps) 1 at
       (p .start) (readBy (p .mesh) (p .sizes) file (p .start) o) (g .inside)
-      (outermost-steps (p .mesh) (p .sizes) file true 0 (w .steps) 1 at (p .start) o (g .begins)) in
+      (outermost-steps (p .mesh) (p .sizes) file everyKind 0 (w .steps) 1 at (p .start) o (g .begins)) in
       s .is ∙ ap (λ (l : List ℕ). stepsBytes (map known (p .records)) ++ l) (drop-length file) ∙ append-nil (stepsBytes (map known (p .records)))
 
   pub steps-stand : StepsStand file at (w .table .rank)

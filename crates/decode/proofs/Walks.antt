@@ -7,12 +7,12 @@ use native.Mathlib.Omega.{arith}
 use lib.ListN.{length, getD, length-append}
 use lib.Seq.{sets}
 use Rattle.rules.specs.Limits.{mostAxes, mostBytes}
-use Rattle.rules.specs.Collectives.{Step, allSlice, allGather, allReduce, allToAll}
+use Rattle.rules.specs.Collectives.{Step, allSlice, allGather, allReduce, allToAll, reduceScatter}
 use Rattle.rules.specs.Refusals.{Judged, accept, _>>_}
-use Rattle.rules.specs.PlanFile.{Read, stepAt, Record, plain, repeat}
-use Rattle.rules.specs.Types.{stepOf}
-use Rattle.rules.specs.declared.Refusal.{Refusal}
-use Rattle.rules.proofs.Judging.{never, accept-inj}
+use Rattle.rules.specs.PlanFile.{Read, stepAt, Record, plain, repeat, kindByte}
+use Rattle.types.specs.Types.{stepOf}
+use Rattle.types.specs.declared.Refusal.{Refusal}
+use Rattle.laws.proofs.Judging.{never, accept-inj}
 use Rattle.reader.specs.Reading.{StepTells}
 use Rattle.reader.specs.declared.Next.the-variants as next
 use Rattle.reader.specs.declared.StepRead.{StepRead}
@@ -23,7 +23,7 @@ use Rattle.records.specs.RoundTrip.{AllRanked, ShortLists, ShortStep, AllShort}
 use Rattle.records.specs.Forms.{recordBytes, recordOf, recordsBytes}
 use Rattle.records.proofs.Places.{From, from-length, from-next, from-byte, from-second, from-at}
 use Rattle.records.proofs.Lists.{read, stepLists, step-from}
-use Rattle.records.proofs.Given.{kindByte, kind-first}
+use Rattle.records.proofs.Given.{kind-first}
 use Rattle.records.proofs.Written.{given-some}
 use Rattle.records.proofs.Short.{short-counts}
 use Rattle.records.proofs.Reread.{record-length}
@@ -49,8 +49,8 @@ module _ {file : List ℕ} {at rank : ℕ} where
   unfolding givenBytes
   plain-kind t s nine =
       let h = kind-first t in
-      let b : getD file at 0 ≡ kindByte t =
-      from-byte at file (kindByte t) (h .0 ++ s .rest) (subst (λ (l : List ℕ). From at file (l ++ s .rest)) (h .1) (stands-from s)) in
+      let b : getD file at 0 ≡ kindByte (plain t) =
+      from-byte at file (kindByte (plain t)) (h .0 ++ s .rest) (subst (λ (l : List ℕ). From at file (l ++ s .rest)) (h .1) (stands-from s)) in
       omega (arith, h .2, b, nine)
 
   repeat-inside : (g : Record) → Stands file at rank g → getD file at 0 ≡ 9 → at + 3 ≤ length file
@@ -83,6 +83,7 @@ module _ {file : List ℕ} {at rank : ℕ} where
       fine (allGather Gs) h = short-counts Gs h
       fine (allReduce L) h = short-counts (L ∷ []) (short-one L h)
       fine (allToAll source target L) h = short-counts (L ∷ []) (short-one L h)
+      fine (reduceScatter Ss) h = short-counts Ss h
 
   module _ (r : StepRead) (k : ℕ) (other : getD file at 0 ≡ 9 → ⊥) (tells : StepTells rank (stepAt mostAxes rank k file at) r) where
     pub plain-copied : {entry exit : List ℕ} {to end q : ℕ} → r .next ≡ next.At end → Put entry exit to q (recordOf (plain (stepOf rank (r .step))))

@@ -7,7 +7,7 @@ use lib.Seq.{sets}
 use Rattle.rules.specs.Limits.{mostDims, mostBytes}
 use Rattle.rules.specs.Refusals.{Judged, accept, refuse}
 use Rattle.rules.specs.PlanFile.{Record, Plan, judge}
-use Rattle.rules.specs.Types.{meshOf, sizesOf, shardingOf}
+use Rattle.types.specs.Types.{meshOf, sizesOf, shardingOf}
 use Rattle.records.specs.Records.{known, givenBytes, stepsBytes}
 use Rattle.records.specs.RoundTrip.{Ranked, AllRanked, ShortGiven, AllShort}
 use Rattle.records.specs.Forms.{recordOf}

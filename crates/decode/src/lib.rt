@@ -6,9 +6,10 @@ ghost use Prim.Native.Nat.{_+_, _*_, _≤_};
 ghost use lib.ListN.{length, getD, take, drop};
 ghost use Rattle.rules.specs.Lists.{tab, pick, flat};
 ghost use Rattle.rules.specs.Limits.{mostAxes, mostDevices, mostDims};
-ghost use Rattle.rules.specs.Refusals.{accept, refuse, refusedAs};
+ghost use Rattle.rules.specs.Refusals.{accept, refuse};
+ghost use Rattle.types.specs.Answers.{refusedAs};
 ghost use Rattle.rules.specs.PlanFile.{u16At, edition, carriesOrder, plain, repeat};
-ghost use Rattle.rules.specs.Types.{axesOf, dimsOf, meshOf, stepOf};
+ghost use Rattle.types.specs.Types.{axesOf, dimsOf, meshOf, stepOf};
 ghost use Rattle.records.specs.Forms.{recordBytes, fiveLists, sixPlaces, formBytes, recordOf, recordsBytes};
 ghost use Rattle.records.specs.Reading.{openedOf};
 ghost use Rattle.records.specs.Promises.{ReadPromise};
@@ -31,16 +32,16 @@ use reader::read_step;
 use records::Opened;
 use records::ReadCounts;
 use records::ReadOutcome;
-use rules::Axis;
-use rules::AxisList;
-use rules::Dim;
-use rules::DimLists;
-use rules::Kind;
-use rules::Mesh;
-use rules::PlanFile;
-use rules::Reason;
-use rules::Refusal;
-use rules::Step;
+use types::Axis;
+use types::AxisList;
+use types::Dim;
+use types::DimLists;
+use types::Kind;
+use types::Mesh;
+use types::PlanFile;
+use types::Reason;
+use types::Refusal;
+use types::Step;
 
 // How many axes a list has, as a byte.
 fn count_of(list: AxisList) -> u8
@@ -123,6 +124,7 @@ fn put_plain(out: &mut [u8], at: usize, step: Step, rank: usize) -> usize
         Kind::AllGather => put_form(out, at, 2, 0, 0, lists, rank, none),
         Kind::AllReduce => put_form(out, at, 3, 0, 0, lists, 0, list),
         Kind::AllToAll => put_form(out, at, 4, step.source.0, step.target.0, lists, 0, list),
+        Kind::ReduceScatter => put_form(out, at, 5, 0, 0, lists, rank, none),
         Kind::Unknown => put_form(out, at, 3, 0, 0, lists, 0, none),
     }
 }

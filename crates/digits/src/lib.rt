@@ -2,15 +2,15 @@
 // Digits are written from the end of a slice to its front. specs/Digits.antt says what they are.
 use mesh::product_from;
 use mesh::size_at;
-use rules::AxisList;
 use strided::put_digit;
+use types::AxisList;
 ghost use mathlib.Core.Path.{_≡_};
 ghost use Prim.Native.Nat.{_-_, _*_, _≤_};
 ghost use mathlib.Core.List.{_++_};
 ghost use lib.ListN.{length, take, drop};
 ghost use Rattle.rules.specs.Lists.{product};
 ghost use Rattle.rules.specs.Mesh.{span};
-ghost use Rattle.rules.specs.Types.{axesOf};
+ghost use Rattle.types.specs.Types.{axesOf};
 ghost use Rattle.digits.specs.Digits.{mostRoom, meshStrides, cleared, axisDigits, meshDigits, HasStrides, Axes, Devices};
 
 // The strides of the devices, for shards of m words.

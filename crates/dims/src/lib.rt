@@ -5,13 +5,13 @@ ghost use mathlib.Core.List.{[], _++_};
 ghost use Prim.Native.Nat.{_/_, _%_, _≤_, _<_};
 ghost use lib.Dec.{eqb};
 ghost use lib.ListN.{length, getD, take, drop};
-ghost use Rattle.rules.specs.Lists.{each, both, flat, product};
+ghost use Rattle.rules.specs.Lists.{each, both, flat, product, ascending as ascendingOf};
 ghost use Rattle.rules.specs.Limits.{mostAxes, mostDims};
 ghost use Rattle.rules.specs.Mesh.{span as spanOf};
 ghost use Rattle.rules.specs.Sharding.{divisible as divisibleOf, shardSizes};
 ghost use Rattle.rules.specs.Collectives.{cutTail};
 ghost use Rattle.rules.specs.PlanFile.{some, allBelow, isTail};
-ghost use Rattle.rules.specs.Types.{axesOf, dimsOf, shardingOf, fourPlaces, listsFrom, shardingFrom, noLists, meshOf, Sized, sizesOf};
+ghost use Rattle.types.specs.Types.{axesOf, dimsOf, shardingOf, fourPlaces, listsFrom, shardingFrom, noLists, meshOf, Sized, sizesOf};
 ghost use Rattle.axes.specs.Marks.{marksWith};
 ghost use Rattle.dims.specs.Dims.{Room};
 use axes::all_below;
@@ -19,13 +19,15 @@ use axes::cut_tail;
 use axes::is_tail;
 use axes::join;
 use axes::mark_list;
+use axes::marked_below;
 use axes::span;
-use rules::AxisList;
-use rules::Dim;
-use rules::DimLists;
-use rules::Mesh;
-use rules::Sharding;
-use rules::Table;
+use types::Axis;
+use types::AxisList;
+use types::Dim;
+use types::DimLists;
+use types::Mesh;
+use types::Sharding;
+use types::Table;
 
 // Whether the lists name an axis.
 pub fn names_axis(lists: DimLists, rank: usize) -> bool
@@ -70,6 +72,16 @@ pub fn mark_dims(lists: DimLists, rank: usize, marks: &mut [bool])
         mark_list(marks, list);
         d += 1;
     }
+}
+
+// The axes below n of all the lists, in increasing order.
+pub fn ascending(lists: DimLists, rank: usize, n: usize) -> AxisList
+    requires { ⌜ (rank ≤ mostDims) × (n ≤ mostAxes) ⌝ }
+    ensures { λ r. ⌜ axesOf r ≡ ascendingOf n (flat (take rank (dimsOf lists))) ⌝ }
+{
+    let mut marks = [false; Axis::MOST];
+    mark_dims(lists, rank, &mut marks);
+    marked_below(&marks, n)
 }
 
 // Whether each list is the tail of its dimension's list.

@@ -9,33 +9,23 @@ use lib.Dec.{leb, leb→le, eqb, lit≤}
 use lib.ListN.{length, getD, length-map}
 use lib.Seq.{length-take-le}
 use Rattle.rules.specs.Lists.{tab, pick}
-use Rattle.rules.specs.Limits.{mostAxes, mostDevices, mostDims, mostWords, mostSteps}
+use Rattle.rules.specs.Limits.{mostAxes, mostDevices, mostDims, mostWords, mostSteps, everyKind}
 use Rattle.rules.specs.Mesh.{devices}
 use Rattle.rules.specs.Sharding.{Sharding}
 use Rattle.rules.specs.Collectives.{Step}
 use Rattle.rules.specs.Refusals.{accept}
 use Rattle.rules.specs.PlanFile.{axesAllowed, rankAllowed, judgeSizes, kindOf, Record, repeat, Plan, outermostAt}
-use Rattle.rules.specs.declared.DimLists.{DimLists}
-use Rattle.rules.specs.declared.Sharding as code
-use Rattle.rules.specs.declared.Kind.{Kind}
-use Rattle.rules.specs.declared.Kind.the-variants.{AllSlice, AllGather, AllReduce, AllToAll, Unknown}
-use Rattle.rules.specs.declared.Step as records
-use Rattle.rules.proofs.Lists.{T-and, getD-tab, both-length}
-use Rattle.rules.proofs.Judging.{need-inv, then-inv, bind-inv}
-use Rattle.rules.proofs.Accepted.{sizes-facts}
+use Rattle.types.specs.declared.DimLists.{DimLists}
+use Rattle.types.specs.declared.Sharding as code
+use Rattle.types.specs.declared.Kind.{Kind}
+use Rattle.types.specs.declared.Kind.the-variants.{AllSlice, AllGather, AllReduce, AllToAll, ReduceScatter, Unknown}
+use Rattle.types.specs.declared.Step as records
+use Rattle.laws.proofs.Lists.{T-and, getD-tab, both-length}
+use Rattle.laws.proofs.Judging.{need-inv, then-inv, bind-inv}
+use Rattle.laws.proofs.Accepted.{sizes-facts}
 use Rattle.records.specs.Records.{Given, known, unknown, Records, outermost, stepsBytes}
 use Rattle.records.specs.Writing.{judgeSharding, judgeOrder, judgeOpening, mostRecords, judgeRecords}
-use Rattle.records.specs.Forms.{
-  listGiven,
-  dimsGiven,
-  recordBytes,
-  stepRecord,
-  givenKind,
-  givenAt,
-  recordCount,
-  stepsGiven,
-  recordsGiven,
-}
+use Rattle.records.specs.Forms.{listGiven, dimsGiven, recordBytes, stepRecord, givenKind, givenAt, recordCount, stepsGiven, recordsGiven}
 use Rattle.records.specs.RoundTrip.{Shorts, Ranked, AllRanked, ShortGiven, AllShort, Proper}
 use Rattle.records.proofs.Places.{from-all}
 use Rattle.records.proofs.Given.{all-given}
@@ -44,6 +34,8 @@ use Rattle.records.proofs.Short.{counts-short, outermost-short}
 use Rattle.records.proofs.Accepting.{sharding-facts}
 use Rattle.encode.specs.Putting.{ShortSteps, Encodable}
 use Rattle.encode.proofs.Counting.{given-length}
+use Rattle.rules.specs.PlanFile as plan
+use Rattle.types.specs.Types.{kindFrom}
 
 -- ---- records have a list for each dimension
 
@@ -57,6 +49,7 @@ module _ (rank : ℕ) (few : rank ≤ mostDims) where
   kind-ranked AllGather t e = dims-ranked (t .lists) e
   kind-ranked AllReduce t e = tt
   kind-ranked AllToAll t e = tt
+  kind-ranked ReduceScatter t e = dims-ranked (t .lists) e
   kind-ranked Unknown t e = tt
 
   record-ranked : (bytes : List ℕ) (at : ℕ) → Ranked rank (givenAt rank bytes at)
@@ -64,9 +57,9 @@ module _ (rank : ℕ) (few : rank ≤ mostDims) where
   record-ranked bytes at = go (eqb (getD bytes at 0) 9)
     where
       go : (b : Bool)
-          → Ranked rank (pick b (known (repeat (getD bytes (at + 1) 0) (getD bytes (at + 2) 0))) (givenKind (kindOf (getD bytes at 0)) rank (stepRecord bytes at)))
+          → Ranked rank (pick b (known (repeat (getD bytes (at + 1) 0) (getD bytes (at + 2) 0))) (givenKind (kindFrom (kindOf (getD bytes at 0))) rank (stepRecord bytes at)))
       go true = tt
-      go false = kind-ranked (kindOf (getD bytes at 0)) (stepRecord bytes at) refl
+      go false = kind-ranked (kindFrom (kindOf (getD bytes at 0))) (stepRecord bytes at) refl
 
   ranked-append : (l m : List Given) → AllRanked rank l → AllRanked rank m → AllRanked rank (l ++ m)
   ranked-append [] m h g = g
@@ -131,14 +124,14 @@ accepted-encodable mesh order sizes start bytes p e =
     let r : Records = recordsGiven mesh order sizes start bytes in
     let w = then-inv (judgeOpening r) _ p e in
     let m = need-inv 0 (leb (length (r .steps)) mostRecords) 2 _ p (w .1) in
-    let ts = bind-inv (outermostAt true mesh sizes (stepsBytes (r .steps)) 0 (outermost (r .steps)) 1 0 (r .start)) _ p (m .1) in
+    let ts = bind-inv (outermostAt everyKind mesh sizes (stepsBytes (r .steps)) 0 (outermost (r .steps)) 1 0 (r .start)) _ p (m .1) in
     let o : Opened r = opened r (w .0 .1) in
     let s = sharding-facts mesh sizes (r .start) (o .sharding) in
     let others = counts-short (length mesh) (r .start .unreduced ∷ r .start .replicated ∷ []) (o .axes) (s .others) in
     let g : r .steps ≡ map known (ts .0 .records) =
-    all-given mesh sizes (stepsBytes (r .steps)) true 0 1 0 (r .start) (r .steps) (ts .0) (given-ranked (length sizes) (o .rank) bytes)
+    all-given mesh sizes (stepsBytes (r .steps)) everyKind 0 1 0 (r .start) (r .steps) (ts .0) (given-ranked (length sizes) (o .rank) bytes)
     (from-all (stepsBytes (r .steps))) (ts .1) .0 in
-    let short = outermost-short mesh sizes (stepsBytes (r .steps)) (o .axes) true 0 (outermost (r .steps)) 1 0 (r .start) (ts .0) (ts .1) in (
+    let short = outermost-short mesh sizes (stepsBytes (r .steps)) (o .axes) everyKind 0 (outermost (r .steps)) 1 0 (r .start) (ts .0) (ts .1) in (
       record {
         axes = o .axes;
         devices = o .order;

@@ -4,10 +4,10 @@ use mathlib.Core.Path.{_≡_, refl, sym, ap, _∙_}
 use mathlib.Core.List.{List, [], _∷_}
 use native.Mathlib.Omega.{arith}
 use lib.ListN.{length, getD, drop, length-drop, drop-of-length-le}
-use Rattle.rules.specs.declared.Kind.{Kind}
-use Rattle.rules.specs.declared.Kind.the-variants.{AllSlice, AllGather, AllReduce, AllToAll, Unknown}
-use Rattle.rules.specs.declared.Step.{Step}
-use Rattle.rules.proofs.Lists.{length-tab, getD-tab}
+use Rattle.types.specs.declared.Kind.{Kind}
+use Rattle.types.specs.declared.Kind.the-variants.{AllSlice, AllGather, AllReduce, AllToAll, ReduceScatter, Unknown}
+use Rattle.types.specs.declared.Step.{Step}
+use Rattle.laws.proofs.Lists.{length-tab, getD-tab}
 use Rattle.axes.proofs.Going.{drop-at}
 use Rattle.records.specs.Records.{Given, unknown, innerOf, outermostFrom, outermost}
 use Rattle.records.specs.Forms.{recordBytes, stepRecord, givenKind, givenAt, recordCount, stepsGiven}
@@ -21,6 +21,7 @@ kind-inner AllSlice rank t = refl
 kind-inner AllGather rank t = refl
 kind-inner AllReduce rank t = refl
 kind-inner AllToAll rank t = refl
+kind-inner ReduceScatter rank t = refl
 kind-inner Unknown rank t = refl
 
 pub repeat-inner : (bytes : List ℕ) (from : ℕ) → getD bytes from 0 ≡ 9 → (rank : ℕ) → getD bytes (from + 2) 0 ≡ innerOf (givenAt rank bytes from)

@@ -12,8 +12,8 @@ use Rattle.rules.specs.Lists.{pick}
 use Rattle.rules.specs.Limits.{mostAxes, mostDims, leastBytes}
 use Rattle.rules.specs.Sharding.{Sharding}
 use Rattle.rules.specs.PlanFile.{some}
-use Rattle.rules.specs.Types.{axesOf}
-use Rattle.rules.specs.declared.Sharding as code
+use Rattle.types.specs.Types.{axesOf}
+use Rattle.types.specs.declared.Sharding as code
 use Rattle.records.specs.Records.{
   Records,
   outermost,

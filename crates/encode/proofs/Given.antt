@@ -11,26 +11,16 @@ use lib.ListN.{length, getD, take, replicate, length-append, length-take, length
 use Rattle.rules.specs.Lists.{tab, pick}
 use Rattle.rules.specs.Limits.{mostAxes, mostDims}
 use Rattle.rules.specs.PlanFile.{repeat}
-use Rattle.rules.specs.Types.{axesOf, dimsOf}
-use Rattle.rules.specs.declared.AxisList.{AxisList}
-use Rattle.rules.specs.declared.DimLists.{DimLists}
-use Rattle.rules.specs.declared.Sharding as code
-use Rattle.rules.specs.declared.Kind.{Kind}
-use Rattle.rules.specs.declared.Kind.the-variants.{AllSlice, AllGather, AllReduce, AllToAll, Unknown}
-use Rattle.rules.specs.declared.Step.{Step}
-use Rattle.rules.proofs.Lists.{nT→false}
+use Rattle.types.specs.Types.{axesOf, dimsOf}
+use Rattle.types.specs.declared.AxisList.{AxisList}
+use Rattle.types.specs.declared.DimLists.{DimLists}
+use Rattle.types.specs.declared.Sharding as code
+use Rattle.types.specs.declared.Kind.{Kind}
+use Rattle.types.specs.declared.Kind.the-variants.{AllSlice, AllGather, AllReduce, AllToAll, ReduceScatter, Unknown}
+use Rattle.types.specs.declared.Step.{Step}
+use Rattle.laws.proofs.Lists.{nT→false}
 use Rattle.records.specs.Records.{Given, known, listBytes, listsBytes, replicatedBytes, shardingBytes, stepBytes, givenBytes, stepsBytes}
-use Rattle.records.specs.Forms.{
-  listGiven,
-  dimsGiven,
-  shardingGiven,
-  recordBytes,
-  stepRecord,
-  givenKind,
-  givenAt,
-  recordCount,
-  stepsGiven,
-}
+use Rattle.records.specs.Forms.{listGiven, dimsGiven, shardingGiven, recordBytes, stepRecord, givenKind, givenAt, recordCount, stepsGiven}
 use Rattle.records.specs.RoundTrip.{ShortLists, ShortSharding, ShortGiven}
 use Rattle.records.proofs.Lists.{is-le, is-eq}
 use Rattle.encode.specs.Putting.{Put}
@@ -138,6 +128,7 @@ module _ (rank : ℕ) (bytes : List ℕ) (from : ℕ) where
   kind-few AllGather t h f = omega (arith, lists-few rank (t .lists) h f)
   kind-few AllReduce t h f = omega (arith, f)
   kind-few AllToAll t h f = omega (arith, f)
+  kind-few ReduceScatter t h f = omega (arith, lists-few rank (t .lists) h f)
   kind-few Unknown t h f = omega arith
 
   -- a record by whether it is a repeat

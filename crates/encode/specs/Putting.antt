@@ -7,7 +7,7 @@ use lib.ListN.{length}
 use lib.Seq.{sets}
 use Rattle.rules.specs.Limits.{mostAxes, mostDevices, mostDims, mostSteps, leastBytes, mostBytes}
 use Rattle.rules.specs.Sharding.{Sharding}
-use Rattle.rules.specs.declared.Sharding as code
+use Rattle.types.specs.declared.Sharding as code
 use Rattle.records.specs.Records.{u16sBytes, shardingBytes, outermost, fileLength}
 use Rattle.records.specs.Writing.{mostRecords}
 use Rattle.records.specs.RoundTrip.{ShortSharding, ShortGiven}

@@ -7,21 +7,21 @@ ghost use lib.ListN.{length, drop};
 ghost use Rattle.rules.specs.Lists.{pick};
 ghost use Rattle.rules.specs.Limits.{mostAxes, mostDevices, mostDims, mostSteps, leastBytes, mostBytes};
 ghost use Rattle.rules.specs.PlanFile.{some};
-ghost use Rattle.rules.specs.Types.{axesOf};
+ghost use Rattle.types.specs.Types.{axesOf};
 ghost use Rattle.records.specs.Records.{u16Bytes, u16sBytes, listBytes, listsBytes, replicatedBytes, shardingBytes, innerOf, outermost, givenBytes, stepsBytes, fileLength, fileOf};
 ghost use Rattle.records.specs.Writing.{mostRecords};
 ghost use Rattle.records.specs.RoundTrip.{ShortLists, ShortSharding, ShortGiven};
 ghost use Rattle.records.specs.Forms.{listGiven, dimsGiven, shardingGiven, recordBytes, axisAt, listRecord, stepRecord, givenKind, givenAt, recordCount, stepsGiven, recordsGiven};
 ghost use Rattle.encode.specs.Putting.{Put, farthest, ShortSteps, frontBytes, headerOf, Encodable, Writable, outermostOne, stillAfter};
 use reader::kind_of;
-use rules::Axis;
-use rules::AxisList;
-use rules::Dim;
-use rules::DimLists;
-use rules::Kind;
-use rules::PlanFile;
-use rules::Sharding;
-use rules::Step;
+use types::Axis;
+use types::AxisList;
+use types::Dim;
+use types::DimLists;
+use types::Kind;
+use types::PlanFile;
+use types::Sharding;
+use types::Step;
 
 // A step record, by where it begins in the bytes of the records.
 pub struct StepRecord(pub usize);
@@ -185,6 +185,7 @@ fn put_step(out: &mut [u8], at: usize, step: Step, rank: usize) -> usize
         Kind::AllGather => put_per_dim(out, at, 2, lists, rank),
         Kind::AllReduce => put_reduce(out, at, list),
         Kind::AllToAll => put_to_all(out, at, step.source, step.target, list),
+        Kind::ReduceScatter => put_per_dim(out, at, 5, lists, rank),
         Kind::Unknown => put_byte(out, at, 0),
     }
 }

@@ -13,14 +13,14 @@ use Rattle.rules.specs.Lists.{pick}
 use Rattle.rules.specs.Limits.{mostAxes, mostDims}
 use Rattle.rules.specs.Refusals.{Judged, accept, refuse, _>>_, need}
 use Rattle.rules.specs.PlanFile.{judgeStart}
-use Rattle.rules.specs.Types.{axesOf, dimsOf, shardingOf}
-use Rattle.rules.specs.declared.AxisList.{AxisList}
-use Rattle.rules.specs.declared.DimLists.{DimLists}
-use Rattle.rules.specs.declared.Refusal.{Refusal}
-use Rattle.rules.specs.declared.Sharding as code
-use Rattle.rules.proofs.Lists.{T?}
-use Rattle.rules.proofs.Judging.{need-inv}
-use Rattle.rules.proofs.Types.{axes-length}
+use Rattle.types.specs.Types.{axesOf, dimsOf, shardingOf}
+use Rattle.types.specs.declared.AxisList.{AxisList}
+use Rattle.types.specs.declared.DimLists.{DimLists}
+use Rattle.types.specs.declared.Refusal.{Refusal}
+use Rattle.types.specs.declared.Sharding as code
+use Rattle.laws.proofs.Lists.{T?}
+use Rattle.laws.proofs.Judging.{need-inv}
+use Rattle.types.proofs.Types.{axes-length}
 use Rattle.axes.proofs.Going.{Going, ahead, onward, finish}
 use Rattle.start.specs.Start.{meaning}
 use Rattle.start.specs.declared.Verdict.{Verdict}

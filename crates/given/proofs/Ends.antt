@@ -5,11 +5,12 @@ use mathlib.Core.Bool.{Bool, true, false}
 use mathlib.Core.List.{List, [], _∷_, _++_}
 use native.Mathlib.Omega.{arith}
 use lib.ListN.{length, drop, length-drop, length-append}
+use Rattle.rules.specs.Limits.{everyKind}
 use Rattle.rules.specs.Refusals.{accept}
 use Rattle.rules.specs.Sharding.{Sharding}
 use Rattle.rules.specs.PlanFile.{judgeStep, plain, repeat, StepsRead, JudgesStep, JudgesSteps, stepsAt, plainAt, repeatAt, isRepeat, itemAt}
-use Rattle.rules.proofs.Judging.{never, accept-inj, then-inv, bind-inv}
-use Rattle.rules.proofs.Repeats.{IsRepeat, repeat-inv}
+use Rattle.laws.proofs.Judging.{never, accept-inj, then-inv, bind-inv}
+use Rattle.laws.proofs.Repeats.{IsRepeat, repeat-inv}
 use Rattle.blocks.specs.Blocks.{innerAt}
 use Rattle.blocks.proofs.Items.{item-repeat, item-plain}
 use Rattle.records.specs.Records.{Given, known, unknown, stepsBytes}
@@ -89,7 +90,7 @@ module _ (mesh sizes : List ℕ) (gs : List Given) (ranked : AllRanked (length s
 
   item-by : (depth k : ℕ) → ((count k′ i′ : ℕ) (s′ : Sharding) (w′ : StepsRead) → i′ ≤ length gs
       → innerAt mesh sizes (stepsBytes gs) depth k count k′ (placeOf gs i′) s′ ≡ accept w′ → Ends i′ w′)
-      → (i : ℕ) (s : Sharding) (w : StepsRead) → itemAt true mesh sizes (stepsBytes gs) depth k (placeOf gs i) s ≡ accept w → Ends i w
+      → (i : ℕ) (s : Sharding) (w : StepsRead) → itemAt everyKind mesh sizes (stepsBytes gs) depth k (placeOf gs i) s ≡ accept w → Ends i w
   item-by depth k g i s w e = go (isRepeat (stepsBytes gs) (placeOf gs i)) refl
     where
       go : (b : Bool) → isRepeat (stepsBytes gs) (placeOf gs i) ≡ b → Ends i w
@@ -99,7 +100,7 @@ module _ (mesh sizes : List ℕ) (gs : List Given) (ranked : AllRanked (length s
       go false f = plain-ends k i s w f (sym (item-plain mesh sizes (stepsBytes gs) depth k (placeOf gs i) s f) ∙ e)
 
   pub item-ends : (depth k i : ℕ) (s : Sharding) (w : StepsRead) → i ≤ length gs
-      → itemAt true mesh sizes (stepsBytes gs) depth k (placeOf gs i) s ≡ accept w → Ends i w
+      → itemAt everyKind mesh sizes (stepsBytes gs) depth k (placeOf gs i) s ≡ accept w → Ends i w
   item-ends zero k i s w h e = item-by zero k (λ count k′ i′ s′ w′ h′ e′. absurd (never e′)) i s w e
   item-ends (suc d) k i s w h e =
-      item-by (suc d) k (steps-end (itemAt true mesh sizes (stepsBytes gs) d) (λ k′ i′ s′ w′ h′ e′. item-ends d k′ i′ s′ w′ h′ e′)) i s w e
+      item-by (suc d) k (steps-end (itemAt everyKind mesh sizes (stepsBytes gs) d) (λ k′ i′ s′ w′ h′ e′. item-ends d k′ i′ s′ w′ h′ e′)) i s w e

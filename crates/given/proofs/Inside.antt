@@ -8,14 +8,14 @@ use native.Mathlib.Omega.{arith}
 use lib.ListN.{length, getD, replicate}
 use lib.Dec.{leb}
 use Rattle.rules.specs.Lists.{flat}
-use Rattle.rules.specs.Limits.{mostRun}
+use Rattle.rules.specs.Limits.{mostRun, everyKind}
 use Rattle.rules.specs.Sharding.{Sharding, IsSharding}
 use Rattle.rules.specs.Refusals.{Judged, accept, refuse, _>>_, needAt}
 use Rattle.rules.specs.PlanFile.{Read, repeat, StepsRead, stepsAt, sameSharding, repeatAt, itemAt}
-use Rattle.rules.specs.Types.{shardingOf}
-use Rattle.rules.specs.declared.Sharding as code
-use Rattle.rules.proofs.Judging.{never, accept-inj}
-use Rattle.rules.proofs.Turns.{length-times}
+use Rattle.types.specs.Types.{shardingOf}
+use Rattle.types.specs.declared.Sharding as code
+use Rattle.laws.proofs.Judging.{never, accept-inj}
+use Rattle.laws.proofs.Turns.{length-times}
 use Rattle.reader.specs.Reading.{reading, IfRefused, Tells}
 use Rattle.reader.specs.declared.Next.{Next}
 use Rattle.reader.specs.declared.Next.the-variants as next
@@ -89,20 +89,20 @@ module _ (mesh sizes : List ℕ) (gs : List Given) (depth : ℕ) where
   }
 
   module _ {count i₀ : ℕ} {s₀ : Sharding} {n place runs : ℕ} {s : Sharding} (g : Within count i₀ s₀ n place runs s) where
-    pub within-stops : {a b : ℕ} → n < count → summarized place (itemAt true mesh sizes (stepsBytes gs) depth (place + 1) (placeOf gs place) s) ≡ refuse a b
-        → stepsAt (itemAt true mesh sizes (stepsBytes gs) depth) count (i₀ + 1 + 1) (placeOf gs i₀ + 1 + 2) s₀ ≡ refuse a b
+    pub within-stops : {a b : ℕ} → n < count → summarized place (itemAt everyKind mesh sizes (stepsBytes gs) depth (place + 1) (placeOf gs place) s) ≡ refuse a b
+        → stepsAt (itemAt everyKind mesh sizes (stepsBytes gs) depth) count (i₀ + 1 + 1) (placeOf gs i₀ + 1 + 2) s₀ ≡ refuse a b
     within-stops h e = inner-stops mesh sizes (stepsBytes gs) depth (g .inner) h (summary-stops place _ e)
 
     pub within-done : count ≤ n
-        → stepsAt (itemAt true mesh sizes (stepsBytes gs) depth) count (i₀ + 1 + 1) (placeOf gs i₀ + 1 + 2) s₀ ≡ accept (g .inner .done)
+        → stepsAt (itemAt everyKind mesh sizes (stepsBytes gs) depth) count (i₀ + 1 + 1) (placeOf gs i₀ + 1 + 2) s₀ ≡ accept (g .inner .done)
     within-done h = inner-done mesh sizes (stepsBytes gs) depth (g .inner) h
 
     module _ (ranked : AllRanked (length sizes) gs) (pos : (a : ℕ) → 0 < getD mesh a 1) (h : n < count) {runs′ place′ : ℕ} {s′ : Sharding}
-        (e : summarized place (itemAt true mesh sizes (stepsBytes gs) depth (place + 1) (placeOf gs place) s)
+        (e : summarized place (itemAt everyKind mesh sizes (stepsBytes gs) depth (place + 1) (placeOf gs place) s)
         ≡ accept (record { value = record { runs = runs′; sharding = s′ }; next = place′ })) where
       pub ran-few : runs′ ≤ mostRun
       ran-few =
-          let x = summary-inv place (itemAt true mesh sizes (stepsBytes gs) depth (place + 1) (placeOf gs place) s)
+          let x = summary-inv place (itemAt everyKind mesh sizes (stepsBytes gs) depth (place + 1) (placeOf gs place) s)
           (record { value = record { runs = runs′; sharding = s′ }; next = place′ }) e in
           let r : length (x .0 .steps) ≡ runs′ = ap (λ (r : Read Summary). r .value .runs) (x .2) in
           let f : length (x .0 .steps) ≤ mostRun =
@@ -111,7 +111,7 @@ module _ (mesh sizes : List ℕ) (gs : List Given) (depth : ℕ) where
 
       pub within-step : Within count i₀ s₀ (n + 1) place′ (runs + runs′) s′
       within-step =
-          let x = summary-inv place (itemAt true mesh sizes (stepsBytes gs) depth (place + 1) (placeOf gs place) s)
+          let x = summary-inv place (itemAt everyKind mesh sizes (stepsBytes gs) depth (place + 1) (placeOf gs place) s)
           (record { value = record { runs = runs′; sharding = s′ }; next = place′ }) e in
           let w : StepsRead = x .0 in
           let p-is : place + length (w .records) ≡ place′ = ap (λ (r : Read Summary). r .next) (x .2) in

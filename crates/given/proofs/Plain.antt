@@ -14,11 +14,11 @@ use Rattle.rules.specs.Refusals.{Judged, accept, refuse, _>>=_, _>>_}
 use Rattle.rules.specs.Sharding.{Sharding}
 use Rattle.rules.specs.Collectives as rules
 use Rattle.rules.specs.PlanFile.{kindOf, plain, repeat, StepsRead, judgeStep, plainAt, isRepeat}
-use Rattle.rules.specs.Types.{ofKind, stepOf}
-use Rattle.rules.specs.declared.Kind.{Kind}
-use Rattle.rules.specs.declared.Kind.the-variants.{AllSlice, AllGather, AllReduce, AllToAll, Unknown}
-use Rattle.rules.specs.declared.Step.{Step}
-use Rattle.rules.proofs.Lists.{T-and}
+use Rattle.types.specs.Types.{ofKind, stepOf, kindFrom}
+use Rattle.types.specs.declared.Kind.{Kind}
+use Rattle.types.specs.declared.Kind.the-variants.{AllSlice, AllGather, AllReduce, AllToAll, ReduceScatter, Unknown}
+use Rattle.types.specs.declared.Step.{Step}
+use Rattle.laws.proofs.Lists.{T-and}
 use Rattle.records.specs.Records.{Given, known, stepsBytes}
 use Rattle.records.specs.Forms.{listGiven, dimsGiven, recordBytes, recordCount, stepRecord, givenKind, givenAt, stepsGiven}
 use Rattle.records.specs.RoundTrip.{Ranked, AllRanked}
@@ -49,16 +49,16 @@ module _ (steps : List ℕ) (i : ℕ) where
       let h = repeat-inside e in
       record-here rank steps i h
       ∙ ap (λ (b : Bool). pick b (known (repeat (getD steps (recordBytes * i + 1) 0) (getD steps (recordBytes * i + 2) 0)))
-      (givenKind (kindOf (getD steps (recordBytes * i) 0)) rank (stepRecord steps (recordBytes * i))) ∷ drop (i + 1) (stepsGiven rank steps)) (by-kind h ∙ e)
+      (givenKind (kindFrom (kindOf (getD steps (recordBytes * i) 0))) rank (stepRecord steps (recordBytes * i))) ∷ drop (i + 1) (stepsGiven rank steps)) (by-kind h ∙ e)
 
   pub gives-plain : (rank : ℕ) → i < recordCount steps → repeatHere steps i ≡ false
       → drop i (stepsGiven rank steps)
-      ≡ givenKind (kindOf (getD steps (recordBytes * i) 0)) rank (stepRecord steps (recordBytes * i)) ∷ drop (i + 1) (stepsGiven rank steps)
+      ≡ givenKind (kindFrom (kindOf (getD steps (recordBytes * i) 0))) rank (stepRecord steps (recordBytes * i)) ∷ drop (i + 1) (stepsGiven rank steps)
   unfolding givenAt
   gives-plain rank h e =
       record-here rank steps i h
       ∙ ap (λ (b : Bool). pick b (known (repeat (getD steps (recordBytes * i + 1) 0) (getD steps (recordBytes * i + 2) 0)))
-      (givenKind (kindOf (getD steps (recordBytes * i) 0)) rank (stepRecord steps (recordBytes * i))) ∷ drop (i + 1) (stepsGiven rank steps)) (by-kind h ∙ e)
+      (givenKind (kindFrom (kindOf (getD steps (recordBytes * i) 0))) rank (stepRecord steps (recordBytes * i))) ∷ drop (i + 1) (stepsGiven rank steps)) (by-kind h ∙ e)
 
 -- ---- a list for each dimension
 
@@ -68,6 +68,7 @@ module _ (rank : ℕ) (h : rank ≤ mostDims) where
   kind-ranked AllGather bytes at = sym (dims-length rank (stepRecord bytes at .lists) refl h)
   kind-ranked AllReduce bytes at = tt
   kind-ranked AllToAll bytes at = tt
+  kind-ranked ReduceScatter bytes at = sym (dims-length rank (stepRecord bytes at .lists) refl h)
   kind-ranked Unknown bytes at = tt
 
   given-ranked : (bytes : List ℕ) (at : ℕ) → Ranked rank (givenAt rank bytes at)
@@ -75,9 +76,9 @@ module _ (rank : ℕ) (h : rank ≤ mostDims) where
   given-ranked bytes at = go (eqb (getD bytes at 0) 9)
     where
       go : (b : Bool) → Ranked rank (pick b (known (repeat (getD bytes (at + 1) 0) (getD bytes (at + 2) 0)))
-          (givenKind (kindOf (getD bytes at 0)) rank (stepRecord bytes at)))
+          (givenKind (kindFrom (kindOf (getD bytes at 0))) rank (stepRecord bytes at)))
       go true = tt
-      go false = kind-ranked (kindOf (getD bytes at 0)) bytes at
+      go false = kind-ranked (kindFrom (kindOf (getD bytes at 0))) bytes at
 
   and-one : (gs : List Given) (g : Given) → AllRanked rank gs → Ranked rank g → AllRanked rank (gs ++ g ∷ [])
   and-one [] g a r = (r, tt)
@@ -99,6 +100,7 @@ stepGiven AllSlice rank t = rules.allSlice (dimsGiven rank (t .lists))
 stepGiven AllGather rank t = rules.allGather (dimsGiven rank (t .lists))
 stepGiven AllReduce rank t = rules.allReduce (listGiven (t .list))
 stepGiven AllToAll rank t = rules.allToAll (t .source .0) (t .target .0) (listGiven (t .list))
+stepGiven ReduceScatter rank t = rules.reduceScatter (dimsGiven rank (t .lists))
 stepGiven Unknown rank t = rules.allReduce []
 
 -- one that passes 8 is the step of its places
@@ -111,6 +113,7 @@ step-fits n k rank AllReduce t h e =
 step-fits n k rank AllToAll t h e =
     let p = counts-inv n (listGiven (t .list)) [] e in
     ap (λ (l : List ℕ). rules.allToAll (t .source .0) (t .target .0) l) (list-fits (t .list) (omega (arith, p .0)))
+step-fits n k rank ReduceScatter t h e = ap (λ (l : List (List ℕ)). rules.reduceScatter l) (lists-fit n rank (t .lists) h e)
 step-fits n k rank Unknown t h e = refl
 
 module _ (mesh sizes : List ℕ) (rank : ℕ) (rank-is : length sizes ≡ rank) (few : rank ≤ mostDims) (steps : List ℕ) (i : ℕ) where
@@ -136,12 +139,13 @@ module _ (mesh sizes : List ℕ) (rank : ℕ) (rank-is : length sizes ≡ rank) 
       of-kind AllToAll rest d r =
           let u = stepRecord steps (recordBytes * i) in
           read-plain mesh sizes gs i (rules.allToAll (u .source .0) (u .target .0) (listGiven (u .list))) rest d tt .0
+      of-kind ReduceScatter rest d r = read-plain mesh sizes gs i (rules.reduceScatter (dimsGiven rank (stepRecord steps (recordBytes * i) .lists))) rest d (r ∙ sym rank-is) .0
       of-kind Unknown rest d r = read-unknown mesh sizes gs i rest d .0
 
       go : Dec (i < recordCount steps) → isRepeat (stepsBytes gs) (placeOf gs i) ≡ false
       go (yes h) =
           let byte : ℕ = getD steps (recordBytes * i) 0 in
-          of-kind (kindOf byte) (drop (i + 1) gs) (gives-plain steps i rank h e) (kind-ranked rank few (kindOf byte) steps (recordBytes * i))
+          of-kind (kindFrom (kindOf byte)) (drop (i + 1) gs) (gives-plain steps i rank h e) (kind-ranked rank few (kindFrom (kindOf byte)) steps (recordBytes * i))
       go (no h) = read-none mesh sizes gs i (record-none rank steps i (omega (arith, h))) .0
 
   abbrev t : Step
@@ -152,18 +156,18 @@ module _ (mesh sizes : List ℕ) (rank : ℕ) (rank-is : length sizes ≡ rank) 
 
   abbrev taken : (s : Sharding) → Judged StepsRead
   taken s =
-      _>>=_ (judgeStep mesh sizes (i + 1) (stepGiven (kindOf byte) rank t) s)
+      _>>=_ (judgeStep mesh sizes (i + 1) (stepGiven (kindFrom (kindOf byte)) rank t) s)
       (λ after. accept (record {
-        records = plain (stepGiven (kindOf byte) rank t) ∷ [];
-        steps = stepGiven (kindOf byte) rank t ∷ [];
+        records = plain (stepGiven (kindFrom (kindOf byte)) rank t) ∷ [];
+        steps = stepGiven (kindFrom (kindOf byte)) rank t ∷ [];
         sharding = after;
         next = placeOf gs (i + 1);
       }))
 
   module _ (h : i < recordCount steps) (e : repeatHere steps i ≡ false) (s : Sharding) where
     in-parts : plainAt mesh sizes (stepsBytes gs) (i + 1) (placeOf gs i) s
-        ≡ _>>_ (judgeForm (length mesh) (i + 1) (givenKind (kindOf byte) rank t)) (taken s)
-    in-parts = go (kindOf byte) (gives-plain steps i rank h e) (kind-ranked rank few (kindOf byte) steps (recordBytes * i))
+        ≡ _>>_ (judgeForm (length mesh) (i + 1) (givenKind (kindFrom (kindOf byte)) rank t)) (taken s)
+    in-parts = go (kindFrom (kindOf byte)) (gives-plain steps i rank h e) (kind-ranked rank few (kindFrom (kindOf byte)) steps (recordBytes * i))
       where
         ranked : (kind : Kind) → Ranked rank (givenKind kind rank t) → Ranked (length sizes) (givenKind kind rank t)
         ranked kind r = subst (λ (n : ℕ). Ranked n (givenKind kind rank t)) (sym rank-is) r
@@ -181,13 +185,14 @@ module _ (mesh sizes : List ℕ) (rank : ℕ) (rank-is : length sizes ≡ rank) 
         go AllGather d r = read-plain mesh sizes gs i (stepGiven AllGather rank t) (drop (i + 1) gs) d (ranked AllGather r) .1 (i + 1) s
         go AllReduce d r = read-plain mesh sizes gs i (stepGiven AllReduce rank t) (drop (i + 1) gs) d (ranked AllReduce r) .1 (i + 1) s
         go AllToAll d r = read-plain mesh sizes gs i (stepGiven AllToAll rank t) (drop (i + 1) gs) d (ranked AllToAll r) .1 (i + 1) s
+        go ReduceScatter d r = read-plain mesh sizes gs i (stepGiven ReduceScatter rank t) (drop (i + 1) gs) d (ranked ReduceScatter r) .1 (i + 1) s
         go Unknown d r = read-unknown mesh sizes gs i (drop (i + 1) gs) d .1 (i + 1) s
 
     module _ (n : ℕ) (n-is : length mesh ≡ n) (n-few : n ≤ mostAxes) (u : Step) (u-is : u ≡ t) where
       form-is : {j : Judged (Unit {0})} → judgeForm n (i + 1) (givenKind (u .kind) rank u) ≡ j
-          → judgeForm (length mesh) (i + 1) (givenKind (kindOf byte) rank t) ≡ j
+          → judgeForm (length mesh) (i + 1) (givenKind (kindFrom (kindOf byte)) rank t) ≡ j
       form-is q =
-          ap (λ (m : ℕ). judgeForm m (i + 1) (givenKind (kindOf byte) rank t)) n-is
+          ap (λ (m : ℕ). judgeForm m (i + 1) (givenKind (kindFrom (kindOf byte)) rank t)) n-is
           ∙ sym (ap (λ (z : Step). judgeForm n (i + 1) (givenKind (z .kind) rank z)) u-is) ∙ q
 
       pub form-stops : {a b : ℕ} → judgeForm n (i + 1) (givenKind (u .kind) rank u) ≡ refuse a b
@@ -196,25 +201,25 @@ module _ (mesh sizes : List ℕ) (rank : ℕ) (rank-is : length sizes ≡ rank) 
 
       module _ (q : judgeForm n (i + 1) (givenKind (u .kind) rank u) ≡ accept tt) where
         judged-as : {j : Judged Sharding} → judgeStep mesh sizes (i + 1) (stepOf rank u) s ≡ j
-            → judgeStep mesh sizes (i + 1) (stepGiven (kindOf byte) rank t) s ≡ j
+            → judgeStep mesh sizes (i + 1) (stepGiven (kindFrom (kindOf byte)) rank t) s ≡ j
         judged-as o =
             ap (λ (z : rules.Step). judgeStep mesh sizes (i + 1) z s)
-            (step-fits n (i + 1) rank (kindOf byte) t n-few (sym (ap (λ (m : ℕ). judgeForm m (i + 1) (givenKind (kindOf byte) rank t)) n-is) ∙ form-is q)
+            (step-fits n (i + 1) rank (kindFrom (kindOf byte)) t n-few (sym (ap (λ (m : ℕ). judgeForm m (i + 1) (givenKind (kindFrom (kindOf byte)) rank t)) n-is) ∙ form-is q)
             ∙ sym (ap (λ (z : Step). stepOf rank z) u-is)) ∙ o
 
         then-taken : {j : Judged Sharding} → judgeStep mesh sizes (i + 1) (stepOf rank u) s ≡ j
             → plainAt mesh sizes (stepsBytes gs) (i + 1) (placeOf gs i) s
             ≡ _>>=_ j (λ after. accept (record {
-              records = plain (stepGiven (kindOf byte) rank t) ∷ [];
-              steps = stepGiven (kindOf byte) rank t ∷ [];
+              records = plain (stepGiven (kindFrom (kindOf byte)) rank t) ∷ [];
+              steps = stepGiven (kindFrom (kindOf byte)) rank t ∷ [];
               sharding = after;
               next = placeOf gs (i + 1);
             }))
         then-taken o =
             in-parts ∙ ap (λ (j : Judged (Unit {0})). _>>_ j (taken s)) (form-is q)
             ∙ ap (λ (j : Judged Sharding). _>>=_ j (λ after. accept (record {
-              records = plain (stepGiven (kindOf byte) rank t) ∷ [];
-              steps = stepGiven (kindOf byte) rank t ∷ [];
+              records = plain (stepGiven (kindFrom (kindOf byte)) rank t) ∷ [];
+              steps = stepGiven (kindFrom (kindOf byte)) rank t ∷ [];
               sharding = after;
               next = placeOf gs (i + 1);
             }))) (judged-as o)

@@ -10,9 +10,9 @@ use borrow.Author.Tests.{lt-ltb, le-ltb, le-leb, lt-leb}
 use lib.ListN.{length, getD, take, drop, drop-of-length-le}
 use Rattle.rules.specs.Refusals.{accept, refuse, need}
 use Rattle.rules.specs.PlanFile.{judgeSizes, orderAllowed}
-use Rattle.rules.specs.Types.{meshOf, sizesOf}
-use Rattle.rules.specs.declared.Mesh.{Mesh}
-use Rattle.rules.specs.declared.Table.{Table}
+use Rattle.types.specs.Types.{meshOf, sizesOf}
+use Rattle.types.specs.declared.Mesh.{Mesh}
+use Rattle.types.specs.declared.Table.{Table}
 use Rattle.axes.proofs.Going.{drop-at}
 use Rattle.records.specs.Writing.{judgeOrder}
 use Rattle.given.specs.Given.{meshFrom, tableFrom}

@@ -7,13 +7,13 @@ use native.Mathlib.Omega.{arith}
 use borrow.Author.Tests.{le-leb, lt-leb}
 use lib.ListN.{length, getD}
 use lib.Dec.{leb}
-use Rattle.rules.specs.Limits.{mostRun, mostDepth}
+use Rattle.rules.specs.Limits.{mostRun, mostDepth, everyKind}
 use Rattle.rules.specs.Sharding.{Sharding, IsSharding}
 use Rattle.rules.specs.Refusals.{Judged, accept, refuse, _>>=_, _>>_, needAt}
 use Rattle.rules.specs.PlanFile.{Read, StepsRead, itemAt, Outermost, outermostAt}
-use Rattle.rules.proofs.Repeats.{Told, item-tells}
-use Rattle.rules.proofs.Bytes.{Takes, item-takes}
-use Rattle.rules.proofs.Turns.{steps-sharding}
+use Rattle.laws.proofs.Repeats.{Told, item-tells}
+use Rattle.laws.proofs.Bytes.{Takes, item-takes}
+use Rattle.laws.proofs.Turns.{steps-sharding}
 use Rattle.records.specs.Records.{Given, stepsBytes}
 use Rattle.records.specs.RoundTrip.{AllRanked}
 use Rattle.given.specs.Given.{placeOf, Summary, summarized, verdictOf}
@@ -25,20 +25,20 @@ module _ (mesh sizes : List ℕ) (gs : List Given) where
   file = stepsBytes gs
 
   abbrev turns : (ran count k at : ℕ) → Sharding → Judged (Unit {0})
-  turns ran count k at s = verdictOf (outermostAt true mesh sizes file ran count k at s)
+  turns ran count k at s = verdictOf (outermostAt everyKind mesh sizes file ran count k at s)
 
   -- the steps after the first of them
   abbrev others : (ran count k : ℕ) → StepsRead → Judged (Unit {0})
   others ran count k w =
       _>>_ (needAt k (leb (ran + length (w .steps)) mostRun) 43) (turns (ran + length (w .steps)) count (k + length (w .records)) (w .next) (w .sharding))
 
-  first-of : (ran count k at : ℕ) (s : Sharding) {j : Judged StepsRead} → 0 < count → itemAt true mesh sizes file mostDepth k at s ≡ j
+  first-of : (ran count k at : ℕ) (s : Sharding) {j : Judged StepsRead} → 0 < count → itemAt everyKind mesh sizes file mostDepth k at s ≡ j
       → turns ran count k at s ≡ _>>=_ j (others ran (count - 1) k)
   unfolding outermostAt
   first-of ran zero k at s h e = absurd (omega arith)
   first-of ran (suc count) k at s {j} h e =
       let z : count ≡ suc count - 1 = omega arith in
-      go (itemAt true mesh sizes file mostDepth k at s) ∙ ap (λ (j : Judged StepsRead). _>>=_ j (others ran count k)) e
+      go (itemAt everyKind mesh sizes file mostDepth k at s) ∙ ap (λ (j : Judged StepsRead). _>>=_ j (others ran count k)) e
       ∙ ap (λ (n : ℕ). _>>=_ j (others ran n k)) z
     where
       joined : StepsRead → Outermost → Outermost
@@ -55,9 +55,9 @@ module _ (mesh sizes : List ℕ) (gs : List Given) where
 
       go : (x : Judged StepsRead)
           → verdictOf (_>>=_ x (λ t. _>>_ (needAt k (leb (ran + length (t .steps)) mostRun) 43)
-          (_>>=_ (outermostAt true mesh sizes file (ran + length (t .steps)) count (k + length (t .records)) (t .next) (t .sharding)) (λ ts. accept (joined t ts)))))
+          (_>>=_ (outermostAt everyKind mesh sizes file (ran + length (t .steps)) count (k + length (t .records)) (t .next) (t .sharding)) (λ ts. accept (joined t ts)))))
           ≡ _>>=_ x (others ran count k)
-      go (accept t) = mid t (leb (ran + length (t .steps)) mostRun) (outermostAt true mesh sizes file (ran + length (t .steps)) count (k + length (t .records)) (t .next) (t .sharding))
+      go (accept t) = mid t (leb (ran + length (t .steps)) mostRun) (outermostAt everyKind mesh sizes file (ran + length (t .steps)) count (k + length (t .records)) (t .next) (t .sharding))
       go (refuse a b) = refl
 
   -- n of the outermost steps are judged
@@ -66,7 +66,7 @@ module _ (mesh sizes : List ℕ) (gs : List Given) where
     pub inside : place ≤ length gs
     pub sound : IsSharding mesh sizes s
     pub ran-few : ran ≤ mostRun
-    pub same : verdictOf (outermostAt true mesh sizes (stepsBytes gs) 0 count 1 0 s₀) ≡ turns ran (count - n) (place + 1) (placeOf gs place) s
+    pub same : verdictOf (outermostAt everyKind mesh sizes (stepsBytes gs) 0 count 1 0 s₀) ≡ turns ran (count - n) (place + 1) (placeOf gs place) s
 
   pub turns-start : (count : ℕ) (s₀ : Sharding) → IsSharding mesh sizes s₀ → Turning count s₀ 0 0 0 s₀
   unfolding stepsBytes
@@ -75,21 +75,21 @@ module _ (mesh sizes : List ℕ) (gs : List Given) where
       record { few = omega arith; inside = omega arith; sound = h; ran-few = omega arith; same = ap (λ (n : ℕ). turns 0 n 1 0 s₀) z }
 
   module _ {count : ℕ} {s₀ : Sharding} {n place ran : ℕ} {s : Sharding} (g : Turning count s₀ n place ran s) where
-    pub turns-done : count ≤ n → verdictOf (outermostAt true mesh sizes (stepsBytes gs) 0 count 1 0 s₀) ≡ accept tt
+    pub turns-done : count ≤ n → verdictOf (outermostAt everyKind mesh sizes (stepsBytes gs) 0 count 1 0 s₀) ≡ accept tt
     unfolding outermostAt
     turns-done h = let z : count - n ≡ 0 = omega arith in g .same ∙ ap (λ (m : ℕ). turns ran m (place + 1) (placeOf gs place) s) z
 
-    pub turn-stops : {a b : ℕ} → n < count → summarized place (itemAt true mesh sizes (stepsBytes gs) mostDepth (place + 1) (placeOf gs place) s) ≡ refuse a b
-        → verdictOf (outermostAt true mesh sizes (stepsBytes gs) 0 count 1 0 s₀) ≡ refuse a b
+    pub turn-stops : {a b : ℕ} → n < count → summarized place (itemAt everyKind mesh sizes (stepsBytes gs) mostDepth (place + 1) (placeOf gs place) s) ≡ refuse a b
+        → verdictOf (outermostAt everyKind mesh sizes (stepsBytes gs) 0 count 1 0 s₀) ≡ refuse a b
     turn-stops h e = g .same ∙ first-of ran (count - n) (place + 1) (placeOf gs place) s (omega arith) (summary-stops place _ e)
 
     module _ (ranked : AllRanked (length sizes) gs) (pos : (a : ℕ) → 0 < getD mesh a 1) (h : n < count) {runs′ place′ : ℕ} {s′ : Sharding}
-        (e : summarized place (itemAt true mesh sizes (stepsBytes gs) mostDepth (place + 1) (placeOf gs place) s)
+        (e : summarized place (itemAt everyKind mesh sizes (stepsBytes gs) mostDepth (place + 1) (placeOf gs place) s)
         ≡ accept (record { value = record { runs = runs′; sharding = s′ }; next = place′ })) where
       -- what is read of it
       pub record Turned : Type 0 where
         pub item : StepsRead
-        pub reads : itemAt true mesh sizes (stepsBytes gs) mostDepth (place + 1) (placeOf gs place) s ≡ accept item
+        pub reads : itemAt everyKind mesh sizes (stepsBytes gs) mostDepth (place + 1) (placeOf gs place) s ≡ accept item
         pub runs-are : length (item .steps) ≡ runs′
         pub sharding-is : item .sharding ≡ s′
         pub place-is : place + length (item .records) ≡ place′
@@ -100,13 +100,13 @@ module _ (mesh sizes : List ℕ) (gs : List Given) where
 
       pub turned : Turned
       turned =
-          let x = summary-inv place (itemAt true mesh sizes (stepsBytes gs) mostDepth (place + 1) (placeOf gs place) s)
+          let x = summary-inv place (itemAt everyKind mesh sizes (stepsBytes gs) mostDepth (place + 1) (placeOf gs place) s)
           (record { value = record { runs = runs′; sharding = s′ }; next = place′ }) e in
           let w : StepsRead = x .0 in
           let p-is : place + length (w .records) ≡ place′ = ap (λ (r : Read Summary). r .next) (x .2) in
           let r-is : length (w .steps) ≡ runs′ = ap (λ (r : Read Summary). r .value .runs) (x .2) in
           let z : Ends mesh sizes gs ranked place w = item-ends mesh sizes gs ranked mostDepth (place + 1) place s w (g .inside) (x .1) in
-          let t : Takes mesh sizes (stepsBytes gs) (placeOf gs place) w = item-takes mesh sizes (stepsBytes gs) true mostDepth (place + 1) (placeOf gs place) s w (x .1) in
+          let t : Takes mesh sizes (stepsBytes gs) (placeOf gs place) w = item-takes mesh sizes (stepsBytes gs) everyKind mostDepth (place + 1) (placeOf gs place) s w (x .1) in
           record {
             item = w;
             reads = x .1;
@@ -119,7 +119,7 @@ module _ (mesh sizes : List ℕ) (gs : List Given) where
             few = omega (arith, t .few, r-is);
           }
 
-      then-others : verdictOf (outermostAt true mesh sizes (stepsBytes gs) 0 count 1 0 s₀)
+      then-others : verdictOf (outermostAt everyKind mesh sizes (stepsBytes gs) 0 count 1 0 s₀)
           ≡ _>>_ (needAt (place + 1) (leb (ran + runs′) mostRun) 43) (turns (ran + runs′) (count - (n + 1)) (place′ + 1) (placeOf gs place′) s′)
       then-others =
           let t = turned in
@@ -128,14 +128,14 @@ module _ (mesh sizes : List ℕ) (gs : List Given) where
           g .same ∙ first-of ran (count - n) (place + 1) (placeOf gs place) s (omega arith) (t .reads)
           ∙ (λ j. _>>_ (needAt (place + 1) (leb (ran + t .runs-are j) mostRun) 43) (turns (ran + t .runs-are j) (m j) (k-is j) (t .next-is j) (t .sharding-is j)))
 
-      pub turn-over : mostRun < ran + runs′ → verdictOf (outermostAt true mesh sizes (stepsBytes gs) 0 count 1 0 s₀) ≡ refuse 43 (place + 1)
+      pub turn-over : mostRun < ran + runs′ → verdictOf (outermostAt everyKind mesh sizes (stepsBytes gs) 0 count 1 0 s₀) ≡ refuse 43 (place + 1)
       turn-over o =
           then-others ∙ ap (λ (b : Bool). _>>_ (needAt (place + 1) b 43) (turns (ran + runs′) (count - (n + 1)) (place′ + 1) (placeOf gs place′) s′)) (lt-leb _ _ o)
 
       pub turn-step : ran + runs′ ≤ mostRun → Turning count s₀ (n + 1) place′ (ran + runs′) s′
       turn-step o =
           let t = turned in
-          let u : Told mesh sizes (stepsBytes gs) s (t .item) = item-tells mesh sizes (stepsBytes gs) true mostDepth (place + 1) (placeOf gs place) s (t .item) (t .reads) in
+          let u : Told mesh sizes (stepsBytes gs) s (t .item) = item-tells mesh sizes (stepsBytes gs) everyKind mostDepth (place + 1) (placeOf gs place) s (t .item) (t .reads) in
           record {
             few = omega arith;
             inside = t .inside;

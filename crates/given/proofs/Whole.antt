@@ -1,24 +1,24 @@
 -- The whole judgement in its parts (`in-parts`), and what the parts that passed give to the later ones. Assumes nothing.
 use Prim.Native.Nat.{ℕ, _≤_, _<_}
 use mathlib.Core.Path.{_≡_, refl, sym, ap, _∙_, subst}
-use mathlib.Core.Bool.{Bool, true}
+use mathlib.Core.Bool.{Bool}
 use mathlib.Core.List.{List, [], _∷_}
 use native.Mathlib.Omega.{arith}
 use borrow.Author.Tests.{le-leb, lt-leb}
 use lib.ListN.{length}
 use lib.Dec.{leb, leb→le}
-use Rattle.rules.specs.Limits.{mostAxes, mostDims, mostDevices, mostWords, mostSteps}
+use Rattle.rules.specs.Limits.{mostAxes, mostDims, mostDevices, mostWords, mostSteps, everyKind}
 use Rattle.rules.specs.Mesh.{devices, OnMesh}
 use Rattle.rules.specs.Refusals.{Judged, accept, refuse, _>>=_, _>>_, need}
 use Rattle.rules.specs.Sharding.{Sharding, IsSharding}
 use Rattle.rules.specs.PlanFile.{axesAllowed, rankAllowed, judgeSizes, judgeStart, outermostAt}
-use Rattle.rules.specs.Types.{Sized, shardingOf, meshOf, sizesOf}
-use Rattle.rules.specs.declared.Mesh.{Mesh}
-use Rattle.rules.specs.declared.Sharding as code
-use Rattle.rules.specs.declared.Table.{Table}
-use Rattle.rules.proofs.Lists.{T-and}
-use Rattle.rules.proofs.Judging.{need-inv, then-inv}
-use Rattle.rules.proofs.Accepted.{SizesFacts, sizes-facts, start-sharding}
+use Rattle.types.specs.Types.{Sized, shardingOf, meshOf, sizesOf}
+use Rattle.types.specs.declared.Mesh.{Mesh}
+use Rattle.types.specs.declared.Sharding as code
+use Rattle.types.specs.declared.Table.{Table}
+use Rattle.laws.proofs.Lists.{T-and}
+use Rattle.laws.proofs.Judging.{need-inv, then-inv}
+use Rattle.laws.proofs.Accepted.{SizesFacts, sizes-facts, start-sharding}
 use Rattle.records.specs.Records.{outermost, stepsBytes}
 use Rattle.records.specs.Writing.{judgeCounts, judgeSharding, judgeOrder, judgeOpening, mostRecords, judgeRecords}
 use Rattle.records.specs.Forms.{listGiven, dimsGiven, shardingGiven, recordCount, stepsGiven, recordsGiven}
@@ -135,7 +135,7 @@ module _ (mesh order sizes : List ℕ) (start : code.Sharding) (steps : List ℕ
       regrouped (need (axesAllowed (length mesh)) 5) (need (rankAllowed (length sizes)) 5) (need (leb (outermost (stepsGiven (length sizes) steps)) mostSteps) 5)
       (judgeSizes mostDevices 10 11 1 mesh) (judgeOrder (devices mesh) order) (judgeSizes mostWords 12 13 1 sizes)
       (judgeSharding mesh sizes (shardingGiven (length sizes) start)) (need (leb (length (stepsGiven (length sizes) steps)) mostRecords) 2)
-      (outermostAt true mesh sizes (stepsBytes (stepsGiven (length sizes) steps)) 0 (outermost (stepsGiven (length sizes) steps)) 1 0 (shardingGiven (length sizes) start))
+      (outermostAt everyKind mesh sizes (stepsBytes (stepsGiven (length sizes) steps)) 0 (outermost (stepsGiven (length sizes) steps)) 1 0 (shardingGiven (length sizes) start))
       _
       ∙ (λ i. _>>_ (judgeShape mesh order sizes (sym c i)) (_>>_ (judgeSharding mesh sizes (shardingGiven (length sizes) start))
       (_>>_ (need (leb (given-length (length sizes) steps i) mostRecords) 2)

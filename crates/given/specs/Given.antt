@@ -2,20 +2,20 @@
 -- arguments stand for in records/specs/Forms.antt. Assumes nothing.
 use Prim.Native.Nat.{ℕ, _+_, _*_, _≤_}
 use mathlib.Core.Path.{_≡_}
-use mathlib.Core.Bool.{Bool, true, _&&_}
+use mathlib.Core.Bool.{Bool, _&&_}
 use mathlib.Core.List.{List, [], _∷_}
 use lib.ListN.{length, getD, take}
 use lib.Dec.{ltb, leb, eqb}
-use Rattle.rules.specs.Limits.{mostDims, mostDevices, mostWords, mostSteps, mostRun}
+use Rattle.rules.specs.Limits.{mostDims, mostDevices, mostWords, mostSteps, mostRun, everyKind}
 use Rattle.rules.specs.Mesh.{devices}
 use Rattle.rules.specs.Refusals.{Judged, accept, refuse, _>>_, need, needAt}
 use Rattle.rules.specs.Sharding.{Sharding, IsSharding}
 use Rattle.rules.specs.Collectives as rules
 use Rattle.rules.specs.PlanFile.{axesAllowed, rankAllowed, judgeSizes, Read, plain, repeat, StepsRead, plainAt, sameSharding, repeatAt, itemAt, outermostAt}
-use Rattle.rules.specs.Types.{shardingOf, meshOf, sizesOf, WithinPlaces}
-use Rattle.rules.specs.declared.Mesh.{Mesh}
-use Rattle.rules.specs.declared.Sharding as code
-use Rattle.rules.specs.declared.Table.{Table}
+use Rattle.types.specs.Types.{shardingOf, meshOf, sizesOf, WithinPlaces}
+use Rattle.types.specs.declared.Mesh.{Mesh}
+use Rattle.types.specs.declared.Sharding as code
+use Rattle.types.specs.declared.Table.{Table}
 use Rattle.reader.specs.Reading.{reading, Tells}
 use Rattle.reader.specs.declared.Next.the-variants as next
 use Rattle.blocks.specs.Blocks.{innerAt}
@@ -56,6 +56,7 @@ listsIn (rules.allSlice Ss) = Ss
 listsIn (rules.allGather Gs) = Gs
 listsIn (rules.allReduce L) = L ∷ []
 listsIn (rules.allToAll source target L) = L ∷ []
+listsIn (rules.reduceScatter Ss) = Ss
 
 -- what is judged of a record with number k before its step is: 20, and 8 over its lists
 abbrev pub judgeForm : (n k : ℕ) → Given → Judged (Unit {0})
@@ -106,7 +107,7 @@ repeatGiven mesh sizes rank steps depth i s =
     summarized i (repeatAt (innerAt mesh sizes (bytesGiven rank steps) depth (i + 1)) (bytesGiven rank steps) (i + 1) (placeGiven rank steps i + 1) s)
 
 abbrev pub itemGiven : (mesh sizes : List ℕ) → (rank : ℕ) → List ℕ → (depth i : ℕ) → Sharding → Judged (Read Summary)
-itemGiven mesh sizes rank steps depth i s = summarized i (itemAt true mesh sizes (bytesGiven rank steps) depth (i + 1) (placeGiven rank steps i) s)
+itemGiven mesh sizes rank steps depth i s = summarized i (itemAt everyKind mesh sizes (bytesGiven rank steps) depth (i + 1) (placeGiven rank steps i) s)
 
 abbrev pub summaryIn : ℕ → RecordsJudged → Summary
 summaryIn rank r = record { runs = r .runs; sharding = shardingOf rank (r .sharding) }
@@ -154,7 +155,7 @@ judgeShape mesh order sizes steps = do
 
 -- so many outermost steps, from the first record on
 abbrev pub outermostGiven : (mesh sizes : List ℕ) → (rank : ℕ) → List ℕ → (count : ℕ) → Sharding → Judged (Unit {0})
-outermostGiven mesh sizes rank steps count s = verdictOf (outermostAt true mesh sizes (bytesGiven rank steps) 0 count 1 0 s)
+outermostGiven mesh sizes rank steps count s = verdictOf (outermostAt everyKind mesh sizes (bytesGiven rank steps) 0 count 1 0 s)
 
 -- the sharding, then the records
 abbrev pub judgeRest : (mesh sizes : List ℕ) → (rank : ℕ) → code.Sharding → List ℕ → (count : ℕ) → Judged (Unit {0})

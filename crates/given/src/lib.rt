@@ -8,9 +8,10 @@ ghost use lib.ListN.{length, getD};
 ghost use lib.Dec.{leb, eqb};
 ghost use Rattle.rules.specs.Limits.{mostAxes, mostDims, mostWords};
 ghost use Rattle.rules.specs.Mesh.{devices as devicesOf, OnMesh};
-ghost use Rattle.rules.specs.Refusals.{need, numberOf, refusedAs};
+ghost use Rattle.rules.specs.Refusals.{need};
+ghost use Rattle.types.specs.Answers.{numberOf, refusedAs};
 ghost use Rattle.rules.specs.PlanFile.{judgeSizes};
-ghost use Rattle.rules.specs.Types.{shardingOf, meshOf, sizesOf};
+ghost use Rattle.types.specs.Types.{shardingOf, meshOf, sizesOf};
 ghost use Rattle.start.specs.Start.{meaning};
 ghost use Rattle.blocks.specs.Blocks.{headAt, repeatRead};
 ghost use Rattle.records.specs.Writing.{judgeCounts, judgeSharding, judgeOrder, mostRecords, judgeRecords};
@@ -27,22 +28,22 @@ use judge::judge_step;
 use mesh::product_from;
 use order::order_allowed;
 use reader::Next;
-use rules::Axis;
-use rules::AxisList;
-use rules::Device;
-use rules::Dim;
-use rules::DimLists;
-use rules::Kind;
-use rules::Mesh;
-use rules::Reason;
-use rules::Refusal;
-use rules::Sharding;
-use rules::Step;
-use rules::Table;
 use start::Verdict;
 use start::judge_start;
 use start::refusal_of;
 use start::refused;
+use types::Axis;
+use types::AxisList;
+use types::Device;
+use types::Dim;
+use types::DimLists;
+use types::Kind;
+use types::Mesh;
+use types::Reason;
+use types::Refusal;
+use types::Sharding;
+use types::Step;
+use types::Table;
 
 // 5: "n, rank or step count outside its limits"; the steps that count are the outermost ones.
 pub fn judge_limits(n: usize, rank: usize, steps: usize) -> Verdict
@@ -220,6 +221,7 @@ fn judge_form(step: Step, k: u16, rank: usize, n: usize) -> Verdict
         Kind::AllGather => judge_counts(step.lists, rank, n),
         Kind::AllReduce => judge_count(step.list, n),
         Kind::AllToAll => judge_count(step.list, n),
+        Kind::ReduceScatter => judge_counts(step.lists, rank, n),
         Kind::Unknown => refused(Reason::UnknownKind, k),
     }
 }

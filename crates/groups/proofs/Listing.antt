@@ -13,19 +13,20 @@ use lib.Dec.{leb, leb→le, lit<, lit≤}
 use Rattle.rules.specs.Lists.{tab}
 use Rattle.rules.specs.Mesh.{devices, plainOrder, listing, placesListed, OnMesh, Rearrangement}
 use Rattle.rules.specs.Limits.{mostAxes, mostDevices}
-use Rattle.rules.specs.Refusals.{Judged, accept, refuse, _>>_, need, refusedAs}
+use Rattle.rules.specs.Refusals.{Judged, accept, refuse, _>>_, need}
+use Rattle.types.specs.Answers.{refusedAs, groupsMeaning}
 use Rattle.rules.specs.PlanFile.{axesAllowed, judgeSizes, judgeAxes, same, rearranges, orderAllowed}
-use Rattle.rules.specs.Calls.{groupsBy, groupsOut, groupsOf, groupsLeave, groupsOrderedOf, groupsOrderedLeave, groupsMeaning}
-use Rattle.rules.specs.Promises.{ListingPromise, GroupsPromise, GroupsOrderedPromise}
-use Rattle.rules.specs.declared.Refusal.{Refusal}
-use Rattle.rules.specs.declared.GroupsOutcome.{GroupsOutcome}
-use Rattle.rules.specs.declared.GroupsOutcome.the-variants as groups
-use Rattle.rules.proofs.Lists.{T-and}
-use Rattle.rules.proofs.Judging.{accept-inj, need-inv, need-true, then-inv, then-assoc}
-use Rattle.rules.proofs.Accepted.{SizesFacts, sizes-facts, AxesFacts, axes-facts}
-use Rattle.rules.proofs.Fronts.{lent-put}
-use Rattle.rules.proofs.Groups.{places-rearranges}
-use Rattle.rules.proofs.Orders.{rearranged, plain-rearranged, listing-places, listing-plain, listing-rearranges}
+use Rattle.rules.specs.Calls.{groupsBy, groupsOut, groupsOf, groupsLeave, groupsOrderedOf, groupsOrderedLeave}
+use Rattle.types.specs.Promises.{ListingPromise, GroupsPromise, GroupsOrderedPromise}
+use Rattle.types.specs.declared.Refusal.{Refusal}
+use Rattle.types.specs.declared.GroupsOutcome.{GroupsOutcome}
+use Rattle.types.specs.declared.GroupsOutcome.the-variants as groups
+use Rattle.laws.proofs.Lists.{T-and}
+use Rattle.laws.proofs.Judging.{accept-inj, need-inv, need-true, then-inv, then-assoc}
+use Rattle.laws.proofs.Accepted.{SizesFacts, sizes-facts, AxesFacts, axes-facts}
+use Rattle.laws.proofs.Fronts.{lent-put}
+use Rattle.laws.proofs.Groups.{places-rearranges}
+use Rattle.laws.proofs.Orders.{rearranged, plain-rearranged, listing-places, listing-plain, listing-rearranges}
 use Rattle.order.specs.Order.{EachBelow}
 use Rattle.groups.specs.Ordering.{judgeMesh, judgeBoth, placesOut, ByPlace, axisOrder, along, IsList, IsAxisOrder}
 use Rattle.groups.proofs.Ordering.{list-length, order-list, order-span, places-along}

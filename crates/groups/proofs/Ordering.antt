@@ -10,7 +10,7 @@ use native.Mathlib.Decide.{ℕ-discrete}
 use lib.ListN.{length, set, replicate, length-append}
 use Rattle.rules.specs.Lists.{tab, product, without, In, Distinct}
 use Rattle.rules.specs.Mesh.{number, coords, devices, span, member, remaining, placesListed, OnMesh}
-use Rattle.rules.proofs.Lists.{
+use Rattle.laws.proofs.Lists.{
   length-tab,
   tab-cong,
   in-axes,
@@ -28,8 +28,8 @@ use Rattle.rules.proofs.Lists.{
   without-other,
   without-absent,
 }
-use Rattle.rules.proofs.Positions.{member-set, span-append}
-use Rattle.rules.proofs.Groups.{span-remaining, places-tab}
+use Rattle.laws.proofs.Positions.{member-set, span-append}
+use Rattle.laws.proofs.Groups.{span-remaining, places-tab}
 use Rattle.mesh.proofs.Sizes.{mod-div, mod-mod-right}
 use Rattle.mesh.proofs.Positions.{span-pos}
 use Rattle.groups.specs.Ordering.{axisOrder, IsList, along}

@@ -10,10 +10,10 @@ use lib.ListN.{length, getD, set, take, drop, length-set, length-append, length-
 use lib.Seq.{drop-at, drop-cons, drop-drop, drop-set-lt}
 use Rattle.rules.specs.Lists.{tab, product, In, Distinct}
 use Rattle.rules.specs.Mesh.{devices, span}
-use Rattle.rules.proofs.Lists.{length-tab, getD-tab, tab-cong}
-use Rattle.rules.proofs.Positions.{span-append}
-use Rattle.rules.proofs.Buffers.{number-coords}
-use Rattle.rules.proofs.Fronts.{Filled, part-tab, next-part}
+use Rattle.laws.proofs.Lists.{length-tab, getD-tab, tab-cong}
+use Rattle.laws.proofs.Positions.{span-append}
+use Rattle.laws.proofs.Buffers.{number-coords}
+use Rattle.laws.proofs.Fronts.{Filled, part-tab, next-part}
 use Rattle.mesh.proofs.Sizes.{axis-bounds}
 use Rattle.mesh.proofs.Positions.{span-pos, member-fits, member-front, distinct-drop, in-drop}
 use Rattle.groups.specs.Ordering.{along, repeated, IsAxisOrder, Repeats}

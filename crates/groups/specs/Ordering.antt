@@ -8,8 +8,9 @@ use Rattle.rules.specs.Mesh.{number, coords, devices, span, member, placesListe
 use Rattle.rules.specs.Limits.{mostAxes, mostDevices}
 use Rattle.rules.specs.Refusals.{Judged, accept, refuse, _>>_, need}
 use Rattle.rules.specs.PlanFile.{axesAllowed, judgeSizes}
-use Rattle.rules.specs.Calls.{groupsBy, groupsMeaning}
-use Rattle.rules.specs.declared.GroupsOutcome.{GroupsOutcome}
+use Rattle.rules.specs.Calls.{groupsBy}
+use Rattle.types.specs.Answers.{groupsMeaning}
+use Rattle.types.specs.declared.GroupsOutcome.{GroupsOutcome}
 
 -- 5, 10, 11: what groupsBy judges before an order
 abbrev pub judgeMesh : List ℕ → Judged (Unit {0})

@@ -11,8 +11,8 @@ ghost use Rattle.rules.specs.Mesh.{devices, OnMesh};
 ghost use Rattle.rules.specs.Limits.{mostAxes, mostDevices};
 ghost use Rattle.rules.specs.Refusals.{accept, need};
 ghost use Rattle.rules.specs.PlanFile.{axesAllowed, judgeSizes, orderAllowed};
-ghost use Rattle.rules.specs.Types.{axesOf};
-ghost use Rattle.rules.specs.Promises.{GroupsPromise, GroupsOrderedPromise};
+ghost use Rattle.types.specs.Types.{axesOf};
+ghost use Rattle.types.specs.Promises.{GroupsPromise, GroupsOrderedPromise};
 ghost use Rattle.start.specs.Start.{meaning};
 ghost use Rattle.groups.specs.Ordering.{judgeMesh, judgeBoth, ByPlace, axisOrder, along, repeated, IsList, IsAxisOrder, Repeats};
 use axes::is_in;
@@ -20,15 +20,15 @@ use mesh::product_from;
 use mesh::size_at;
 use order::look_up;
 use order::order_allowed;
-use rules::Axis;
-use rules::AxisList;
-use rules::Device;
-use rules::GroupsOutcome;
-use rules::Reason;
 use start::Verdict;
 use start::judge_axes;
 use start::refusal_of;
 use start::refused;
+use types::Axis;
+use types::AxisList;
+use types::Device;
+use types::GroupsOutcome;
+use types::Reason;
 
 // 5: "n .. outside its limits"
 fn judge_count(n: usize) -> Verdict

@@ -1,6 +1,6 @@
 // The library as its users see it: the calls, and the types of what they take and answer.
-// No call asks anything of its input; what each promises is in rules/specs/Promises.antt, and of the calls on records in records/specs/Promises.antt.
-ghost use Rattle.rules.specs.Promises.{CheckPromise, PlacePromise, GroupsPromise, GroupsOrderedPromise, RunPromise};
+// No call asks anything of its input; what each promises is in types/specs/Promises.antt, and of the calls on records in records/specs/Promises.antt.
+ghost use Rattle.types.specs.Promises.{CheckPromise, PlacePromise, GroupsPromise, GroupsOrderedPromise, RunPromise};
 ghost use Rattle.placements.specs.PlaceAll.{PlaceAllPromise};
 ghost use Rattle.records.specs.Promises.{WritePromise, ReadPromise, PlanPromise};
 pub use placements::PlaceAllOutcome;
@@ -12,23 +12,23 @@ pub use records::ReadCounts;
 pub use records::ReadOutcome;
 pub use records::Steps;
 pub use records::WriteOutcome;
-pub use rules::Axis;
-pub use rules::AxisList;
-pub use rules::CheckOutcome;
-pub use rules::Checked;
-pub use rules::Device;
-pub use rules::Dim;
-pub use rules::DimLists;
-pub use rules::GroupsOutcome;
-pub use rules::Kind;
-pub use rules::PlaceOutcome;
-pub use rules::Placed;
-pub use rules::Reason;
-pub use rules::Refusal;
-pub use rules::RunOutcome;
-pub use rules::Sharding;
-pub use rules::Step;
-pub use rules::Totals;
+pub use types::Axis;
+pub use types::AxisList;
+pub use types::CheckOutcome;
+pub use types::Checked;
+pub use types::Device;
+pub use types::Dim;
+pub use types::DimLists;
+pub use types::GroupsOutcome;
+pub use types::Kind;
+pub use types::PlaceOutcome;
+pub use types::Placed;
+pub use types::Reason;
+pub use types::Refusal;
+pub use types::RunOutcome;
+pub use types::Sharding;
+pub use types::Step;
+pub use types::Totals;
 
 // Judges a plan file: the room, D, the number of steps, the rank, the final sharding and its shard sizes, or the refusal.
 pub fn check(file: &[u8]) -> Checked

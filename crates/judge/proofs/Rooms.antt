@@ -1,5 +1,5 @@
 -- Lists that a slice joins to a sharding's have places: no axis is named twice, and a mesh has no more axes than a list has places.
--- Of an all-slice `fresh-room`, of the second half of an all-to-all `moved-room`. Assumes nothing.
+-- Of an all-slice `fresh-room`, of a reduce-scatter `scatter-room`, of the second half of an all-to-all `moved-room`. Assumes nothing.
 use Prim.Native.Nat.{ℕ, _≤_, _<_}
 use mathlib.Core.Path.{_≡_, sym, _∙_, subst}
 use mathlib.Core.Logic.{⊎-elim}
@@ -11,10 +11,10 @@ use Rattle.rules.specs.Lists.{each, both, flat, In, Distinct}
 use Rattle.rules.specs.Limits.{mostAxes}
 use Rattle.rules.specs.Sharding.{Sharding, IsSharding, varying, named}
 use Rattle.rules.specs.Collectives.{only, cutTail, gathered}
-use Rattle.rules.specs.PlanFile.{allBelow, fresh, isTail}
-use Rattle.rules.proofs.Lists.{in-left, in-append, at-flat, distinct-split, distinct-append, distinct-at, few-distinct, Apart}
-use Rattle.rules.proofs.Judging.{allBelow-lt, fresh-distinct}
-use Rattle.rules.proofs.Steps.{flat-only, varies, Gathered, gather-sharding}
+use Rattle.rules.specs.PlanFile.{allBelow, fresh, isTail, allIn}
+use Rattle.laws.proofs.Lists.{in-left, in-append, at-flat, distinct-split, distinct-append, distinct-at, few-distinct, Apart}
+use Rattle.laws.proofs.Judging.{allBelow-lt, fresh-distinct, allIn-in}
+use Rattle.laws.proofs.Steps.{flat-only, varies, Gathered, gather-sharding}
 use Rattle.dims.specs.Dims.{Room}
 
 room : (n : ℕ) (ds Ss : List (List ℕ)) → n ≤ mostAxes → Apart ds Ss → ((a : ℕ) → In a (flat ds) → a < n) → ((a : ℕ) → In a (flat Ss) → a < n)
@@ -42,6 +42,16 @@ module _ (mesh sizes : List ℕ) (s : Sharding) (g : IsSharding mesh sizes s) (w
         left = distinct-split (flat (s .dims)) (s .unreduced) (varies mesh sizes s g .once) .0;
         right = r .0;
         off = λ a i j. r .1 a i (in-dims s a j);
+      }) (λ a i. g .of-mesh a (in-dims s a i)) (allBelow-lt (length mesh) (flat Ss) b)
+
+  pub scatter-room : (Ss : List (List ℕ)) → T (allBelow (length mesh) (flat Ss)) → T (fresh [] (flat Ss)) → T (allIn (flat Ss) (s .unreduced))
+      → Room (s .dims) Ss
+  scatter-room Ss b f u =
+      let p = distinct-split (flat (s .dims)) (s .unreduced) (varies mesh sizes s g .once) in
+      room (length mesh) (s .dims) Ss w (record {
+        left = p .0;
+        right = fresh-distinct [] (flat Ss) f .0;
+        off = λ a i j. p .2 a j (allIn-in (flat Ss) (s .unreduced) u a i);
       }) (λ a i. g .of-mesh a (in-dims s a i)) (allBelow-lt (length mesh) (flat Ss) b)
 
   module _ (pos : (a : ℕ) → 0 < getD mesh a 1) (source target : ℕ) (L : List ℕ) (b : T (allBelow (length mesh) L)) (rank : ℕ) (p : source < rank)

@@ -2,11 +2,12 @@
 -- fine gives it again: `sharded-after` of taking/proofs/Takes.antt. Assumes nothing.
 use Prim.Native.Nat.{ℕ}
 use Rattle.rules.specs.Sharding.{Sharding, IsSharding}
-use Rattle.rules.specs.Refusals.{Judged, accept, refusedAs}
-use Rattle.rules.specs.Types.{shardingOf, meshOf, sizesOf, WithinPlaces}
-use Rattle.rules.specs.declared.Sharding as code
-use Rattle.rules.specs.declared.Table.{Table}
-use Rattle.rules.specs.declared.Mesh.{Mesh}
+use Rattle.rules.specs.Refusals.{Judged, accept}
+use Rattle.types.specs.Answers.{refusedAs}
+use Rattle.types.specs.Types.{shardingOf, meshOf, sizesOf, WithinPlaces}
+use Rattle.types.specs.declared.Sharding as code
+use Rattle.types.specs.declared.Table.{Table}
+use Rattle.types.specs.declared.Mesh.{Mesh}
 use Rattle.start.specs.declared.Verdict.{Verdict}
 use Rattle.start.specs.declared.Verdict.the-variants as verdict
 use Rattle.judge.specs.declared.After.{After}

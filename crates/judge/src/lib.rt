@@ -8,10 +8,11 @@ ghost use lib.Dec.{T};
 ghost use Rattle.rules.specs.Lists.{flat};
 ghost use Rattle.rules.specs.Limits.{mostDims};
 ghost use Rattle.rules.specs.Sharding.{named};
-ghost use Rattle.rules.specs.Refusals.{accept, refuse, numberOf};
-ghost use Rattle.rules.specs.Collectives.{allSlice, allReduce, allToAll, stepAxes, reduced as reducedOf};
+ghost use Rattle.rules.specs.Refusals.{accept, refuse};
+ghost use Rattle.types.specs.Answers.{numberOf};
+ghost use Rattle.rules.specs.Collectives.{allSlice, allReduce, allToAll, reduceScatter, stepAxes, reduced as reducedOf};
 ghost use Rattle.rules.specs.PlanFile.{allBelow, twoDims, gatherOff, sliceOn, judgeKind, judgeNamed, judgeStep};
-ghost use Rattle.rules.specs.Types.{axesOf, dimsOf, shardingOf, stepOf, meshOf, sizesOf, WithinPlaces};
+ghost use Rattle.types.specs.Types.{axesOf, dimsOf, shardingOf, stepOf, meshOf, sizesOf, WithinPlaces};
 ghost use Rattle.axes.specs.Marks.{marksWith};
 ghost use Rattle.dims.specs.Dims.{Room};
 ghost use Rattle.start.specs.Start.{meaning};
@@ -21,6 +22,7 @@ use axes::all_in;
 use axes::increasing;
 use axes::mark_list;
 use axes::without;
+use dims::ascending;
 use dims::cut_tails;
 use dims::divisible;
 use dims::join_lists;
@@ -29,20 +31,20 @@ use dims::names_axis;
 use dims::names_below;
 use dims::shard_of;
 use dims::tails;
-use rules::Axis;
-use rules::AxisList;
-use rules::Dim;
-use rules::DimLists;
-use rules::Kind;
-use rules::Mesh;
-use rules::Reason;
-use rules::Refusal;
-use rules::Sharding;
-use rules::Step;
-use rules::Table;
 use start::Verdict;
 use start::judge_dims;
 use start::refused;
+use types::Axis;
+use types::AxisList;
+use types::Dim;
+use types::DimLists;
+use types::Kind;
+use types::Mesh;
+use types::Reason;
+use types::Refusal;
+use types::Sharding;
+use types::Step;
+use types::Table;
 
 // A verdict, and the sharding after the step where it is fine. Its lists past the rank are free, and so are the places of a list past its count.
 pub struct After {
@@ -97,6 +99,7 @@ fn judge_named(step: Step, k: u16, rank: usize, n: usize) -> Verdict
         Kind::AllGather => named_dims(step.lists, k, rank, n),
         Kind::AllReduce => named_list(step.list, k, n),
         Kind::AllToAll => named_list(step.list, k, n),
+        Kind::ReduceScatter => named_dims(step.lists, k, rank, n),
         Kind::Unknown => refused(Reason::NoAxis, k),
     }
 }
@@ -232,6 +235,26 @@ fn judge_all_to_all(
     slice_on(on, k, between, mesh, table)
 }
 
+// Reduce-scatter: 23 over the whole step, then 27, then the slice of the sharding whose axes are reduced. The axes are below n already, so judge_dims
+// refuses an axis that is named twice, and nothing else.
+fn judge_scatter(lists: DimLists, k: u16, from: Sharding, mesh: Mesh, table: Table) -> After
+    requires { ⌜ Sharded mesh table from × T (allBelow (mesh .n) (flat (take (table .rank) (dimsOf lists)))) ⌝ }
+    ensures { λ r. ⌜ meaningAfter (table .rank) r
+        ≡ judgeKind (meshOf mesh) (sizesOf table) k (reduceScatter (take (table .rank) (dimsOf lists))) (shardingOf (table .rank) from) ⌝ }
+{
+    let mut marks = [false; Axis::MOST];
+    let fresh = judge_dims(lists, table.rank, mesh.n, &mut marks);
+    let Verdict::Fine = fresh else {
+        return refused_step(Reason::NotReplicated, k, from);
+    };
+    let axes = ascending(lists, table.rank, mesh.n);
+    if !all_in(axes, from.unreduced) {
+        return refused_step(Reason::NotUnreduced, k, from);
+    }
+    let between = reduced(axes, from);
+    slice_on(lists, k, between, mesh, table)
+}
+
 // A step whose axes are judged, by its kind.
 fn judge_kind(step: Step, k: u16, sharding: Sharding, mesh: Mesh, table: Table) -> After
     requires { ⌜ Sharded mesh table sharding × (judgeNamed (mesh .n) k (stepAxes (stepOf (table .rank) step)) ≡ accept tt) ⌝ }
@@ -252,6 +275,7 @@ fn judge_kind(step: Step, k: u16, sharding: Sharding, mesh: Mesh, table: Table) 
             mesh,
             table,
         ),
+        Kind::ReduceScatter => judge_scatter(step.lists, k, sharding, mesh, table),
         Kind::Unknown => refused_step(Reason::UnknownKind, k, sharding),
     }
 }

@@ -9,14 +9,14 @@ use lib.Arith.{digits-div, digits-mod}
 use Rattle.rules.specs.Lists.{tab, flat}
 use Rattle.rules.specs.Limits.{mostAxes, mostDims}
 use Rattle.rules.specs.Sharding.{Sharding}
-use Rattle.rules.specs.Collectives.{Step, allSlice, allGather, allReduce, allToAll}
+use Rattle.rules.specs.Collectives.{Step, allSlice, allGather, allReduce, allToAll, reduceScatter}
 use Rattle.rules.specs.PlanFile.{plain}
-use Rattle.rules.specs.Types.{axesOf, dimsOf, shardingOf, listFrom, listsFrom, shardingFrom}
-use Rattle.rules.specs.declared.Kind.{Kind}
-use Rattle.rules.specs.declared.Kind.the-variants.{AllSlice, AllGather, AllReduce, AllToAll}
-use Rattle.rules.proofs.Lists.{tab-cong}
-use Rattle.rules.proofs.Fronts.{lent-put}
-use Rattle.rules.proofs.Types.{list-axes}
+use Rattle.types.specs.Types.{axesOf, dimsOf, shardingOf, listFrom, listsFrom, shardingFrom}
+use Rattle.types.specs.declared.Kind.{Kind}
+use Rattle.types.specs.declared.Kind.the-variants.{AllSlice, AllGather, AllReduce, AllToAll, ReduceScatter}
+use Rattle.laws.proofs.Lists.{tab-cong}
+use Rattle.laws.proofs.Fronts.{lent-put}
+use Rattle.types.proofs.Types.{list-axes}
 use Rattle.records.specs.Forms.{fiveLists, sixPlaces}
 use Rattle.records.specs.RoundTrip.{ShortLists, ShortSharding, ShortStep, AllShort}
 use Rattle.records.specs.PlanAnswer.{stepWith, stepFrom}
@@ -81,6 +81,7 @@ step-numbers (allSlice Ss) h = with-numbers AllSlice 0 0 Ss [] h (omega arith)
 step-numbers (allGather Gs) h = with-numbers AllGather 0 0 Gs [] h (omega arith)
 step-numbers (allReduce L) h = with-numbers AllReduce 0 0 [] L no-lists h
 step-numbers (allToAll source target L) h = with-numbers AllToAll source target [] L no-lists h
+step-numbers (reduceScatter Ss) h = with-numbers ReduceScatter 0 0 Ss [] h (omega arith)
 
 -- steps in their places, no step past the last
 pub step-at : (ts : List Step) (i : ℕ) → AllShort (map plain ts)

@@ -1,19 +1,21 @@
 -- C's structs of a sharding and of a step: the numbers that stand for one, every place of them, and what the library takes of a sharding that is given.
 -- Assumes nothing.
 use Prim.Native.Nat.{ℕ, _+_, _*_, _/_, _%_}
+use mathlib.Core.Path.{_≡_, refl}
 use mathlib.Core.List.{List, [], _∷_, _++_, map}
 use lib.ListN.{length, getD, take, replicate}
 use Rattle.rules.specs.Lists.{tab, flat}
 use Rattle.rules.specs.Limits.{mostAxes, mostDims}
 use Rattle.rules.specs.Sharding.{Sharding}
-use Rattle.rules.specs.PlanFile.{Record}
-use Rattle.rules.specs.Types.{fourPlaces, shardingOf}
-use Rattle.rules.specs.declared.AxisList.{AxisList}
-use Rattle.rules.specs.declared.Sharding as code
-use Rattle.rules.specs.declared.Kind.{Kind}
-use Rattle.rules.specs.declared.Kind.the-variants.{AllSlice, AllGather, AllReduce, AllToAll, Unknown}
-use Rattle.rules.specs.declared.Step.{Step}
-use Rattle.records.specs.Forms.{placesAt, recordHead, recordLists, sixPlaces}
+use Rattle.rules.specs.Collectives.{allSlice, allGather, allReduce, allToAll, reduceScatter}
+use Rattle.rules.specs.PlanFile.{Record, plain, repeat}
+use Rattle.types.specs.Types.{fourPlaces, shardingOf}
+use Rattle.types.specs.declared.AxisList.{AxisList}
+use Rattle.types.specs.declared.Sharding as code
+use Rattle.types.specs.declared.Kind.{Kind}
+use Rattle.types.specs.declared.Kind.the-variants.{AllSlice, AllGather, AllReduce, AllToAll, ReduceScatter, Unknown}
+use Rattle.types.specs.declared.Step.{Step}
+use Rattle.records.specs.Forms.{placesAt, recordHead, recordLists, sixPlaces, recordOf}
 use Rattle.marshal.specs.declared.ShardingReply.{ShardingReply}
 use Rattle.marshal.specs.declared.StepReply.{StepReply}
 
@@ -77,12 +79,26 @@ stepReply g = record {
 abbrev pub noStep : StepReply
 noStep = record { kind = 0; source = 0; target = 0; counts = replicate 5 0; axes = replicate 30 0 }
 
+-- its numbers one after the other are the bytes of the record, as the writer takes them
+abbrev pub replyBytes : StepReply → List ℕ
+replyBytes r = r .kind ∷ r .source ∷ r .target ∷ (r .counts ++ r .axes)
+
+pub reply-record : (g : Record) → replyBytes (stepReply g) ≡ recordOf g
+unfolding recordOf
+reply-record (plain (allSlice Ss)) = refl
+reply-record (plain (allGather Gs)) = refl
+reply-record (plain (allReduce L)) = refl
+reply-record (plain (allToAll source target L)) = refl
+reply-record (plain (reduceScatter Ss)) = refl
+reply-record (repeat count number) = refl
+
 -- the same numbers, from a step of the library: its lists by dimension and its one list are the first five of a sharding's
 abbrev pub kindByte : Kind → ℕ
 kindByte AllSlice = 1
 kindByte AllGather = 2
 kindByte AllReduce = 3
 kindByte AllToAll = 4
+kindByte ReduceScatter = 5
 kindByte Unknown = 0
 
 abbrev pub stepLists : Step → Sharding

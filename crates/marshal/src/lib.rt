@@ -4,15 +4,15 @@ ghost use Prim.Native.Nat.{_≤_, _<_, _*_};
 ghost use lib.ListN.{length, getD};
 ghost use Rattle.rules.specs.Lists.{tab};
 ghost use Rattle.rules.specs.Limits.{mostAxes, mostDims};
-ghost use Rattle.rules.specs.Types.{axesOf, shardingOf};
+ghost use Rattle.types.specs.Types.{axesOf, shardingOf};
 ghost use Rattle.marshal.specs.Structs.{lists, listOf, listCounts, axisIn, listAxes, shardingReply, noSharding, listIn, shardingIn, kindByte, stepNumbers, noStep};
-use rules::Axis;
-use rules::AxisList;
-use rules::Dim;
-use rules::DimLists;
-use rules::Kind;
-use rules::Sharding;
-use rules::Step;
+use types::Axis;
+use types::AxisList;
+use types::Dim;
+use types::DimLists;
+use types::Kind;
+use types::Sharding;
+use types::Step;
 
 // A list for each dimension, the unreduced axes, and the replicated ones.
 const LISTS: usize = Dim::MOST + 2;
@@ -173,6 +173,7 @@ fn kind_byte(kind: Kind) -> u8
         Kind::AllGather => 2,
         Kind::AllReduce => 3,
         Kind::AllToAll => 4,
+        Kind::ReduceScatter => 5,
         Kind::Unknown => 0,
     }
 }

@@ -13,9 +13,9 @@ use lib.Arith.{digits-lt}
 use Rattle.rules.specs.Lists.{product, In, Distinct}
 use Rattle.rules.specs.Mesh.{number, coords, devices, span, position, member, OnMesh}
 use Rattle.rules.specs.Limits.{mostAxes, mostDevices}
-use Rattle.rules.proofs.Lists.{below-length}
-use Rattle.rules.proofs.Positions.{at-below, position-append, below-member, member-other}
-use Rattle.rules.proofs.Buffers.{number-lt, below-coords}
+use Rattle.laws.proofs.Lists.{below-length}
+use Rattle.laws.proofs.Positions.{at-below, position-append, below-member, member-other}
+use Rattle.laws.proofs.Buffers.{number-lt, below-coords}
 use Rattle.mesh.specs.Fitting.{IsPlace}
 use Rattle.mesh.proofs.Sizes.{AxisBounds, axis-bounds, group-pos, origin-at}
 

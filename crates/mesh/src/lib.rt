@@ -5,10 +5,10 @@ ghost use mathlib.Core.Path.{_≡_};
 ghost use lib.ListN.{getD, drop};
 ghost use Rattle.rules.specs.Lists.{product as productOf};
 ghost use Rattle.rules.specs.Mesh.{coords, span, position};
-ghost use Rattle.rules.specs.Types.{axesOf};
+ghost use Rattle.types.specs.Types.{axesOf};
 ghost use Rattle.mesh.specs.Fitting.{Factors, IsPlace, Members};
-use rules::Axis;
-use rules::AxisList;
+use types::Axis;
+use types::AxisList;
 
 // The size of an axis, 1 past the last.
 pub fn size_at(mesh: &[u16], axis: Axis) -> usize

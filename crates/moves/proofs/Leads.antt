@@ -12,10 +12,10 @@ use Rattle.rules.specs.Mesh.{number, coords, span, position, member}
 use Rattle.rules.specs.Sharding.{shardSizes, firstIndexes}
 use Rattle.rules.specs.Spread.{from, tabulate, held}
 use Rattle.rules.specs.Collectives.{grown, owner, within, moved}
-use Rattle.rules.proofs.Lists.{distinct-split, tab-cong}
-use Rattle.rules.proofs.Positions.{pos-of-lt, div-lt, position-lt, length-member}
-use Rattle.rules.proofs.Shapes.{Cut, cut, uncut, below-owner, owner-member}
-use Rattle.rules.proofs.Buffers.{number-lt, below-coords}
+use Rattle.laws.proofs.Lists.{distinct-split, tab-cong}
+use Rattle.laws.proofs.Positions.{pos-of-lt, div-lt, position-lt, length-member}
+use Rattle.laws.proofs.Shapes.{Cut, cut, uncut, below-owner, owner-member}
+use Rattle.laws.proofs.Buffers.{number-lt, below-coords}
 use Rattle.strided.specs.Strided.{counted, offset, Nested, Copy, copied}
 use Rattle.digits.specs.Digits.{meshStrides, dot, push, cleared, axisDigits}
 use Rattle.mesh.proofs.Sizes.{mod-div, mod-mod-right}

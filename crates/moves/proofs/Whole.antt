@@ -8,8 +8,8 @@ use native.Mathlib.Omega.{arith}
 use lib.ListN.{length, getD, set, drop, replicate, length-replicate}
 use Rattle.rules.specs.Lists.{flat, product}
 use Rattle.rules.specs.Spread.{from}
-use Rattle.rules.proofs.Lists.{few-distinct}
-use Rattle.rules.proofs.Positions.{pos-of-lt}
+use Rattle.laws.proofs.Lists.{few-distinct}
+use Rattle.laws.proofs.Positions.{pos-of-lt}
 use Rattle.strided.specs.Strided.{counted, Copy, copied}
 use Rattle.mesh.specs.Fitting.{Factors}
 use Rattle.mesh.proofs.Sizes.{fit-sizes}

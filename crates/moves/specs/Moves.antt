@@ -12,8 +12,8 @@ use Rattle.rules.specs.Sharding.{shardSizes}
 use Rattle.rules.specs.Spread.{from}
 use Rattle.rules.specs.Collectives.{grown, moved}
 use Rattle.rules.specs.Limits.{mostAxes, mostDims, mostWords}
-use Rattle.rules.specs.Types.{dimsOf}
-use Rattle.rules.specs.declared.DimLists.{DimLists}
+use Rattle.types.specs.Types.{dimsOf}
+use Rattle.types.specs.declared.DimLists.{DimLists}
 use Rattle.digits.specs.Digits.{mostRoom, meshStrides, push, cleared, axisDigits, meshDigits, HasStrides, Front}
 
 -- ---- the step

@@ -6,9 +6,9 @@ use digits::mesh_digits;
 use mesh::product_from;
 use mesh::size_at;
 use mesh::span_of;
-use rules;
 use strided::copy_digits;
 use strided::put_digit;
+use types;
 ghost use mathlib.Core.Path.{_≡_};
 ghost use mathlib.Core.List.{_∷_};
 ghost use Prim.Native.Nat.{_-_, _*_, _/_, _≤_};
@@ -16,16 +16,16 @@ ghost use lib.ListN.{length, drop};
 ghost use Rattle.rules.specs.Lists.{product};
 ghost use Rattle.rules.specs.Mesh.{devices, span};
 ghost use Rattle.rules.specs.Spread.{from};
-ghost use Rattle.rules.specs.Types.{axesOf};
+ghost use Rattle.types.specs.Types.{axesOf};
 ghost use Rattle.digits.specs.Digits.{cleared, axisDigits};
 ghost use Rattle.moves.specs.Moves.{movedShape, lists, movedBuffer, withSlice, stepDigits};
 ghost use Rattle.moves.specs.Moves.{Moving, Slicing, Adding, Dimension, Dimensions, DimensionsAt, Setting};
 
 // The most numbers of a step's digits.
-const ROOM: usize = 3 * (rules::Axis::MOST + rules::Dim::MOST + rules::Axis::MOST);
+const ROOM: usize = 3 * (types::Axis::MOST + types::Dim::MOST + types::Axis::MOST);
 
 // Adds the strides of a list of sliced axes, where the pieces are v words apart.
-fn add_slice(added: &mut [usize], mesh: &[u16], axes: rules::AxisList, v: usize)
+fn add_slice(added: &mut [usize], mesh: &[u16], axes: types::AxisList, v: usize)
     requires { ⌜ Slicing (now added) (now mesh) (axesOf axes) v ⌝ }
     ensures { λ _. ⌜ now (added .exit) ≡ withSlice (now (mesh .entry)) (axesOf axes) v (now (added .entry)) ⌝ }
 {
@@ -60,8 +60,8 @@ fn dim_digits(
     strides: &mut [usize],
     added: &mut [usize],
     mesh: &[u16],
-    gathered: rules::AxisList,
-    sliced: rules::AxisList,
+    gathered: types::AxisList,
+    sliced: types::AxisList,
     n: usize,
     w: usize,
     end: usize,
@@ -91,8 +91,8 @@ fn shape_digits(
     added: &mut [usize],
     mesh: &[u16],
     shape: &[u16],
-    gathers: rules::DimLists,
-    slices: rules::DimLists,
+    gathers: types::DimLists,
+    slices: types::DimLists,
 ) -> usize
     requires { ⌜ Dimensions (now digits) (now strides) (now added) (now mesh) (now shape) (lists (now shape) gathers) (lists (now shape) slices) ⌝ }
     ensures { λ r. ⌜ DimensionsAt (now (mesh .entry)) (now (shape .entry)) (lists (now (shape .entry)) gathers)
@@ -106,7 +106,7 @@ fn shape_digits(
     let mut j = shape.len();
     while 0 < j {
         j -= 1;
-        let dim = rules::Dim(j as u8);
+        let dim = types::Dim(j as u8);
         let gathered = gathers.at(dim);
         let sliced = slices.at(dim);
         let n = shape[j] as usize;
@@ -135,8 +135,8 @@ fn make_digits(
     added: &mut [usize],
     mesh: &[u16],
     shape: &[u16],
-    gathers: rules::DimLists,
-    slices: rules::DimLists,
+    gathers: types::DimLists,
+    slices: types::DimLists,
     words: usize,
 ) -> usize
     requires { ⌜ Setting (now digits) (now strides) (now added) (now mesh) (now shape) (lists (now shape) gathers) (lists (now shape) slices) words ⌝ }
@@ -160,8 +160,8 @@ fn move_with(
     added: &mut [usize],
     mesh: &[u16],
     shape: &[u16],
-    gathers: rules::DimLists,
-    slices: rules::DimLists,
+    gathers: types::DimLists,
+    slices: types::DimLists,
     words: usize,
 )
     requires { ⌜ Setting (now digits) (now strides) (now added) (now mesh) (now shape) (lists (now shape) gathers) (lists (now shape) slices) words ⌝ }
@@ -180,8 +180,8 @@ pub fn move_into(
     new: &mut [u32],
     mesh: &[u16],
     shape: &[u16],
-    gathers: rules::DimLists,
-    slices: rules::DimLists,
+    gathers: types::DimLists,
+    slices: types::DimLists,
     words: usize,
 )
     requires { ⌜ Moving (now mesh) (now shape) (lists (now shape) gathers) (lists (now shape) slices) ⌝ }
@@ -192,8 +192,8 @@ pub fn move_into(
 {
     let n = mesh.len();
     let mut digits = [0usize; ROOM];
-    let mut strides = [0usize; rules::Axis::MOST];
-    let mut added = [0usize; rules::Axis::MOST];
+    let mut strides = [0usize; types::Axis::MOST];
+    let mut added = [0usize; types::Axis::MOST];
     move_with(
         old,
         new,

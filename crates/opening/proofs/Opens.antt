@@ -8,17 +8,17 @@ use native.Mathlib.Omega.{arith}
 use lib.ListN.{length}
 use lib.Dec.{eqb}
 use borrow.Author.Tests.{eq-eqb, ne-eqb}
-use Rattle.rules.specs.Types.{shardingOf, meshOf, sizesOf, WithinPlaces}
+use Rattle.types.specs.Types.{shardingOf, meshOf, sizesOf, WithinPlaces}
 use Rattle.rules.specs.Mesh.{devices as devicesOf}
 use Rattle.rules.specs.Sharding.{Sharding}
 use Rattle.rules.specs.Refusals.{Judged, accept, refuse, _>>=_, _>>_, need}
 use Rattle.rules.specs.PlanFile.{Read, edition, axisCount, rankCount, judgeHeader, carriesOrder, MeshAndTable, meshAndTableAt, carriesReplicated, shardingOffset, shardingAt}
 use Rattle.rules.specs.PlanFile.{stepsOffset, judgeStart, oneMeaning, Front, judgeFront, judgeFrontBy}
-use Rattle.rules.specs.declared.Mesh.{Mesh}
-use Rattle.rules.specs.declared.Sharding as code
-use Rattle.rules.specs.declared.Table.{Table}
-use Rattle.rules.proofs.Judging.{never, accept-inj, need-inv, then-inv, then-assoc, bind-inv}
-use Rattle.rules.proofs.Accepted.{Within, MeshAndTableFacts, mesh-and-table-facts}
+use Rattle.types.specs.declared.Mesh.{Mesh}
+use Rattle.types.specs.declared.Sharding as code
+use Rattle.types.specs.declared.Table.{Table}
+use Rattle.laws.proofs.Judging.{never, accept-inj, need-inv, then-inv, then-assoc, bind-inv}
+use Rattle.laws.proofs.Accepted.{Within, MeshAndTableFacts, mesh-and-table-facts}
 use Rattle.reader.specs.Reading.{numbersOf, headerOf, orderIn, Counted}
 use Rattle.reader.specs.declared.Header.{Header}
 use Rattle.reader.specs.declared.Shape.{Shape}

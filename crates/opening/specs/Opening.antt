@@ -4,9 +4,10 @@ use Prim.Native.Nat.{ℕ}
 use mathlib.Core.Path.{_≡_}
 use mathlib.Core.List.{List, []}
 use Rattle.rules.specs.Sharding.{Sharding}
-use Rattle.rules.specs.Refusals.{Judged, accept, _>>_, need, refusedAs}
+use Rattle.rules.specs.Refusals.{Judged, accept, _>>_, need}
+use Rattle.types.specs.Answers.{refusedAs}
 use Rattle.rules.specs.PlanFile.{carriesOrder, meshAndTableAt, stepCount, judgeStart, oneMeaning, Front, judgeFront}
-use Rattle.rules.specs.Types.{axesOf, shardingOf, meshOf, sizesOf}
+use Rattle.types.specs.Types.{axesOf, shardingOf, meshOf, sizesOf}
 use Rattle.reader.specs.Reading.{IfRefused, headerOf, orderIn, Counted, NoShape}
 use Rattle.reader.specs.declared.Header.{Header}
 use Rattle.reader.specs.declared.Next.{Next}

@@ -3,9 +3,9 @@
 ghost use mathlib.Core.Path.{_≡_};
 ghost use mathlib.Core.List.{List};
 ghost use Prim.Native.Nat.{ℕ};
-ghost use Rattle.rules.specs.Refusals.{refusedAs};
+ghost use Rattle.types.specs.Answers.{refusedAs};
 ghost use Rattle.rules.specs.PlanFile.{oneMeaning};
-ghost use Rattle.rules.specs.Types.{axesOf, shardingOf, meshOf, sizesOf, WithinPlaces};
+ghost use Rattle.types.specs.Types.{axesOf, shardingOf, meshOf, sizesOf, WithinPlaces};
 ghost use Rattle.start.specs.Start.{meaning};
 ghost use Rattle.opening.specs.Opening.{judgeOpening, openRead, NoOpening, Opens, Opened};
 use reader::Header;
@@ -15,16 +15,16 @@ use reader::Shape;
 use reader::read_header;
 use reader::read_shape;
 use reader::read_sharding;
-use rules::AxisList;
-use rules::Mesh;
-use rules::Reason;
-use rules::Refusal;
-use rules::Sharding;
-use rules::Table;
 use start::Verdict;
 use start::judge_start;
 use start::refusal_of;
 use start::refused;
+use types::AxisList;
+use types::Mesh;
+use types::Reason;
+use types::Refusal;
+use types::Sharding;
+use types::Table;
 
 // What stands before the steps, and where they begin.
 pub struct Opening {

@@ -15,9 +15,9 @@ use lib.Arith.{digits-div, digits-mod}
 use Rattle.rules.specs.Lists.{tab, pick, mem}
 use Rattle.rules.specs.Mesh.{plainOrder, placeIn, Rearrangement}
 use Rattle.rules.specs.PlanFile.{allBelow, fresh, same, rearranges, orderAllowed}
-use Rattle.rules.proofs.Lists.{length-tab, getD-tab, map-tab, tab-cong}
-use Rattle.rules.proofs.Fronts.{whole-tab, part-tab, part-cut}
-use Rattle.rules.proofs.Orders.{rearranged, place-below, listed-at}
+use Rattle.laws.proofs.Lists.{length-tab, getD-tab, map-tab, tab-cong}
+use Rattle.laws.proofs.Fronts.{whole-tab, part-tab, part-cut}
+use Rattle.laws.proofs.Orders.{rearranged, place-below, listed-at}
 use Rattle.order.specs.Order.{placesOf}
 
 -- the entry at i, and what follows it

@@ -12,10 +12,10 @@ use Rattle.rules.specs.Lists.{tab, product}
 use Rattle.rules.specs.Mesh.{number, coords, devices, plainOrder, placeIn, Rearrangement}
 use Rattle.rules.specs.Spread.{StateOf, tabulate, held, tabulateBy, heldBy}
 use Rattle.rules.specs.Collectives.{Shards, Stands}
-use Rattle.rules.proofs.Lists.{length-tab, getD-tab, tab-cong}
-use Rattle.rules.proofs.Positions.{pos-of-lt, div-lt}
-use Rattle.rules.proofs.Buffers.{number-lt, number-coords, length-tabulate, tabulate-held, tabulate-same}
-use Rattle.rules.proofs.Orders.{plain-rearranged, place-below, place-of}
+use Rattle.laws.proofs.Lists.{length-tab, getD-tab, tab-cong}
+use Rattle.laws.proofs.Positions.{pos-of-lt, div-lt}
+use Rattle.laws.proofs.Buffers.{number-lt, number-coords, length-tabulate, tabulate-held, tabulate-same}
+use Rattle.laws.proofs.Orders.{plain-rearranged, place-below, place-of}
 use Rattle.order.specs.Order.{placesOf, byPlace, ShardsFit}
 
 -- ---- what is asked of an order, and of its inverse

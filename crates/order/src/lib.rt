@@ -9,7 +9,7 @@ ghost use Rattle.rules.specs.Limits.{mostDevices};
 ghost use Rattle.rules.specs.Mesh.{plainOrder, placeIn, Rearrangement};
 ghost use Rattle.rules.specs.PlanFile.{same, rearranges, orderAllowed};
 ghost use Rattle.order.specs.Order.{EachBelow, placesOf, byPlace, ShardsFit};
-use rules::Device;
+use types::Device;
 
 // Whether the numbers are a rearrangement of 0 to n-1.
 pub fn rearranges(order: &[u16], n: usize) -> bool

@@ -11,19 +11,20 @@ use Rattle.rules.specs.Lists.{tab, product, Below}
 use Rattle.rules.specs.Mesh.{span, position, devices, plainOrder, coords, placeIn}
 use Rattle.rules.specs.Sharding.{firstIndexes}
 use Rattle.rules.specs.Limits.{mostDevices, mostWords}
-use Rattle.rules.specs.Refusals.{Judged, accept, refuse, refusedAs}
+use Rattle.rules.specs.Refusals.{Judged, accept, refuse}
+use Rattle.types.specs.Answers.{refusedAs}
 use Rattle.rules.specs.PlanFile.{u16At, edition, carriesOrder, Plan, announced, announcedShape, StateAnswer, stepsRun, stateOf}
-use Rattle.rules.specs.Types.{shardingOf, dimsOf, meshOf, sizesOf}
+use Rattle.types.specs.Types.{shardingOf, dimsOf, meshOf, sizesOf}
 use Rattle.rules.specs.Calls.{PlaceAnswer, placeOf}
-use Rattle.rules.specs.declared.Refusal.{Refusal}
-use Rattle.rules.proofs.Positions.{pos-of-lt, position-lt}
-use Rattle.rules.proofs.Buffers.{below-coords}
-use Rattle.rules.proofs.Orders.{plain-rearranged, place-below, place-of}
-use Rattle.rules.proofs.Lists.{getD-tab}
-use Rattle.rules.proofs.Shapes.{Cut, uncut, cut}
-use Rattle.rules.proofs.Sizes.{cut-divisible}
-use Rattle.rules.proofs.Accepted.{AcceptedPlan, accepted, state-inv}
-use Rattle.rules.proofs.Room.{State, state}
+use Rattle.types.specs.declared.Refusal.{Refusal}
+use Rattle.laws.proofs.Positions.{pos-of-lt, position-lt}
+use Rattle.laws.proofs.Buffers.{below-coords}
+use Rattle.laws.proofs.Orders.{plain-rearranged, place-below, place-of}
+use Rattle.laws.proofs.Lists.{getD-tab}
+use Rattle.laws.proofs.Shapes.{Cut, uncut, cut}
+use Rattle.laws.proofs.Sizes.{cut-divisible}
+use Rattle.laws.proofs.Accepted.{AcceptedPlan, accepted, state-inv}
+use Rattle.laws.proofs.Room.{State, state}
 use Rattle.reader.specs.Reading.{nextRefusal, orderOf, orderIn}
 use Rattle.reader.specs.declared.Next.the-variants as next
 use Rattle.mesh.specs.Fitting.{IsPlace}

@@ -4,9 +4,9 @@ use mathlib.Core.List.{List, []}
 use lib.ListN.{getD, take}
 use Rattle.rules.specs.Mesh.{position, coords}
 use Rattle.rules.specs.Limits.{mostDims, mostWords}
-use Rattle.rules.specs.Types.{dimsOf, sizesOf}
-use Rattle.rules.specs.declared.DimLists.{DimLists}
-use Rattle.rules.specs.declared.Table.{Table}
+use Rattle.types.specs.Types.{dimsOf, sizesOf}
+use Rattle.types.specs.declared.DimLists.{DimLists}
+use Rattle.types.specs.declared.Table.{Table}
 use Rattle.mesh.specs.Fitting.{IsPlace}
 
 -- a place on the mesh, and shard sizes whose blocks begin within the table

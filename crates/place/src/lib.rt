@@ -6,10 +6,9 @@ ghost use lib.ListN.{take};
 ghost use Rattle.rules.specs.Mesh.{coords, placeIn};
 ghost use Rattle.rules.specs.Sharding.{firstIndexes};
 ghost use Rattle.rules.specs.Limits.{mostAxes, mostDevices, mostWords};
-ghost use Rattle.rules.specs.Refusals.{refusedAs};
-ghost use Rattle.rules.specs.Types.{dimsOf, sizesOf};
-ghost use Rattle.rules.specs.Calls.{placedOf};
-ghost use Rattle.rules.specs.Promises.{PlacePromise};
+ghost use Rattle.types.specs.Answers.{refusedAs, placedOf};
+ghost use Rattle.types.specs.Types.{dimsOf, sizesOf};
+ghost use Rattle.types.specs.Promises.{PlacePromise};
 ghost use Rattle.reader.specs.Reading.{orderIn};
 ghost use Rattle.place.specs.Placing.{Placing};
 use dims::lists_within;
@@ -22,15 +21,15 @@ use plan::state_after;
 use reader::Next;
 use reader::carries_order;
 use reader::read_order;
-use rules::Device;
-use rules::Dim;
-use rules::DimLists;
-use rules::PlaceOutcome;
-use rules::Placed;
-use rules::PlanFile;
-use rules::Reason;
-use rules::Refusal;
-use rules::Table;
+use types::Device;
+use types::Dim;
+use types::DimLists;
+use types::PlaceOutcome;
+use types::Placed;
+use types::PlanFile;
+use types::Reason;
+use types::Refusal;
+use types::Table;
 
 // "its first index there is block number times shard size"
 fn first_index(block: usize, size: u16) -> u16

@@ -17,13 +17,13 @@ use Rattle.rules.specs.Refusals.{Judged, accept, refuse}
 use Rattle.rules.specs.Calls.{PlaceAnswer, placeOf}
 use Rattle.placements.specs.PlaceAll.{firstsOf, placedThen, placedBefore}
 use Rattle.rules.specs.Mesh.{position, coords, plainOrder, placeIn}
-use Rattle.rules.specs.Types.{dimsOf, sizesOf}
-use Rattle.rules.specs.declared.DimLists.{DimLists}
-use Rattle.rules.specs.declared.Table.{Table}
-use Rattle.rules.proofs.Lists.{length-each, length-tab, tab-cong, getD-tab}
-use Rattle.rules.proofs.Orders.{plain-rearranged, place-of}
+use Rattle.types.specs.Types.{dimsOf, sizesOf}
+use Rattle.types.specs.declared.DimLists.{DimLists}
+use Rattle.types.specs.declared.Table.{Table}
+use Rattle.laws.proofs.Lists.{length-each, length-tab, tab-cong, getD-tab}
+use Rattle.laws.proofs.Orders.{plain-rearranged, place-of}
 use Rattle.order.specs.Order.{placesOf}
-use Rattle.rules.proofs.Fronts.{part-tab, whole-tab, part-in}
+use Rattle.laws.proofs.Fronts.{part-tab, whole-tab, part-in}
 use Rattle.placements.specs.Placing.{leading, firstsAt, PlacingAll}
 
 -- ---- room

@@ -11,13 +11,14 @@ use lib.Dec.{leb, eqb}
 use Rattle.rules.specs.Lists.{flat, pick}
 use Rattle.rules.specs.Mesh.{devices as devicesOf, deviceCoords}
 use Rattle.rules.specs.Sharding.{firstIndexes}
-use Rattle.rules.specs.Refusals.{Judged, accept, refuse, _>>=_, _>>_, need, numberOf, reasonOf, refusedAs, refusalOf}
+use Rattle.rules.specs.Refusals.{Judged, accept, refuse, _>>=_, _>>_, need}
+use Rattle.types.specs.Answers.{numberOf, reasonOf, refusedAs, refusalOf}
 use Rattle.rules.specs.PlanFile.{StateAnswer, stateOf}
 use Rattle.rules.specs.Calls.{PlaceAnswer, placeOf}
-use Rattle.rules.specs.declared.Reason.the-variants.{OutputTooShort, NoSuchDevice}
-use Rattle.rules.specs.declared.Refusal.{Refusal}
-use Rattle.rules.proofs.Refusals.{refusal-told}
-use Rattle.rules.proofs.Answers.{place-listed}
+use Rattle.types.specs.declared.Reason.the-variants.{OutputTooShort, NoSuchDevice}
+use Rattle.types.specs.declared.Refusal.{Refusal}
+use Rattle.types.proofs.Refusals.{refusal-told}
+use Rattle.types.proofs.Answers.{place-listed}
 use Rattle.placements.specs.PlaceAll.{firstsOf, placeAllOf, placedBefore, placeAllLeaves, firstsOut, placedAllOf, placedAllWith, placeBeside, PlaceAllPromise}
 use Rattle.placements.specs.Placing.{refusedAt, leading}
 use Rattle.placements.specs.declared.PlacedAll.{PlacedAll}

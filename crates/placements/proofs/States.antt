@@ -11,9 +11,9 @@ use Rattle.rules.specs.Mesh.{devices as devicesOf, placeIn, coords, Rearrangeme
 use Rattle.rules.specs.Sharding.{firstIndexes}
 use Rattle.rules.specs.Refusals.{accept}
 use Rattle.rules.specs.PlanFile.{Plan, StateAnswer, stateOf}
-use Rattle.rules.specs.Types.{dimsOf, meshOf, sizesOf}
-use Rattle.rules.proofs.Lists.{getD-tab, length-tab}
-use Rattle.rules.proofs.Accepted.{AcceptedPlan, accepted, state-inv}
+use Rattle.types.specs.Types.{dimsOf, meshOf, sizesOf}
+use Rattle.laws.proofs.Lists.{getD-tab, length-tab}
+use Rattle.laws.proofs.Accepted.{AcceptedPlan, accepted, state-inv}
 use Rattle.reader.specs.Reading.{orderIn}
 use Rattle.reader.specs.declared.Next.the-variants as next
 use Rattle.order.specs.Order.{placesOf}

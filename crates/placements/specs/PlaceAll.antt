@@ -6,7 +6,8 @@ use mathlib.Core.List.{List, [], _∷_, _++_}
 use lib.ListN.{length, getD, take, drop}
 use lib.Dec.{leb, eqb}
 use Rattle.rules.specs.Lists.{pick}
-use Rattle.rules.specs.Refusals.{Judged, accept, refuse, _>>=_, _>>_, need, refusalOf}
+use Rattle.rules.specs.Refusals.{Judged, accept, refuse, _>>=_, _>>_, need}
+use Rattle.types.specs.Answers.{refusalOf}
 use Rattle.rules.specs.PlanFile.{stateOf}
 use Rattle.rules.specs.Calls.{PlaceAnswer, placeOf}
 use Rattle.placements.specs.declared.PlacedAll.{PlacedAll}

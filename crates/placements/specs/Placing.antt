@@ -7,10 +7,10 @@ use lib.Dec.{ltb}
 use Rattle.rules.specs.Lists.{pick}
 use Rattle.rules.specs.Mesh.{coords}
 use Rattle.rules.specs.Sharding.{firstIndexes}
-use Rattle.rules.specs.Types.{dimsOf, sizesOf}
-use Rattle.rules.specs.declared.DimLists.{DimLists}
-use Rattle.rules.specs.declared.Table.{Table}
-use Rattle.rules.specs.declared.Reason.{Reason}
+use Rattle.types.specs.Types.{dimsOf, sizesOf}
+use Rattle.types.specs.declared.DimLists.{DimLists}
+use Rattle.types.specs.declared.Table.{Table}
+use Rattle.types.specs.declared.Reason.{Reason}
 use Rattle.place.specs.Placing.{Placing}
 use Rattle.placements.specs.declared.PlacedAll.{PlacedAll}
 use Rattle.placements.specs.declared.PlaceAllOutcome.the-variants as outcome

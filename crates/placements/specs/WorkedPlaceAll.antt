@@ -3,9 +3,9 @@
 use Prim.Native.Nat.{ℕ}
 use mathlib.Core.Path.{_≡_, refl}
 use mathlib.Core.List.{List, [], _∷_, _++_}
-use lib.ListN.{replicate}
+use lib.ListN.{length}
 use Rattle.rules.specs.Lists.{All, done, _&_}
-use Rattle.rules.specs.Refusals.{reasonOf, refusalOf}
+use Rattle.types.specs.Answers.{reasonOf, refusalOf}
 use Rattle.rules.specs.Ledger.{fileIn, fileOf, w1, w4, nines}
 use Rattle.placements.specs.PlaceAll.{firstsOf, placeAllOf, placedBefore, placeAllLeaves, placedAllOf}
 use Rattle.placements.specs.declared.PlacedAll.{PlacedAll}
@@ -34,6 +34,16 @@ places file state devices firsts room = record {
   left = firsts ++ nines 2;
 }
 
+abbrev pub exactly : (file : List ℕ) → (state : ℕ) → (devices firsts : List ℕ) → Case
+exactly file state devices firsts = record {
+  file = file;
+  state = state;
+  devices = devices;
+  out = nines (length firsts);
+  answer = record { outcome = outcome.Placed; place = 0 };
+  left = firsts;
+}
+
 abbrev pub refuses : (file : List ℕ) → (state : ℕ) → (devices : List ℕ) → (room number step place : ℕ) → Case
 refuses file state devices room number step place = record {
   file = file;
@@ -60,6 +70,11 @@ cases =
     ∷ places cabled 0 (0 ∷ 1 ∷ 2 ∷ 3 ∷ 4 ∷ 5 ∷ []) (0 ∷ 0 ∷ 2 ∷ 2 ∷ 0 ∷ 2 ∷ 4 ∷ 0 ∷ 2 ∷ 0 ∷ 4 ∷ 2 ∷ []) 12
     -- "An empty list is accepted and writes nothing"
     ∷ places w1 0 [] [] 0
+    -- an output that is just long enough; more devices in the list than there are
+    ∷ exactly w1 0 (0 ∷ 3 ∷ []) (0 ∷ 0 ∷ 2 ∷ 2 ∷ [])
+    ∷ exactly w1 0 [] []
+    ∷ places (w4 []) 0 (0 ∷ 1 ∷ 2 ∷ 3 ∷ 2 ∷ 1 ∷ []) (0 ∷ 2 ∷ 1 ∷ 3 ∷ 1 ∷ 2 ∷ []) 6
+    ∷ refuses (w4 []) 0 (3 ∷ 3 ∷ 3 ∷ []) 2 33 0 0
     -- "an output too short gives 33, tested after the file and state number but before the devices": one entry short; beside a device that is not there
     ∷ refuses w1 0 (0 ∷ 3 ∷ []) 3 33 0 0
     ∷ refuses w1 0 (0 ∷ 4 ∷ []) 3 33 0 0
@@ -76,4 +91,4 @@ pub worked : All Holds cases
 unfolding fileIn fileOf placeAllLeaves placedBefore reasonOf
 worked =
     (refl, refl) & (refl, refl) & (refl, refl) & (refl, refl) & (refl, refl) & (refl, refl) & (refl, refl) & (refl, refl) & (refl, refl) & (refl, refl)
-    & (refl, refl) & (refl, refl) & (refl, refl) & (refl, refl) & done
+    & (refl, refl) & (refl, refl) & (refl, refl) & (refl, refl) & (refl, refl) & (refl, refl) & (refl, refl) & (refl, refl) & done

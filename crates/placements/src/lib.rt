@@ -8,7 +8,7 @@ ghost use lib.Dec.{leb};
 ghost use Rattle.rules.specs.Lists.{flat};
 ghost use Rattle.rules.specs.Limits.{mostAxes, mostDevices, mostDims};
 ghost use Rattle.rules.specs.Mesh.{plainOrder, Rearrangement};
-ghost use Rattle.rules.specs.Types.{dimsOf, sizesOf};
+ghost use Rattle.types.specs.Types.{dimsOf, sizesOf};
 ghost use Rattle.reader.specs.Reading.{orderIn};
 ghost use Rattle.order.specs.Order.{placesOf};
 ghost use Rattle.placements.specs.PlaceAll.{PlaceAllPromise};
@@ -19,12 +19,12 @@ use plan::state_after;
 use reader::Next;
 use reader::carries_order;
 use reader::read_order;
-use rules::Device;
-use rules::DimLists;
-use rules::PlanFile;
-use rules::Reason;
-use rules::Refusal;
-use rules::Table;
+use types::Device;
+use types::DimLists;
+use types::PlanFile;
+use types::Reason;
+use types::Refusal;
+use types::Table;
 
 pub enum PlaceAllOutcome {
     Placed,

@@ -3,19 +3,18 @@
 -- places past these are free, and nothing reads them. Assumes nothing.
 use Prim.Native.Nat.{ℕ, _*_, _≤_}
 use mathlib.Core.Path.{_≡_}
-use mathlib.Core.Bool.{true}
 use mathlib.Core.List.{List, []}
 use lib.ListN.{length, take}
 use Rattle.rules.specs.Mesh.{devices as devicesOf, plainOrder}
 use Rattle.rules.specs.Sharding.{Sharding, shardSizes}
-use Rattle.rules.specs.Limits.{mostAxes, mostDevices, mostWords, mostDims, mostSteps, leastBytes, mostBytes}
+use Rattle.rules.specs.Limits.{mostAxes, mostDevices, mostWords, mostDims, mostSteps, leastBytes, mostBytes, everyKind}
 use Rattle.rules.specs.Refusals.{Judged, accept, _>>=_}
 use Rattle.rules.specs.PlanFile.{Read, outermostAt, judgeFront, Plan, judge, announced, largestShard, room, StateAnswer, stepsRun, stateOf}
-use Rattle.rules.specs.Types.{dimsOf, shardingOf, meshOf, sizesOf, WithinPlaces}
+use Rattle.types.specs.Types.{dimsOf, shardingOf, meshOf, sizesOf, WithinPlaces}
 use Rattle.rules.specs.Calls.{CheckAnswer}
-use Rattle.rules.specs.declared.Mesh.{Mesh}
-use Rattle.rules.specs.declared.Sharding as code
-use Rattle.rules.specs.declared.Table.{Table}
+use Rattle.types.specs.declared.Mesh.{Mesh}
+use Rattle.types.specs.declared.Sharding as code
+use Rattle.types.specs.declared.Table.{Table}
 use Rattle.reader.specs.Reading.{reading, Tells, orderIn, noLists, Counted}
 use Rattle.judge.specs.Step.{Sharded}
 use Rattle.plan.specs.declared.Walk.{Walk}
@@ -45,7 +44,7 @@ walkedOf p state = record { sharding = announced p (length (p .steps)); kept = a
 unfoldable pub walkAt : (mesh sizes : List ℕ) → (state count : ℕ) → List ℕ → ℕ → Sharding → Judged (Read Walked)
 unfolding outermostAt
 walkAt mesh sizes state count file at s = do
-  ts ← outermostAt true mesh sizes file 0 count 1 at s
+  ts ← outermostAt everyKind mesh sizes file 0 count 1 at s
   accept (record {
     value = walkedOf (record {
       mesh = mesh;
@@ -129,7 +128,7 @@ pub record HoldsPlan (file : List ℕ) (at : ℕ) (w : Whole) (p : Plan) : Type 
   pub last-is : announced p (length (p .steps)) ≡ shardingOf (w .table .rank) (w .last)
   pub opens : judgeFront file ≡ accept (record { mesh = p .mesh; order = p .order; sizes = p .sizes; start = p .start; next = at })
   pub ready : Sharded (w .mesh) (w .table) (w .start)
-  pub begins : outermostAt true (p .mesh) (p .sizes) file 0 (w .steps) 1 at (p .start)
+  pub begins : outermostAt everyKind (p .mesh) (p .sizes) file 0 (w .steps) 1 at (p .start)
       ≡ accept (record { records = p .records; steps = p .steps; runs = p .runs; next = length file })
   pub behind : leastBytes ≤ at
   pub inside : at ≤ length file

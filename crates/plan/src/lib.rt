@@ -3,10 +3,10 @@
 ghost use mathlib.Core.Path.{_≡_};
 ghost use mathlib.Core.List.{List};
 ghost use Prim.Native.Nat.{ℕ, _≤_, _<_};
-ghost use Rattle.rules.specs.Refusals.{accept, refusedAs};
-ghost use Rattle.rules.specs.Types.{shardingOf, meshOf, sizesOf};
-ghost use Rattle.rules.specs.Calls.{checkedOf};
-ghost use Rattle.rules.specs.Promises.{CheckPromise};
+ghost use Rattle.rules.specs.Refusals.{accept};
+ghost use Rattle.types.specs.Answers.{refusedAs, checkedOf};
+ghost use Rattle.types.specs.Types.{shardingOf, meshOf, sizesOf};
+ghost use Rattle.types.specs.Promises.{CheckPromise};
 ghost use Rattle.plan.specs.Parts.{Begins, walkAt, walkRead};
 ghost use Rattle.plan.specs.Parts.{wholeOf, WholeTells, Keeps, Bounded, answerOf, stateAt, StateTells, Shaped};
 use blocks::judge_item;
@@ -19,17 +19,17 @@ use opening::Opening;
 use opening::open;
 use reader::Next;
 use reader::Shape;
-use rules::CheckOutcome;
-use rules::Checked;
-use rules::Dim;
-use rules::Mesh;
-use rules::Reason;
-use rules::Refusal;
-use rules::Sharding;
-use rules::Step;
-use rules::Table;
-use rules::Totals;
 use taking::shard_words;
+use types::CheckOutcome;
+use types::Checked;
+use types::Dim;
+use types::Mesh;
+use types::Reason;
+use types::Refusal;
+use types::Sharding;
+use types::Step;
+use types::Table;
+use types::Totals;
 
 // The sharding after some outermost steps, the one that was kept on the way, the most words that a shard had, and where the next byte is.
 struct Walk {

@@ -3,9 +3,9 @@ use answer::print_answer;
 use answer::print_refusal;
 use libc::STDERR_FILENO;
 use libc::STDIN_FILENO;
-use rules::PlanFile;
-use rules::Reason;
-use rules::Refusal;
+use types::PlanFile;
+use types::Reason;
+use types::Refusal;
 
 fn main() {
     // The first argument is the program's own name.

@@ -8,25 +8,27 @@ use lib.ListN.{length}
 use Rattle.rules.specs.Limits.{mostAxes, mostDims}
 use Rattle.rules.specs.Sharding.{Sharding}
 use Rattle.rules.specs.Collectives.{Step}
-use Rattle.rules.specs.Refusals.{Judged, accept, refuse, _>>_, need, refusedAs, numberOf, refusalOf}
+use Rattle.rules.specs.Refusals.{Judged, accept, refuse, _>>_, need}
+use Rattle.types.specs.Answers.{refusedAs, numberOf, refusalOf}
 use Rattle.rules.specs.PlanFile.{allIn, same}
-use Rattle.rules.specs.Types.{axesOf, shardingOf, meshOf, sizesOf}
-use Rattle.rules.specs.declared.Mesh.{Mesh}
-use Rattle.rules.specs.declared.Table.{Table}
-use Rattle.rules.specs.declared.Refusal.{Refusal}
-use Rattle.rules.specs.declared.Sharding as code
-use Rattle.rules.proofs.Judging.{then-inv, then-assoc}
-use Rattle.rules.proofs.Refusals.{refusal-told}
+use Rattle.types.specs.Types.{axesOf, shardingOf, meshOf, sizesOf}
+use Rattle.types.specs.declared.Mesh.{Mesh}
+use Rattle.types.specs.declared.Table.{Table}
+use Rattle.types.specs.declared.Refusal.{Refusal}
+use Rattle.types.specs.declared.Sharding as code
+use Rattle.laws.proofs.Judging.{then-inv, then-assoc}
+use Rattle.types.proofs.Refusals.{refusal-told}
 use Rattle.start.specs.Start.{meaning}
 use Rattle.start.specs.Start as verdicts
 use Rattle.start.specs.declared.Verdict.{Verdict}
 use Rattle.start.specs.declared.Verdict.the-variants as verdict
 use Rattle.records.specs.Writing.{judgeCounts, judgeSharding}
 use Rattle.records.specs.Forms.{shardingGiven}
+use Rattle.records.specs.Records.{Records}
 use Rattle.records.specs.RoundTrip.{Shorts}
 use Rattle.records.specs.Planning.{planSteps, reachable, planOf}
 use Rattle.records.specs.Promises.{PlanPromise}
-use Rattle.records.proofs.Arrives.{planner-promise, plan-again}
+use Rattle.records.proofs.Arrives.{planner-promise, plan-again, plan-steps}
 use Rattle.given.specs.Given.{judgeShape, meshFrom, tableFrom}
 use Rattle.given.proofs.Sizes.{mesh-is, table-is}
 use Rattle.given.proofs.Whole.{axes-few, dims-few}
@@ -156,6 +158,15 @@ plan-promise mesh order sizes m o t start goal r e = record {
   answers = e .0;
   refused = e .1;
   reaches = λ rs a.
-      let p = planner-promise mesh order sizes m o t (S mesh order sizes start goal) (G mesh order sizes start goal) rs a in
-      (p .0, p .1, plan-again mesh order sizes (S mesh order sizes start goal) (G mesh order sizes start goal) rs a);
+      let s : Sharding = S mesh order sizes start goal in
+      let g : Sharding = G mesh order sizes start goal in
+      let p = planner-promise mesh order sizes m o t s g rs a in
+      record {
+        steps = planSteps s g;
+        answered = e .0 ∙ ap (λ (j : Judged Records). plannedOf (_>>_ j (accept (planSteps s g)))) a;
+        all = plan-steps mesh order sizes s g rs a;
+        given = plan-again mesh order sizes s g rs a;
+        plan = p .0;
+        reached = p .1;
+      };
 }

@@ -11,7 +11,7 @@ use Rattle.rules.specs.Lists.{pick, flat}
 use Rattle.rules.specs.Sharding.{Sharding}
 use Rattle.rules.specs.Collectives.{Step, allSlice, allGather, allReduce, stepAxes}
 use Rattle.rules.specs.PlanFile.{some}
-use Rattle.rules.specs.declared.Step as code
+use Rattle.types.specs.declared.Step as code
 use Rattle.records.specs.Planning.{toReduce, toGather, toSlice, ifNaming, planSteps}
 use Rattle.records.specs.declared.Steps.{Steps}
 use Rattle.records.specs.PlanAnswer.{stepFrom, stepsFrom}

@@ -3,7 +3,7 @@ use Prim.Native.Nat.{ℕ}
 use mathlib.Core.List.{List}
 use lib.ListN.{length}
 use Rattle.rules.specs.Refusals.{Judged, _>>_}
-use Rattle.rules.specs.declared.Sharding as code
+use Rattle.types.specs.declared.Sharding as code
 use Rattle.records.specs.Writing.{judgeSharding}
 use Rattle.records.specs.Forms.{shardingGiven}
 use Rattle.records.specs.Planning.{reachable}

@@ -8,7 +8,7 @@ ghost use Rattle.rules.specs.Lists.{each, pick};
 ghost use Rattle.rules.specs.Limits.{mostDims};
 ghost use Rattle.rules.specs.Collectives.{allSlice, allGather, allReduce};
 ghost use Rattle.rules.specs.Collectives as rules;
-ghost use Rattle.rules.specs.Types.{axesOf, dimsOf, shardingOf};
+ghost use Rattle.types.specs.Types.{axesOf, dimsOf, shardingOf};
 ghost use Rattle.start.specs.Start.{meaning};
 ghost use Rattle.records.specs.Planning.{common as commonOf, restOfStart, planSteps, reachable};
 ghost use Rattle.records.specs.PlanAnswer.{stepFrom, stepsFrom};
@@ -26,16 +26,16 @@ use given::table_of;
 use records::PlanOutcome;
 use records::Planned;
 use records::Steps;
-use rules::AxisList;
-use rules::Dim;
-use rules::DimLists;
-use rules::Kind;
-use rules::Reason;
-use rules::Sharding;
-use rules::Step;
 use start::Verdict;
 use start::refusal_of;
 use start::refused;
+use types::AxisList;
+use types::Dim;
+use types::DimLists;
+use types::Kind;
+use types::Reason;
+use types::Sharding;
+use types::Step;
 
 // How many axes two lists have in common from their beginning on.
 fn common(start: AxisList, goal: AxisList) -> usize

@@ -12,8 +12,8 @@ use Rattle.rules.specs.Mesh.{devices as devicesOf}
 use Rattle.rules.specs.Limits.{mostDevices, mostWords}
 use Rattle.rules.specs.Refusals.{Judged, accept, refuse, _>>=_}
 use Rattle.rules.specs.PlanFile.{Read, u16At, meshOffset, tensorOffset, sizesAt, orderAllowed, orderAt, MeshAndTable, meshAndTableAt, meshAndTableAtBy}
-use Rattle.rules.proofs.Judging.{accept-inj, need-inv, bind-inv}
-use Rattle.rules.proofs.Accepted.{section-facts}
+use Rattle.laws.proofs.Judging.{accept-inj, need-inv, bind-inv}
+use Rattle.laws.proofs.Accepted.{section-facts}
 use Rattle.reader.specs.Reading.{orderOf, meshAt}
 
 module _ (carried : Bool) (n : ℕ) (file : List ℕ) (at : ℕ) where

@@ -7,13 +7,13 @@ use mathlib.Core.List.{List, [], _∷_}
 use native.Mathlib.Omega.{arith}
 use lib.ListN.{length, getD, take}
 use lib.Seq.{take-append-le}
-use Rattle.rules.specs.Types.{meshOf, sizesOf}
+use Rattle.types.specs.Types.{meshOf, sizesOf}
 use Rattle.rules.specs.Mesh.{devices as devicesOf}
 use Rattle.rules.specs.Limits.{mostWords, mostDims}
 use Rattle.rules.specs.Refusals.{Judged, accept, refuse}
 use Rattle.rules.specs.PlanFile.{Read, edition, meshOffset, tensorOffset, sizesAt, carriesOrder, MeshAndTable, meshAndTableAt}
-use Rattle.rules.specs.declared.Mesh.{Mesh}
-use Rattle.rules.specs.declared.Table.{Table}
+use Rattle.types.specs.declared.Mesh.{Mesh}
+use Rattle.types.specs.declared.Table.{Table}
 use Rattle.reader.specs.Reading.{orderOf, orderIn, meshAt, Counted, NoShape, shapeRead, ShapeTells}
 use Rattle.reader.specs.declared.Shape.{Shape}
 use Rattle.reader.proofs.Answers.{so-refused}

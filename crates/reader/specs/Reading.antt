@@ -10,18 +10,19 @@ use lib.Dec.{ltb}
 use Rattle.rules.specs.Lists.{tab, pick}
 use Rattle.rules.specs.Limits.{mostDevices}
 use Rattle.rules.specs.Mesh.{devices as devicesOf, plainOrder}
-use Rattle.rules.specs.Refusals.{Judged, accept, _>>=_, _>>_, refusedAs}
+use Rattle.rules.specs.Refusals.{Judged, accept, _>>=_, _>>_}
+use Rattle.types.specs.Answers.{refusedAs}
 use Rattle.rules.specs.Sharding.{Sharding}
 use Rattle.rules.specs.Collectives.{Step, allReduce}
 use Rattle.rules.specs.PlanFile.{Read, edition, axisCount, rankCount, stepCount, meshOffset, tensorOffset, shardingOffset, stepsOffset}
 use Rattle.rules.specs.PlanFile.{u16At, judgeHeader, judgeHeaderBy, sizesAt, carriesOrder, orderAt, MeshAndTable}
-use Rattle.rules.specs.Types.{meshOf, sizesOf, axesOf, dimsOf, shardingOf, stepOf}
-use Rattle.rules.specs.declared.Kind.{Kind}
-use Rattle.rules.specs.declared.Kind.the-variants.{AllSlice, AllGather, AllReduce, AllToAll, Unknown}
-use Rattle.rules.specs.declared.Mesh.{Mesh}
-use Rattle.rules.specs.declared.Table.{Table}
-use Rattle.rules.specs.declared.Refusal.{Refusal}
-use Rattle.rules.specs.declared.Reason.the-variants.{CountOutsideLimits, SectionPastEnd}
+use Rattle.types.specs.Types.{meshOf, sizesOf, axesOf, dimsOf, shardingOf, stepOf}
+use Rattle.types.specs.declared.Kind.{Kind}
+use Rattle.types.specs.declared.Kind.the-variants.{AllSlice, AllGather, AllReduce, AllToAll, ReduceScatter, Unknown}
+use Rattle.types.specs.declared.Mesh.{Mesh}
+use Rattle.types.specs.declared.Table.{Table}
+use Rattle.types.specs.declared.Refusal.{Refusal}
+use Rattle.types.specs.declared.Reason.the-variants.{CountOutsideLimits, SectionPastEnd}
 use Rattle.reader.specs.declared.Byte.{Byte}
 use Rattle.reader.specs.declared.Byte.the-variants as byte
 use Rattle.reader.specs.declared.Next.{Next}
@@ -165,4 +166,5 @@ PerDim AllSlice = Unit {0}
 PerDim AllGather = Unit {0}
 PerDim AllReduce = ⊥
 PerDim AllToAll = ⊥
+PerDim ReduceScatter = Unit {0}
 PerDim Unknown = ⊥

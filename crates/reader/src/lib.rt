@@ -8,27 +8,29 @@ ghost use lib.ListN.{length, getD, take, drop};
 ghost use lib.Dec.{leb};
 ghost use Rattle.rules.specs.Lists.{tab, product};
 ghost use Rattle.rules.specs.Limits.{mostAxes, mostDevices, mostDims, mostWords, mostBytes, latestEdition};
-ghost use Rattle.rules.specs.Refusals.{accept, refuse, numberOf, refusedAs};
+ghost use Rattle.rules.specs.Refusals.{accept, refuse};
+ghost use Rattle.types.specs.Answers.{numberOf, refusedAs};
 ghost use Rattle.rules.specs.PlanFile.{u16At, edition, sizesAt, carriesOrder, orderAt, meshAndTableAt, listAt, listsAt, carriesReplicated, replicatedAt, shardingAt};
 ghost use Rattle.rules.specs.PlanFile.{kindOf, listsOf, stepAt};
-ghost use Rattle.rules.specs.Types.{sizesOf};
-ghost use Rattle.rules.specs.declared.Kind.the-variants.{AllReduce, AllToAll};
+ghost use Rattle.types.specs.Types.{sizesOf};
+ghost use Rattle.rules.specs.PlanFile.{AllReduce, AllToAll};
+ghost use Rattle.types.specs.Types.{kindMeaning, kindFrom};
 ghost use Rattle.reader.specs.Reading.{byteAt, nextRefusal, numbersOf, headerOf, headerRead, headerRefusal};
 ghost use Rattle.reader.specs.Reading.{reading, SizesTell, orderOf, meshAt, NoShape, shapeRead, ShapeTells, listRead, listsRead, ShardingTells, StepTells, PerDim};
 use order::order_allowed;
-use rules::Axis;
-use rules::AxisList;
-use rules::Device;
-use rules::Dim;
-use rules::DimLists;
-use rules::Kind;
-use rules::Mesh;
-use rules::PlanFile;
-use rules::Reason;
-use rules::Refusal;
-use rules::Sharding;
-use rules::Step;
-use rules::Table;
+use types::Axis;
+use types::AxisList;
+use types::Device;
+use types::Dim;
+use types::DimLists;
+use types::Kind;
+use types::Mesh;
+use types::PlanFile;
+use types::Reason;
+use types::Refusal;
+use types::Sharding;
+use types::Step;
+use types::Table;
 
 // A byte of a file, or none past its end.
 enum Byte {
@@ -644,9 +646,9 @@ impl StepRead {
     }
 }
 
-// "1 all-slice, 2 all-gather .., 3 all-reduce .., 4 all-to-all"
+// "1 all-slice, 2 all-gather .., 3 all-reduce .., 4 all-to-all"; 5 is a reduce-scatter.
 pub fn kind_of(byte: u8) -> Kind
-    ensures { λ r. ⌜ r ≡ kindOf byte ⌝ }
+    ensures { λ r. ⌜ r ≡ kindFrom (kindOf byte) ⌝ }
 {
     if byte == 1 {
         Kind::AllSlice
@@ -656,15 +658,17 @@ pub fn kind_of(byte: u8) -> Kind
         Kind::AllReduce
     } else if byte == 4 {
         Kind::AllToAll
+    } else if byte == 5 {
+        Kind::ReduceScatter
     } else {
         Kind::Unknown
     }
 }
 
-// An all-slice or all-gather after its kind byte: one list per dimension.
+// An all-slice, all-gather or reduce-scatter after its kind byte: one list per dimension.
 fn read_per_dim(file: &[u8], at: usize, n: usize, rank: usize, kind: Kind) -> StepRead
     requires { ⌜ (n ≤ mostAxes) × (rank ≤ mostDims) × PerDim kind ⌝ }
-    ensures { λ r. ⌜ ((k : ℕ) → StepTells rank (listsOf n rank k (now (file .entry)) at kind) r) ⌝ }
+    ensures { λ r. ⌜ ((k : ℕ) → StepTells rank (listsOf n rank k (now (file .entry)) at (kindMeaning kind)) r) ⌝ }
 {
     let read = read_lists(file, at, n, rank);
     let next = read.next;
@@ -765,6 +769,7 @@ pub fn read_step(file: &[u8], at: usize, n: usize, rank: usize, k: u16) -> StepR
         Kind::AllGather => read_per_dim(file, at + 1, n, rank, kind),
         Kind::AllReduce => read_all_reduce(file, at + 1, n),
         Kind::AllToAll => read_all_to_all(file, at + 1, n),
+        Kind::ReduceScatter => read_per_dim(file, at + 1, n, rank, kind),
         Kind::Unknown => StepRead::refused(Refusal {
             reason: Reason::UnknownKind,
             step: k,

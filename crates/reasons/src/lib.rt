@@ -1,7 +1,7 @@
 // The refusal number of a reason, as C and the program give it.
 ghost use mathlib.Core.Path.{_≡_};
-ghost use Rattle.rules.specs.Refusals.{numberOf};
-use rules::Reason;
+ghost use Rattle.types.specs.Answers.{numberOf};
+use types::Reason;
 
 // The refusal number.
 pub fn number_of(reason: Reason) -> u8

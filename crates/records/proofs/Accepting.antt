@@ -12,8 +12,8 @@ use lib.Dec.{T, ltb, leb, eqb, eqb→eq, leb→le, le→leb, lit<, lit≤}
 use Rattle.rules.specs.Lists.{pick, each, both, flat, inTurn, without, In, Distinct}
 use Rattle.rules.specs.Mesh.{devices}
 use Rattle.rules.specs.Sharding.{Sharding, varying, named, divisible, shardSizes, IsSharding}
-use Rattle.rules.specs.Collectives.{Step, allSlice, allGather, allReduce, allToAll, stepAxes, cutTail, sliced, gathered, reduced, after, grown}
-use Rattle.rules.specs.Limits.{mostAxes, mostDevices, mostDims, mostWords, mostSteps, mostRun, mostDepth}
+use Rattle.rules.specs.Collectives.{Step, allSlice, allGather, allReduce, allToAll, reduceScatter, stepAxes, cutTail, sliced, gathered, reduced, after, grown}
+use Rattle.rules.specs.Limits.{mostAxes, mostDevices, mostDims, mostWords, mostSteps, mostRun, mostDepth, everyKind}
 use Rattle.rules.specs.Refusals.{Judged, accept, refuse, _>>=_, _>>_, need, needAt}
 use Rattle.rules.specs.PlanFile.{
   axesAllowed,
@@ -34,6 +34,7 @@ use Rattle.rules.specs.PlanFile.{
   judgeKind,
   judgeStep,
   plain,
+  kindByte,
   StepsRead,
   plainAt,
   isRepeat,
@@ -42,7 +43,7 @@ use Rattle.rules.specs.PlanFile.{
   Outermost,
   outermostAt,
 }
-use Rattle.rules.proofs.Lists.{
+use Rattle.laws.proofs.Lists.{
   T?,
   T→true,
   nT→false,
@@ -61,17 +62,17 @@ use Rattle.rules.proofs.Lists.{
   of-without,
   without-none,
 }
-use Rattle.rules.proofs.Judging.{accept-inj, need-inv, need-true, then-inv, bind-inv, allIn-in, same-eq}
-use Rattle.rules.proofs.Shapes.{Cut}
-use Rattle.rules.proofs.Sizes.{cut-divisible, cut-is, cut-grown}
-use Rattle.rules.proofs.Accepted.{SizesFacts, sizes-facts, start-sharding}
+use Rattle.laws.proofs.Judging.{accept-inj, need-inv, need-true, then-inv, bind-inv, allIn-in, same-eq}
+use Rattle.laws.proofs.Shapes.{Cut}
+use Rattle.laws.proofs.Sizes.{cut-divisible, cut-is, cut-grown}
+use Rattle.laws.proofs.Accepted.{SizesFacts, sizes-facts, start-sharding}
 use Rattle.records.specs.Records.{Given, known, listsBytes, stepBytes, givenBytes, stepsBytes}
 use Rattle.records.specs.Writing.{judgeCounts, judgeSharding}
 use Rattle.records.specs.RoundTrip.{RankedStep, AllRanked}
 use Rattle.records.specs.Planning.{common, restOfStart, restOfGoal, toReduce, toGather, toSlice, ifNaming, planSteps}
 use Rattle.records.proofs.Places.{From, from-next, from-byte}
 use Rattle.records.proofs.Lists.{is-le, then-bind, stepLists, step-from}
-use Rattle.records.proofs.Given.{kindByte, kind-first}
+use Rattle.records.proofs.Given.{kind-first}
 use Rattle.records.proofs.Cutting.{
   lt-allBelow,
   distinct-fresh,
@@ -124,12 +125,12 @@ module _ (mesh sizes file : List ℕ) where
   -- a step that is accepted, as what stands at its kind byte
   item-plain : (k at : ℕ) (t : Step) (rest : List ℕ) (s : Sharding) → From at file (stepBytes t ++ rest) → RankedStep (length sizes) t
       → judgeCounts (length mesh) (stepLists t) ≡ accept tt → judgeStep mesh sizes k t s ≡ accept (after t s)
-      → itemAt true mesh sizes file mostDepth k at s
+      → itemAt everyKind mesh sizes file mostDepth k at s
       ≡ accept (record { records = plain t ∷ []; steps = t ∷ []; sharding = after t s; next = at + length (stepBytes t) })
   unfolding itemAt itemBy plainAt
   item-plain k at t rest s f r c j =
       let h = kind-first t in
-      let b : getD file at 0 ≡ kindByte t = from-byte at file (kindByte t) (h .0 ++ rest) (subst (λ (l : List ℕ). From at file (l ++ rest)) (h .1) f) in
+      let b : getD file at 0 ≡ kindByte (plain t) = from-byte at file (kindByte (plain t)) (h .0 ++ rest) (subst (λ (l : List ℕ). From at file (l ++ rest)) (h .1) f) in
       let other : isRepeat file at ≡ false = nT→false (eqb (getD file at 0) 9) (λ x. (let nine : getD file at 0 ≡ 9 = eqb→eq (getD file at 0) 9 x in omega (arith, h .2, b, nine))) in
       rw (other, step-from (length mesh) (length sizes) k file at t rest r f, c, j) refl
 
@@ -149,6 +150,7 @@ step-few {n} (allSlice Ss) hn hr r e = omega (arith, counts-few n Ss hn e)
 step-few {n} (allGather Gs) hn hr r e = omega (arith, counts-few n Gs hn e)
 step-few {n} (allReduce L) hn hr r e = omega (arith, counts-few n (L ∷ []) hn e, length-append L [])
 step-few {n} (allToAll source target L) hn hr r e = omega (arith, counts-few n (L ∷ []) hn e, length-append L [])
+step-few {n} (reduceScatter Ss) hn hr r e = omega (arith, counts-few n Ss hn e)
 
 -- ---- steps in turn
 
@@ -156,7 +158,7 @@ module _ (mesh sizes : List ℕ) where
   -- steps that are accepted from s on, and end at g
   pub record Goes (s : Sharding) (ts : List Step) (g : Sharding) : Type 0 where
     pub accepts : (file : List ℕ) (ran k at : ℕ) → From at file (stepsBytes (givenOf ts)) → ran + length ts ≤ mostRun
-        → outermostAt true mesh sizes file ran (length ts) k at s ≡ accept (plainRead at ts)
+        → outermostAt everyKind mesh sizes file ran (length ts) k at s ≡ accept (plainRead at ts)
     pub ends : inTurn after ts s ≡ g
     pub ranked : AllRanked (length sizes) (givenOf ts)
     pub short : length mesh ≤ mostAxes → length sizes ≤ mostDims → length (stepsBytes (givenOf ts)) ≤ 29 * length ts

@@ -10,9 +10,9 @@ use lib.Seq.{drop-length}
 use lib.Dec.{T, T-not, ltb, leb, eqb, ltb→lt, nltb→le, leb→le, eqb→eq, eqb-refl, lit<}
 use Rattle.rules.specs.Lists.{tab, pick}
 use Rattle.rules.specs.Mesh.{span, devices, plainOrder}
-use Rattle.rules.specs.Sharding.{Sharding, shardSizes, IsSharding}
-use Rattle.rules.specs.Collectives.{Step, allSlice, allGather, allReduce, allToAll, after}
-use Rattle.rules.specs.Limits.{present, mostBytes, leastBytes, mostSteps, mostDevices, mostWords, mostDepth}
+use Rattle.rules.specs.Sharding.{divisible, Sharding, shardSizes, IsSharding}
+use Rattle.rules.specs.Collectives.{Step, allSlice, allGather, allReduce, allToAll, reduceScatter, after}
+use Rattle.rules.specs.Limits.{present, mostBytes, leastBytes, mostSteps, mostDevices, mostWords, mostDepth, everyKind}
 use Rattle.rules.specs.Refusals.{Judged, accept, _>>=_, _>>_}
 use Rattle.rules.specs.PlanFile.{
   Read,
@@ -60,13 +60,13 @@ use Rattle.rules.specs.PlanFile.{
   judge,
   judgeBy,
 }
-use Rattle.rules.specs.Demands.{onePass}
-use Rattle.rules.proofs.Lists.{T?, T-and, nT→false, T→true, length-tab, getD-tab, both-length, length-each}
-use Rattle.rules.proofs.Judging.{accept-inj, need-inv, then-inv, bind-inv}
-use Rattle.rules.proofs.Steps.{AcceptedStep, after-sharding}
-use Rattle.rules.proofs.Turns.{Fine}
-use Rattle.rules.proofs.Repeats.{readBy, outermost-steps}
-use Rattle.rules.proofs.Accepted.{AcceptedPlan, accepted}
+use Rattle.laws.specs.Demands.{onePass}
+use Rattle.laws.proofs.Lists.{T?, T-and, nT→false, T→true, length-tab, getD-tab, both-length, length-each}
+use Rattle.laws.proofs.Judging.{accept-inj, need-inv, then-inv, bind-inv}
+use Rattle.laws.proofs.Steps.{AcceptedStep, after-sharding}
+use Rattle.laws.proofs.Turns.{Fine}
+use Rattle.laws.proofs.Repeats.{readBy, outermost-steps}
+use Rattle.laws.proofs.Accepted.{AcceptedPlan, accepted}
 use Rattle.records.specs.Records.{
   Given,
   known,
@@ -138,13 +138,16 @@ module _ (mesh sizes : List ℕ) (pos : (a : ℕ) → 0 < getD mesh a 1) where
   pub rank-is : (s : Sharding) → IsSharding mesh sizes s → length sizes ≡ length (s .dims)
   rank-is s h = both-length _ sizes (s .dims) (h .divides)
 
+  slices-ranked : (Ss : List (List ℕ)) (s : Sharding) → IsSharding mesh sizes s → T (divisible mesh (shardSizes mesh sizes (s .dims)) Ss) → length Ss ≡ length sizes
+  slices-ranked Ss s h d =
+      sym (both-length _ (shardSizes mesh sizes (s .dims)) Ss d) ∙ length-each (λ n d. n / span mesh d) sizes (s .dims) (rank-is s h) ∙ sym (rank-is s h)
+
   step-ranked : (t : Step) (s : Sharding) → IsSharding mesh sizes s → AcceptedStep mesh sizes t s → RankedStep (length sizes) t
-  step-ranked (allSlice Ss) s h f =
-      sym (both-length _ (shardSizes mesh sizes (s .dims)) Ss (f .by-kind .divides)) ∙ length-each (λ n d. n / span mesh d) sizes (s .dims) (rank-is s h)
-      ∙ sym (rank-is s h)
+  step-ranked (allSlice Ss) s h f = slices-ranked Ss s h (f .by-kind .divides)
   step-ranked (allGather Gs) s h f = sym (both-length isTail (s .dims) Gs (f .by-kind .tailed)) ∙ sym (rank-is s h)
   step-ranked (allReduce L) s h f = tt
   step-ranked (allToAll source target L) s h f = tt
+  step-ranked (reduceScatter Ss) s h f = slices-ranked Ss s h (f .by-kind .divides)
 
   pub pass-ranked : (s : Sharding) (records : List Record) → IsSharding mesh sizes s → Fine mesh sizes s (onePass records) → AllRanked (length sizes) (map known records)
   pass-ranked s [] h f = tt
@@ -352,17 +355,17 @@ module _ (file : List ℕ) (bytes : Bytes file) where
   unfolding judgeBy
   parts p e =
       let f = bind-inv (judgeFront file) _ p e in
-      let ts = bind-inv (outermostAt true (f .0 .mesh) (f .0 .sizes) file 0 (stepCount file) 1 (f .0 .next) (f .0 .start)) _ p (f .2) in
+      let ts = bind-inv (outermostAt everyKind (f .0 .mesh) (f .0 .sizes) file 0 (stepCount file) 1 (f .0 .next) (f .0 .start)) _ p (f .2) in
       let o : Outermost = ts .0 in
       let z = need-inv 0 (eqb (o .next) (length file)) 9 _ p (ts .2) in
       let a : FrontSpelled (f .0) = front-spelled (f .0) (f .1) in
-      let one = itemAt true (f .0 .mesh) (f .0 .sizes) file mostDepth in
+      let one = itemAt everyKind (f .0 .mesh) (f .0 .sizes) file mostDepth in
       let b : Spells file (f .0 .next) (o .next) (stepsBytes (map known (o .records))) =
-      steps-spell (f .0 .mesh) (f .0 .sizes) file one (item-spells (f .0 .mesh) (f .0 .sizes) file true mostDepth) (stepCount file) 1 (f .0 .next) (f .0 .start)
+      steps-spell (f .0 .mesh) (f .0 .sizes) file one (item-spells (f .0 .mesh) (f .0 .sizes) file everyKind mostDepth) (stepCount file) 1 (f .0 .next) (f .0 .start)
       (readBy (f .0 .mesh) (f .0 .sizes) file (f .0 .start) o) (a .spells .inside)
-      (outermost-steps (f .0 .mesh) (f .0 .sizes) file true 0 (stepCount file) 1 (f .0 .next) (f .0 .start) o (ts .1)) in
+      (outermost-steps (f .0 .mesh) (f .0 .sizes) file everyKind 0 (stepCount file) 1 (f .0 .next) (f .0 .start) o (ts .1)) in
       let count : outermost (map known (o .records) ++ []) ≡ stepCount file + outermost [] =
-      outermost-counted (f .0 .mesh) (f .0 .sizes) file true 0 (stepCount file) 1 (f .0 .next) (f .0 .start) o (ts .1) [] in
+      outermost-counted (f .0 .mesh) (f .0 .sizes) file everyKind 0 (stepCount file) 1 (f .0 .next) (f .0 .start) o (ts .1) [] in
       let none : outermost [] ≡ 0 = unfold outermostFrom in refl in
       let counted : stepCount file ≡ outermost (map known (o .records)) =
       (let x : stepCount file ≡ outermost (map known (o .records) ++ []) = omega (arith, count, none) in

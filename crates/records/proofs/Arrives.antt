@@ -13,15 +13,15 @@ use Rattle.rules.specs.Mesh.{devices}
 use Rattle.rules.specs.Sharding.{Sharding, shardSizes}
 use Rattle.rules.specs.Spread.{Faithful, addWords, heldBy}
 use Rattle.rules.specs.Collectives.{Step, after}
-use Rattle.rules.specs.Limits.{mostAxes, mostDims, mostDevices, mostWords, mostSteps, mostBytes, mostRun}
+use Rattle.rules.specs.Limits.{mostAxes, mostDims, everyKind, mostDevices, mostWords, mostSteps, mostBytes, mostRun}
 use Rattle.rules.specs.Refusals.{Judged, accept, _>>=_, _>>_}
 use Rattle.rules.specs.PlanFile.{axesAllowed, rankAllowed, judgeSizes, same, some, allIn, plain, outermostAt, Plan, judge, announced, announcedShape}
 use Rattle.rules.specs.Calls.{shardsAfter, runOf}
-use Rattle.rules.specs.Demands.{Words, SpreadAt, returned, Demand3, Fits as RoomIn}
-use Rattle.rules.proofs.Lists.{T-and, T→true, both-length}
-use Rattle.rules.proofs.Judging.{accept-inj, need-inv, need-true, then-inv, allIn-in, same-eq}
-use Rattle.rules.proofs.Accepted.{SizesFacts, sizes-facts}
-use Rattle.rules.proofs.Whole.{whole-plan}
+use Rattle.laws.specs.Demands.{Words, SpreadAt, returned, Demand3, Fits as RoomIn}
+use Rattle.laws.proofs.Lists.{T-and, T→true, both-length}
+use Rattle.laws.proofs.Judging.{accept-inj, need-inv, need-true, then-inv, allIn-in, same-eq}
+use Rattle.laws.proofs.Accepted.{SizesFacts, sizes-facts}
+use Rattle.laws.proofs.Whole.{whole-plan}
 use Rattle.records.specs.Records.{known, Records, outermost, outermostFrom, u16sBytes, listBytes, listsBytes, editionOf, replicatedBytes, shardingBytes, stepsBytes, stepsStart, fileLength, fileOf}
 use Rattle.records.specs.Writing.{judgeCounts, judgeSharding, judgeOrder, orderOf, judgeOpening, mostRecords, judgeRecords}
 use Rattle.records.specs.RoundTrip.{Shorts, AllShort, Fits}
@@ -135,7 +135,7 @@ module _ (mesh order sizes : List ℕ) (start goal : Sharding) where
     few-dims : length sizes ≤ mostDims
     few-dims = leb→le (length sizes) mostDims (T-and (leb 1 (length sizes)) (leb (length sizes) mostDims) (j .rank) .1)
 
-    reads : outermostAt true mesh sizes (stepsBytes (givenOf steps)) 0 (length steps) 1 0 start ≡ accept (plainRead 0 steps)
+    reads : outermostAt everyKind mesh sizes (stepsBytes (givenOf steps)) 0 (length steps) 1 0 start ≡ accept (plainRead 0 steps)
     reads = goes .accepts (stepsBytes (givenOf steps)) 0 1 0 (from-all (stepsBytes (givenOf steps))) (omega (arith, plan-few start goal))
 
     taken : judgeRecords made ≡ accept plan
@@ -156,7 +156,7 @@ module _ (mesh order sizes : List ℕ) (start goal : Sharding) where
         ) refl
 
     short : AllShort (map plain steps)
-    short = outermost-short mesh sizes (stepsBytes (givenOf steps)) few-axes true 0 (length steps) 1 0 start (plainRead 0 steps) reads
+    short = outermost-short mesh sizes (stepsBytes (givenOf steps)) few-axes everyKind 0 (length steps) 1 0 start (plainRead 0 steps) reads
 
     given-again : stepsGiven (length sizes) (recordsBytes (map plain steps)) ≡ givenOf steps
     given-again = steps-again (length sizes) few-dims (map plain steps) (goes .ranked) short
@@ -232,6 +232,11 @@ pub plan-again : (mesh order sizes : List ℕ) (start goal : Sharding) (r : Reco
 plan-again mesh order sizes start goal r e =
     let j = judged mesh order sizes start goal r e in
     (λ i. record { mesh = mesh; order = order; sizes = sizes; start = start; steps = given-again mesh order sizes start goal (j .0) i }) ∙ j .1
+
+-- they are the steps of the records that are made
+pub plan-steps : (mesh order sizes : List ℕ) (start goal : Sharding) (r : Records) → planOf mesh order sizes start goal ≡ accept r
+    → r .steps ≡ map known (map plain (planSteps start goal))
+plan-steps mesh order sizes start goal r e = ap (λ (x : Records). x .steps) (sym (judged mesh order sizes start goal r e .1))
 
 -- and none of its lists has more axes than places
 pub plan-short : (mesh order sizes : List ℕ) (start goal : Sharding) (r : Records) → planOf mesh order sizes start goal ≡ accept r → AllShort (map plain (planSteps start goal))

@@ -14,8 +14,8 @@ use Rattle.rules.specs.Lists.{pick, each, both, flat, mem, keep, without, In, D
 use Rattle.rules.specs.Collectives.{cutTail}
 use Rattle.rules.specs.Refusals.{accept, _>>_}
 use Rattle.rules.specs.PlanFile.{judgeAxis, judgeAxes, some, allBelow, fresh, same, isTail, increasingFrom, allIn}
-use Rattle.rules.proofs.Lists.{T?, T→true, nT→false, T-and, and-T, mem-in, in-mem, mem-not, not-mem, keep-yes, keep-no, in-keep, of-keep, keep-same, in-without, of-without, not-in-without, in-append, in-left}
-use Rattle.rules.proofs.Judging.{need-inv, need-true, then-inv}
+use Rattle.laws.proofs.Lists.{T?, T→true, nT→false, T-and, and-T, mem-in, in-mem, mem-not, not-mem, keep-yes, keep-no, in-keep, of-keep, keep-same, in-without, of-without, not-in-without, in-append, in-left}
+use Rattle.laws.proofs.Judging.{need-inv, need-true, then-inv}
 use Rattle.records.specs.Planning.{common, restOfStart, restOfGoal}
 
 -- ---- tests that hold

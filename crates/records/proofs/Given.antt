@@ -1,13 +1,13 @@
 -- Steps read from the bytes of records are these records, all of them where as many outermost ones are read as there are (`all-given`). Assumes nothing.
 use Prim.Native.Nat.{ℕ, zero, suc, _+_, _<_, _≤_}
 use mathlib.Core.Path.{_≡_, refl, sym, ap, ap₂, _∙_, subst}
-use mathlib.Core.Bool.{Bool, true, false, _&&_}
+use mathlib.Core.Bool.{Bool, true, false}
 use mathlib.Core.List.{List, [], _∷_, _++_, map, append-assoc, append-nil}
 use native.Mathlib.Omega.{arith}
 use lib.ListN.{length, getD, length-append}
 use lib.Dec.{T, ltb, leb, eqb, lt→ltb, ltb→lt, eqb→eq}
 use Rattle.rules.specs.Sharding.{Sharding}
-use Rattle.rules.specs.Collectives.{Step, allSlice, allGather, allReduce, allToAll}
+use Rattle.rules.specs.Collectives.{Step, allSlice, allGather, allReduce, allToAll, reduceScatter}
 use Rattle.rules.specs.Limits.{mostRun, mostDepth}
 use Rattle.rules.specs.Refusals.{Judged, accept, refuse, _>>=_, _>>_}
 use Rattle.rules.specs.PlanFile.{
@@ -19,6 +19,7 @@ use Rattle.rules.specs.PlanFile.{
   Record,
   plain,
   repeat,
+  kindByte,
   StepsRead,
   JudgesStep,
   JudgesSteps,
@@ -32,11 +33,11 @@ use Rattle.rules.specs.PlanFile.{
   itemAt,
   Outermost,
   outermostAt,
+  Unknown,
 }
-use Rattle.rules.specs.declared.Kind.the-variants.{Unknown}
-use Rattle.rules.proofs.Lists.{T-and, T→true}
-use Rattle.rules.proofs.Judging.{never, accept-inj, need-inv, then-inv, bind-inv}
-use Rattle.rules.proofs.Repeats.{IsRepeat, repeat-inv, positive-inv, readBy, outermost-steps}
+use Rattle.laws.proofs.Lists.{T→true}
+use Rattle.laws.proofs.Judging.{never, accept-inj, need-inv, then-inv, bind-inv}
+use Rattle.laws.proofs.Repeats.{IsRepeat, repeat-inv, positive-inv, readBy, outermost-steps}
 use Rattle.records.specs.Records.{Given, known, unknown, outermostFrom, outermost, stepBytes, givenBytes, stepsBytes}
 use Rattle.records.specs.Writing.{judgeCounts}
 use Rattle.records.specs.RoundTrip.{AllRanked}
@@ -44,18 +45,13 @@ use Rattle.records.proofs.Places.{From, from-length, from-next, from-by
 use Rattle.records.proofs.Lists.{read, stepLists, step-from}
 
 -- the first byte of a plain step is the kind of one
-pub kindByte : Step → ℕ
-kindByte (allSlice Ss) = 1
-kindByte (allGather Gs) = 2
-kindByte (allReduce L) = 3
-kindByte (allToAll source target L) = 4
-
-pub kind-first : (t : Step) → (rest : List ℕ) × (stepBytes t ≡ kindByte t ∷ rest) × (kindByte t < 9)
-unfolding stepBytes kindByte
+pub kind-first : (t : Step) → (rest : List ℕ) × (stepBytes t ≡ kindByte (plain t) ∷ rest) × (kindByte (plain t) < 9)
+unfolding stepBytes
 kind-first (allSlice Ss) = (_, refl, omega arith)
 kind-first (allGather Gs) = (_, refl, omega arith)
 kind-first (allReduce L) = (_, refl, omega arith)
 kind-first (allToAll source target L) = (_, refl, omega arith)
+kind-first (reduceScatter Ss) = (_, refl, omega arith)
 
 pub known-append : (l m : List Record) → map known (l ++ m) ≡ map known l ++ map known m
 known-append [] m = refl
@@ -146,7 +142,7 @@ module _ (mesh sizes file : List ℕ) where
   no-plain : (at : ℕ) (t : Step) (rest : List ℕ) → From at file (stepBytes t ++ rest) → getD file at 0 ≡ 9 → ⊥
   no-plain at t rest f e =
       let h = kind-first t in
-      let b : getD file at 0 ≡ kindByte t = from-byte at file (kindByte t) (h .0 ++ rest) (subst (λ (l : List ℕ). From at file (l ++ rest)) (h .1) f) in
+      let b : getD file at 0 ≡ kindByte (plain t) = from-byte at file (kindByte (plain t)) (h .0 ++ rest) (subst (λ (l : List ℕ). From at file (l ++ rest)) (h .1) f) in
       omega (arith, h .2)
 
   repeat-given : (inner : JudgesSteps) → ((count : ℕ) → Reads (inner count)) → (k at : ℕ) (s : Sharding) (w : StepsRead) (gs : List Given)
@@ -179,21 +175,21 @@ module _ (mesh sizes file : List ℕ) where
       let b : getD file at 0 ≡ 0 = from-byte at file 0 (stepsBytes gs) f in
       absurd (omega (arith, b))
 
-  by-given : (b repeats : Bool) (inner : JudgesSteps) → ((count : ℕ) → Reads (inner count)) → (k at : ℕ) (s : Sharding) (w : StepsRead) (gs : List Given)
-      → AllRanked (length sizes) gs → From at file (stepsBytes gs) → repeats && isRepeat file at ≡ b → itemBy b inner mesh sizes file k at s ≡ accept w
+  by-given : (b : Bool) (inner : JudgesSteps) → ((count : ℕ) → Reads (inner count)) → (k at : ℕ) (s : Sharding) (w : StepsRead) (gs : List Given)
+      → AllRanked (length sizes) gs → From at file (stepsBytes gs) → isRepeat file at ≡ b → itemBy b inner mesh sizes file k at s ≡ accept w
       → GivenBy gs (w .records) (w .next)
   unfolding itemBy
-  by-given false repeats inner h k at s w gs r f q e = plain-given k at s w gs r f e
-  by-given true repeats inner h k at s w gs r f q e =
-      repeat-given inner h k at s w gs r f (eqb→eq (getD file at 0) 9 (T-and repeats (isRepeat file at) (subst T (sym q) tt) .1)) e
+  by-given false inner h k at s w gs r f q e = plain-given k at s w gs r f e
+  by-given true inner h k at s w gs r f q e = repeat-given inner h k at s w gs r f (eqb→eq (getD file at 0) 9 (subst T (sym q) tt)) e
 
-  pub item-given : (repeats : Bool) (depth : ℕ) → Reads (itemAt repeats mesh sizes file depth)
+  pub item-given : (kinds : ℕ → Bool) (depth : ℕ) → Reads (itemAt kinds mesh sizes file depth)
   unfolding itemAt
-  item-given repeats zero k at s w gs r f e =
-      by-given (repeats && isRepeat file at) repeats (tooDeep k) (λ count k′ at′ s′ w′ gs′ r′ f′ e′. absurd (never e′)) k at s w gs r f refl e
-  item-given repeats (suc depth) k at s w gs r f e =
-      by-given (repeats && isRepeat file at) repeats (stepsAt (itemAt repeats mesh sizes file depth))
-      (steps-given (itemAt repeats mesh sizes file depth) (item-given repeats depth)) k at s w gs r f refl e
+  item-given kinds zero k at s w gs r f e =
+      by-given (isRepeat file at) (tooDeep k) (λ count k′ at′ s′ w′ gs′ r′ f′ e′. absurd (never e′)) k at s w gs r f refl
+      (need-inv k (kinds (getD file at 0)) 20 _ w e .1)
+  item-given kinds (suc depth) k at s w gs r f e =
+      by-given (isRepeat file at) (stepsAt (itemAt kinds mesh sizes file depth))
+      (steps-given (itemAt kinds mesh sizes file depth) (item-given kinds depth)) k at s w gs r f refl (need-inv k (kinds (getD file at 0)) 20 _ w e .1)
 
 -- ---- outermost records
 
@@ -263,40 +259,40 @@ module _ (mesh sizes file : List ℕ) where
   by-closes false inner h k at s w e = plain-closes k at s w e
   by-closes true inner h k at s w e = repeat-closes inner h k (at + 1) s w e
 
-  item-closes : (repeats : Bool) (depth : ℕ) → Closing (itemAt repeats mesh sizes file depth)
+  item-closes : (kinds : ℕ → Bool) (depth : ℕ) → Closing (itemAt kinds mesh sizes file depth)
   unfolding itemAt
-  item-closes repeats zero k at s w e =
-      by-closes (repeats && isRepeat file at) (tooDeep k) (λ count k′ at′ s′ w′ e′. absurd (never e′)) k at s w e
-  item-closes repeats (suc depth) k at s w e =
-      by-closes (repeats && isRepeat file at) (stepsAt (itemAt repeats mesh sizes file depth))
-      (steps-close (itemAt repeats mesh sizes file depth) (item-closes repeats depth)) k at s w e
+  item-closes kinds zero k at s w e =
+      by-closes (isRepeat file at) (tooDeep k) (λ count k′ at′ s′ w′ e′. absurd (never e′)) k at s w (need-inv k (kinds (getD file at 0)) 20 _ w e .1)
+  item-closes kinds (suc depth) k at s w e =
+      by-closes (isRepeat file at) (stepsAt (itemAt kinds mesh sizes file depth))
+      (steps-close (itemAt kinds mesh sizes file depth) (item-closes kinds depth)) k at s w (need-inv k (kinds (getD file at 0)) 20 _ w e .1)
 
-  pub outermost-counted : (repeats : Bool) (ran count k at : ℕ) (s : Sharding) (o : Outermost) → outermostAt repeats mesh sizes file ran count k at s ≡ accept o
+  pub outermost-counted : (kinds : ℕ → Bool) (ran count k at : ℕ) (s : Sharding) (o : Outermost) → outermostAt kinds mesh sizes file ran count k at s ≡ accept o
       → (rest : List Given) → outermost (map known (o .records) ++ rest) ≡ count + outermost rest
   unfolding outermostAt
-  outermost-counted repeats ran zero k at s o e rest =
+  outermost-counted kinds ran zero k at s o e rest =
       let z : outermost rest ≡ 0 + outermost rest = omega arith in
       ap (λ (x : Outermost). outermost (map known (x .records) ++ rest)) (sym (accept-inj e)) ∙ z
-  outermost-counted repeats ran (suc count) k at s o e rest =
-      let t = bind-inv (itemAt repeats mesh sizes file mostDepth k at s) _ o e in
+  outermost-counted kinds ran (suc count) k at s o e rest =
+      let t = bind-inv (itemAt kinds mesh sizes file mostDepth k at s) _ o e in
       let x = need-inv k (leb (ran + length (t .0 .steps)) mostRun) 43 _ o (t .2) in
-      let u = bind-inv (outermostAt repeats mesh sizes file (ran + length (t .0 .steps)) count (k + length (t .0 .records)) (t .0 .next) (t .0 .sharding)) _ o (x .1) in
+      let u = bind-inv (outermostAt kinds mesh sizes file (ran + length (t .0 .steps)) count (k + length (t .0 .records)) (t .0 .next) (t .0 .sharding)) _ o (x .1) in
       let a : outermost (map known (t .0 .records) ++ (map known (u .0 .records) ++ rest)) ≡ suc (outermost (map known (u .0 .records) ++ rest)) =
-      item-closes repeats mostDepth k at s (t .0) (t .1) (map known (u .0 .records) ++ rest) .0 in
+      item-closes kinds mostDepth k at s (t .0) (t .1) (map known (u .0 .records) ++ rest) .0 in
       let b : outermost (map known (u .0 .records) ++ rest) ≡ count + outermost rest =
-      outermost-counted repeats (ran + length (t .0 .steps)) count (k + length (t .0 .records)) (t .0 .next) (t .0 .sharding) (u .0) (u .1) rest in
+      outermost-counted kinds (ran + length (t .0 .steps)) count (k + length (t .0 .records)) (t .0 .next) (t .0 .sharding) (u .0) (u .1) rest in
       ap (λ (z : Outermost). outermost (map known (z .records) ++ rest)) (sym (accept-inj (u .2)))
       ∙ both-parts 0 (t .0 .records) (u .0 .records) rest ∙ omega (arith, a, b)
 
   -- ALL RECORDS ARE READ
-  pub all-given : (repeats : Bool) (ran k at : ℕ) (s : Sharding) (gs : List Given) (o : Outermost) → AllRanked (length sizes) gs → From at file (stepsBytes gs)
-      → outermostAt repeats mesh sizes file ran (outermost gs) k at s ≡ accept o → (gs ≡ map known (o .records)) × (o .next ≡ length file)
+  pub all-given : (kinds : ℕ → Bool) (ran k at : ℕ) (s : Sharding) (gs : List Given) (o : Outermost) → AllRanked (length sizes) gs → From at file (stepsBytes gs)
+      → outermostAt kinds mesh sizes file ran (outermost gs) k at s ≡ accept o → (gs ≡ map known (o .records)) × (o .next ≡ length file)
   unfolding stepsBytes
-  all-given repeats ran k at s gs o r f e =
+  all-given kinds ran k at s gs o r f e =
       let g : GivenBy mesh sizes file gs (o .records) (o .next) =
-      steps-given mesh sizes file (itemAt repeats mesh sizes file mostDepth) (item-given mesh sizes file repeats mostDepth) (outermost gs) k at s
-      (readBy mesh sizes file s o) gs r f (outermost-steps mesh sizes file repeats ran (outermost gs) k at s o e) in
-      let c : outermost (map known (o .records) ++ g .rest) ≡ outermost gs + outermost (g .rest) = outermost-counted repeats ran (outermost gs) k at s o e (g .rest) in
+      steps-given mesh sizes file (itemAt kinds mesh sizes file mostDepth) (item-given mesh sizes file kinds mostDepth) (outermost gs) k at s
+      (readBy mesh sizes file s o) gs r f (outermost-steps mesh sizes file kinds ran (outermost gs) k at s o e) in
+      let c : outermost (map known (o .records) ++ g .rest) ≡ outermost gs + outermost (g .rest) = outermost-counted kinds ran (outermost gs) k at s o e (g .rest) in
       let d : outermost gs ≡ outermost (map known (o .records) ++ g .rest) = ap outermost (g .all) in
       let none : g .rest ≡ [] = none-left (g .rest) (omega (arith, c, d)) in
       let last : From (o .next) file [] = subst (λ (l : List Given). From (o .next) file (stepsBytes l)) none (g .from) in (

@@ -7,11 +7,11 @@ use native.Mathlib.Omega.{arith}
 use native.Mathlib.Nat.{add-assoc}
 use lib.ListN.{length, getD, length-append}
 use lib.Dec.{T, ltb, leb, eqb, le→leb, lt→ltb, eqb-refl}
-use Rattle.rules.specs.Collectives.{Step, allSlice, allGather, allReduce, allToAll}
+use Rattle.rules.specs.Collectives.{Step, allSlice, allGather, allReduce, allToAll, reduceScatter}
 use Rattle.rules.specs.Refusals.{Judged, accept, refuse, _>>=_, _>>_, need}
 use Rattle.rules.specs.PlanFile.{Read, listAt, listsAt, listsOf, stepAt}
-use Rattle.rules.proofs.Lists.{T→true}
-use Rattle.rules.proofs.Judging.{then-assoc}
+use Rattle.laws.proofs.Lists.{T→true}
+use Rattle.laws.proofs.Judging.{then-assoc}
 use Rattle.records.specs.Records.{listBytes, listsBytes, stepBytes}
 use Rattle.records.specs.Writing.{judgeCounts}
 use Rattle.records.specs.RoundTrip.{RankedStep}
@@ -83,6 +83,7 @@ stepLists (allSlice Ss) = Ss
 stepLists (allGather Gs) = Gs
 stepLists (allReduce L) = L ∷ []
 stepLists (allToAll source target L) = L ∷ []
+stepLists (reduceScatter Ss) = Ss
 
 module _ (n rank k : ℕ) (file : List ℕ) where
   pub step-from : (at : ℕ) (t : Step) (rest : List ℕ) → RankedStep rank t → From at file (stepBytes t ++ rest)
@@ -119,3 +120,8 @@ module _ (n rank k : ℕ) (file : List ℕ) where
         from-second (at + 1) file source target (b ++ rest) g,
         next,
       )
+  step-from at (reduceScatter Ss) rest e f =
+      let b : List ℕ = listsBytes Ss in
+      let g : From (at + 1) file (b ++ rest) = from-rest at file 5 (b ++ rest) f in
+      let next : at + 1 + length b ≡ at + suc (length b) = omega arith in
+      rw (is-lt at (length file) (from-lt at file 5 (b ++ rest) f), from-byte at file 5 (b ++ rest) f, ← e, lists-from n file (at + 1) Ss rest g, then-bind, next)

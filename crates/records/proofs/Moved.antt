@@ -2,7 +2,7 @@
 -- nothing.
 use Prim.Native.Nat.{ℕ, zero, suc, _+_, _*_, _≤_, _<_}
 use mathlib.Core.Path.{_≡_, refl, sym, ap, _∙_, subst}
-use mathlib.Core.Bool.{Bool, true, false, _&&_}
+use mathlib.Core.Bool.{Bool, true, false}
 use mathlib.Core.List.{List, [], _∷_, _++_}
 use native.Mathlib.Omega.{arith}
 use lib.ListN.{length, getD, take, drop, replicate}
@@ -37,9 +37,14 @@ use Rattle.rules.specs.PlanFile.{
   itemAt,
   Outermost,
   outermostAt,
+  Kind,
+  AllSlice,
+  AllGather,
+  AllReduce,
+  AllToAll,
+  ReduceScatter,
+  Unknown,
 }
-use Rattle.rules.specs.declared.Kind.{Kind}
-use Rattle.rules.specs.declared.Kind.the-variants.{AllSlice, AllGather, AllReduce, AllToAll, Unknown}
 use Rattle.records.proofs.Places.{From, from-length, from-at, from-drop}
 
 -- ---- a judgement of another value
@@ -131,6 +136,7 @@ module _ (d : ℕ) (file tail : List ℕ) (from : From d file tail) where
         let two : d + i + 2 ≡ d + (i + 2) = omega arith in
         let one : d + i + 1 ≡ d + (i + 1) = omega arith in
         rw (two, le-moved (i + 2), list-moved (i + 2), bind-by, by-then, by-bind, byte i, one, byte (i + 1)) refl
+    kind-moved rank k i ReduceScatter = rw (lists-moved rank i, bind-by, by-bind) refl
     kind-moved rank k i Unknown = refl
 
     step-moved : (rank k i : ℕ) → stepAt n rank k file (d + i) ≡ judgedBy (further d) (stepAt n rank k tail i)
@@ -185,18 +191,21 @@ module _ (d : ℕ) (file tail : List ℕ) (from : From d file tail) where
         let one : d + i + 1 ≡ d + (i + 1) = omega arith in
         ap (λ (at : ℕ). repeatAt inner file k at s) one ∙ repeat-moved inner other h k (i + 1) s
 
-    item-moved : (known : Bool) (depth : ℕ) → Moved (itemAt known mesh sizes file depth) (itemAt known mesh sizes tail depth)
+    item-moved : (known : ℕ → Bool) (depth : ℕ) → Moved (itemAt known mesh sizes file depth) (itemAt known mesh sizes tail depth)
     unfolding itemAt
     item-moved known zero k i s =
-        ap (λ (b : ℕ). itemBy (known && eqb b 9) (tooDeep k) mesh sizes file k (d + i) s) (byte i)
-        ∙ by-moved (known && isRepeat tail i) (tooDeep k) (tooDeep k) (λ count k′ i′ s′. refl) k i s
+        ap (λ (b : ℕ). _>>_ (needAt k (known b) 20) (itemBy (eqb b 9) (tooDeep k) mesh sizes file k (d + i) s)) (byte i)
+        ∙ ap (_>>_ (needAt k (known (getD tail i 0)) 20)) (by-moved (isRepeat tail i) (tooDeep k) (tooDeep k) (λ count k′ i′ s′. refl) k i s)
+        ∙ sym (by-then (stepsFurther d) (needAt k (known (getD tail i 0)) 20) _)
     item-moved known (suc depth) k i s =
-        ap (λ (b : ℕ). itemBy (known && eqb b 9) (stepsAt (itemAt known mesh sizes file depth)) mesh sizes file k (d + i) s) (byte i)
-        ∙ by-moved (known && isRepeat tail i) (stepsAt (itemAt known mesh sizes file depth)) (stepsAt (itemAt known mesh sizes tail depth))
-        (steps-moved (itemAt known mesh sizes file depth) (itemAt known mesh sizes tail depth) (item-moved known depth)) k i s
+        ap (λ (b : ℕ). _>>_ (needAt k (known b) 20) (itemBy (eqb b 9) (stepsAt (itemAt known mesh sizes file depth)) mesh sizes file k (d + i) s)) (byte i)
+        ∙ ap (_>>_ (needAt k (known (getD tail i 0)) 20))
+        (by-moved (isRepeat tail i) (stepsAt (itemAt known mesh sizes file depth)) (stepsAt (itemAt known mesh sizes tail depth))
+        (steps-moved (itemAt known mesh sizes file depth) (itemAt known mesh sizes tail depth) (item-moved known depth)) k i s)
+        ∙ sym (by-then (stepsFurther d) (needAt k (known (getD tail i 0)) 20) _)
 
     -- THE STEPS BY THEMSELVES
-    pub outermost-moved : (known : Bool) (ran count k i : ℕ) (s : Sharding)
+    pub outermost-moved : (known : ℕ → Bool) (ran count k i : ℕ) (s : Sharding)
         → outermostAt known mesh sizes file ran count k (d + i) s ≡ judgedBy (outermostFurther d) (outermostAt known mesh sizes tail ran count k i s)
     unfolding outermostAt
     outermost-moved known ran zero k i s = refl

@@ -1,16 +1,16 @@
 -- Records that are written are those of the plan that their file is read as (`reads-back`). Assumes nothing.
 use Prim.Native.Nat.{ℕ, _≤_}
 use mathlib.Core.Path.{_≡_, refl, sym, ap, _∙_, subst}
-use mathlib.Core.Bool.{Bool, true, false, not, _||_}
+use mathlib.Core.Bool.{Bool, false, not, _||_}
 use mathlib.Core.List.{List, [], _∷_, map}
 use lib.ListN.{length}
 use lib.Dec.{T, leb, leb→le}
 use Rattle.rules.specs.Lists.{pick}
 use Rattle.rules.specs.Mesh.{devices, plainOrder}
-use Rattle.rules.specs.Limits.{mostDevices, mostWords, mostSteps, mostBytes}
+use Rattle.rules.specs.Limits.{mostDevices, mostWords, mostSteps, mostBytes, everyKind}
 use Rattle.rules.specs.Refusals.{Judged, accept, _>>=_, _>>_}
 use Rattle.rules.specs.PlanFile.{axesAllowed, rankAllowed, judgeSizes, orderAllowed, same, some, Outermost, outermostAt, Plan, judge}
-use Rattle.rules.proofs.Judging.{accept-inj, need-inv, need-true, then-inv, bind-inv}
+use Rattle.laws.proofs.Judging.{accept-inj, need-inv, need-true, then-inv, bind-inv}
 use Rattle.records.specs.Records.{Given, known, Records, recordsOf, outermost, stepsBytes, fileLength, fileOf}
 use Rattle.records.specs.Writing.{judgeOrder, orderOf, judgeOpening, mostRecords, judgeRecords, writeOf}
 use Rattle.records.specs.RoundTrip.{Proper, Fits, ReadsBack}
@@ -44,10 +44,10 @@ module _ (r : Records) (proper : Proper r) where
   records-same p e =
       let w = then-inv (judgeOpening r) _ p e in
       let n = need-inv 0 (leb (length (r .steps)) mostRecords) 2 _ p (w .1) in
-      let ts = bind-inv (outermostAt true (r .mesh) (r .sizes) (stepsBytes (r .steps)) 0 (outermost (r .steps)) 1 0 (r .start)) _ p (n .1) in
+      let ts = bind-inv (outermostAt everyKind (r .mesh) (r .sizes) (stepsBytes (r .steps)) 0 (outermost (r .steps)) 1 0 (r .start)) _ p (n .1) in
       let o = order-passed (devices (r .mesh)) (r .order) (opening-passed (w .0 .1)) in
       let g : r .steps ≡ map known (ts .0 .records) =
-      all-given (r .mesh) (r .sizes) (stepsBytes (r .steps)) true 0 1 0 (r .start) (r .steps) (ts .0) (proper .steps-ranked) (from-all (stepsBytes (r .steps))) (ts .1) .0 in (
+      all-given (r .mesh) (r .sizes) (stepsBytes (r .steps)) everyKind 0 1 0 (r .start) (r .steps) (ts .0) (proper .steps-ranked) (from-all (stepsBytes (r .steps))) (ts .1) .0 in (
         o .0,
         ap recordsOf (sym (accept-inj (ts .2)))
             ∙ (λ i. record { mesh = r .mesh; order = o .1 i; sizes = r .sizes; start = r .start; steps = sym g i }),

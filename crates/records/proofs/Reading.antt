@@ -12,8 +12,8 @@ use Rattle.rules.specs.Lists.{pick}
 use Rattle.rules.specs.Mesh.{devices, plainOrder}
 use Rattle.rules.specs.Refusals.{accept, refuse}
 use Rattle.rules.specs.PlanFile.{edition, carriesOrder, same, some, Plan, judge}
-use Rattle.rules.specs.Types.{shardingFrom}
-use Rattle.rules.proofs.Judging.{accept-inj, need-inv, bind-inv}
+use Rattle.types.specs.Types.{shardingFrom}
+use Rattle.laws.proofs.Judging.{accept-inj, need-inv, bind-inv}
 use Rattle.records.specs.Records.{recordsOf, editionOf}
 use Rattle.records.specs.Forms.{recordBytes, recordsGiven, recordsBytes}
 use Rattle.records.specs.RoundTrip.{Bytes}

@@ -19,6 +19,7 @@ use Rattle.rules.specs.PlanFile.{
   judgeStep,
   plain,
   repeat,
+  kindByte,
   StepsRead,
   JudgesSteps,
   stepsAt,
@@ -31,13 +32,13 @@ use Rattle.rules.specs.PlanFile.{
   tooDeep,
   itemAt,
 }
-use Rattle.rules.proofs.Lists.{T→true, nT→false}
+use Rattle.laws.proofs.Lists.{T→true, nT→false}
 use Rattle.records.specs.Records.{Given, known, unknown, stepBytes, givenBytes, stepsBytes}
 use Rattle.records.specs.Writing.{judgeCounts}
 use Rattle.records.specs.RoundTrip.{RankedStep}
 use Rattle.records.proofs.Places.{From, from-all, from-length, from-next, from-byte, from-second, from-rest, from-lt, from-at}
 use Rattle.records.proofs.Lists.{read, is-lt, then-bind, stepLists, step-from}
-use Rattle.records.proofs.Given.{kindByte, kind-first}
+use Rattle.records.proofs.Given.{kind-first}
 
 -- where record i begins
 abbrev pub offset : List Given → ℕ → ℕ
@@ -103,8 +104,8 @@ module _ (mesh sizes : List ℕ) (gs : List Given) (i : ℕ) where
   read-plain t rest e r =
       let f : From at bytes (stepBytes t ++ stepsBytes rest) = here (known (plain t) ∷ rest) e in
       let h = kind-first t in
-      let b : getD bytes at 0 ≡ kindByte t =
-      from-byte at bytes (kindByte t) (h .0 ++ stepsBytes rest) (subst (λ (l : List ℕ). From at bytes (l ++ stepsBytes rest)) (h .1) f) in
+      let b : getD bytes at 0 ≡ kindByte (plain t) =
+      from-byte at bytes (kindByte (plain t)) (h .0 ++ stepsBytes rest) (subst (λ (l : List ℕ). From at bytes (l ++ stepsBytes rest)) (h .1) f) in
       let other : isRepeat bytes at ≡ false =
       nT→false (eqb (getD bytes at 0) 9) (λ x. (let nine : getD bytes at 0 ≡ 9 = eqb→eq (getD bytes at 0) 9 x in omega (arith, h .2, b, nine))) in
       let next : at + length (stepBytes t) ≡ offset gs (i + 1) = sym (next-record gs i (known (plain t)) rest e) in

@@ -12,14 +12,14 @@ use lib.Dec.{eqb, lit<}
 use Rattle.rules.specs.Lists.{tab, flat, In}
 use Rattle.rules.specs.Sharding.{Sharding, varying, IsSharding}
 use Rattle.rules.specs.Refusals.{accept}
-use Rattle.rules.specs.Limits.{mostAxes, mostDims}
-use Rattle.rules.specs.Collectives.{allSlice, allGather, allReduce, allToAll}
+use Rattle.rules.specs.Limits.{mostAxes, mostDims, everyKind}
+use Rattle.rules.specs.Collectives.{allSlice, allGather, allReduce, allToAll, reduceScatter}
 use Rattle.rules.specs.PlanFile.{Record, plain, repeat, stepCount, outermostAt, judgeFront, Plan, judge, judgeBy}
-use Rattle.rules.specs.Types.{listFrom, listsFrom, shardingFrom}
-use Rattle.rules.proofs.Lists.{length-tab, getD-tab, in-left, in-right, at-flat, distinct-split, distinct-at, few-distinct}
-use Rattle.rules.proofs.Judging.{accept-inj, need-inv, bind-inv}
-use Rattle.rules.proofs.Accepted.{AcceptedPlan, accepted, front-accepted}
-use Rattle.rules.proofs.Types.{list-axes}
+use Rattle.types.specs.Types.{listFrom, listsFrom, shardingFrom}
+use Rattle.laws.proofs.Lists.{length-tab, getD-tab, in-left, in-right, at-flat, distinct-split, distinct-at, few-distinct}
+use Rattle.laws.proofs.Judging.{accept-inj, need-inv, bind-inv}
+use Rattle.laws.proofs.Accepted.{AcceptedPlan, accepted, front-accepted}
+use Rattle.types.proofs.Types.{list-axes}
 use Rattle.records.specs.Records.{Given, known, unknown, recordsOf}
 use Rattle.records.specs.Forms.{
   listGiven,
@@ -74,6 +74,7 @@ record-length (plain (allSlice Ss)) = refl
 record-length (plain (allGather Gs)) = refl
 record-length (plain (allReduce L)) = refl
 record-length (plain (allToAll source target L)) = refl
+record-length (plain (reduceScatter Ss)) = refl
 record-length (repeat count number) = refl
 
 -- it is read from the bytes at its place on
@@ -114,6 +115,8 @@ module _ (rank : ℕ) (few : rank ≤ mostDims) where
   record-again (plain (allReduce L)) rest r s = ap (λ (l : List ℕ). known (plain (allReduce l))) (unfold listFrom in list-again L s)
   record-again (plain (allToAll source target L)) rest r s =
       ap (λ (l : List ℕ). known (plain (allToAll source target l))) (unfold listFrom in list-again L s)
+  record-again (plain (reduceScatter Ss)) rest r s =
+      ap (λ (ls : List (List ℕ)). known (plain (reduceScatter ls))) (unfold listsFrom in dims-again rank Ss r few s)
   record-again (repeat count number) rest r s = refl
 
 -- ---- all records
@@ -180,10 +183,10 @@ module _ (file : List ℕ) (p : Plan) (e : judge file ≡ accept p) where
   unfolding judgeBy
   records-short =
       let f = bind-inv (judgeFront file) _ p e in
-      let ts = bind-inv (outermostAt true (f .0 .mesh) (f .0 .sizes) file 0 (stepCount file) 1 (f .0 .next) (f .0 .start)) _ p (f .2) in
+      let ts = bind-inv (outermostAt everyKind (f .0 .mesh) (f .0 .sizes) file 0 (stepCount file) 1 (f .0 .next) (f .0 .start)) _ p (f .2) in
       let z = need-inv 0 (eqb (ts .0 .next) (length file)) 9 _ p (ts .2) in
       subst (λ (q : Plan). AllShort (q .records)) (accept-inj (z .1))
-      (outermost-short (f .0 .mesh) (f .0 .sizes) file (front-accepted file (f .0) (f .1) .within .axes-few) true 0 (stepCount file) 1 (f .0 .next) (f .0 .start)
+      (outermost-short (f .0 .mesh) (f .0 .sizes) file (front-accepted file (f .0) (f .1) .within .axes-few) everyKind 0 (stepCount file) 1 (f .0 .next) (f .0 .start)
       (ts .0) (ts .1))
 
   -- WHAT IS READ OF AN ACCEPTED FILE STANDS FOR ITS RECORDS

@@ -1,6 +1,6 @@
 -- What is read has no more axes in a list than there are places, for 8 is given otherwise (`outermost-short`, `counts-short`), and the other way (`short-counts`). Assumes nothing.
 use Prim.Native.Nat.{ℕ, zero, suc, _+_, _≤_}
-use mathlib.Core.Bool.{Bool, true, false, _&&_}
+use mathlib.Core.Bool.{Bool, true, false}
 use mathlib.Core.Path.{_≡_, refl, ap, subst}
 use mathlib.Core.List.{List, [], _∷_, _++_}
 use native.Mathlib.Omega.{arith}
@@ -31,11 +31,16 @@ use Rattle.rules.specs.PlanFile.{
   itemAt,
   Outermost,
   outermostAt,
+  Kind,
+  AllSlice,
+  AllGather,
+  AllReduce,
+  AllToAll,
+  ReduceScatter,
+  Unknown,
 }
-use Rattle.rules.specs.declared.Kind.{Kind}
-use Rattle.rules.specs.declared.Kind.the-variants.{AllSlice, AllGather, AllReduce, AllToAll, Unknown}
-use Rattle.rules.proofs.Judging.{never, accept-inj, need-inv, bind-inv}
-use Rattle.rules.proofs.Repeats.{IsRepeat, repeat-inv, readBy, outermost-steps}
+use Rattle.laws.proofs.Judging.{never, accept-inj, need-inv, bind-inv}
+use Rattle.laws.proofs.Repeats.{IsRepeat, repeat-inv, readBy, outermost-steps}
 use Rattle.records.specs.Writing.{judgeCounts}
 use Rattle.records.specs.RoundTrip.{ShortLists, ShortStep, AllShort}
 use Rattle.records.proofs.Lists.{is-le}
@@ -82,6 +87,9 @@ module _ (mesh sizes file : List ℕ) (few : length mesh ≤ mostAxes) where
       let q = need-inv 0 (leb (at + 2) (length file)) 7 _ t e in
       let a = bind-inv (listAt (length mesh) file (at + 2)) _ t (q .1) in
       subst (λ (r : Read Step). ShortStep (r .value)) (accept-inj (a .2)) (list-short (at + 2) (a .0) (a .1))
+  kind-short rank k at ReduceScatter t e =
+      let a = bind-inv (listsAt (length mesh) rank file at) _ t e in
+      subst (λ (r : Read Step). ShortStep (r .value)) (accept-inj (a .2)) (lists-short rank at (a .0) (a .1))
   kind-short rank k at Unknown t e = absurd (never e)
 
   step-short : (rank k at : ℕ) (t : Read Step) → stepAt (length mesh) rank k file at ≡ accept t → ShortStep (t .value)
@@ -120,19 +128,19 @@ module _ (mesh sizes file : List ℕ) (few : length mesh ≤ mostAxes) where
   by-short false inner g k at s w e = plain-short k at s w e
   by-short true inner g k at s w e = repeat-short inner g k at s w e
 
-  item-short : (repeats : Bool) (depth : ℕ) → Shortens (itemAt repeats mesh sizes file depth)
+  item-short : (kinds : ℕ → Bool) (depth : ℕ) → Shortens (itemAt kinds mesh sizes file depth)
   unfolding itemAt
-  item-short repeats zero k at s w e =
-      by-short (repeats && isRepeat file at) (tooDeep k) (λ count k′ at′ s′ w′ e′. absurd (never e′)) k at s w e
-  item-short repeats (suc depth) k at s w e =
-      by-short (repeats && isRepeat file at) (stepsAt (itemAt repeats mesh sizes file depth))
-      (steps-short (itemAt repeats mesh sizes file depth) (item-short repeats depth)) k at s w e
+  item-short kinds zero k at s w e =
+      by-short (isRepeat file at) (tooDeep k) (λ count k′ at′ s′ w′ e′. absurd (never e′)) k at s w (need-inv k (kinds (getD file at 0)) 20 _ w e .1)
+  item-short kinds (suc depth) k at s w e =
+      by-short (isRepeat file at) (stepsAt (itemAt kinds mesh sizes file depth))
+      (steps-short (itemAt kinds mesh sizes file depth) (item-short kinds depth)) k at s w (need-inv k (kinds (getD file at 0)) 20 _ w e .1)
 
-  pub outermost-short : (repeats : Bool) (ran count k at : ℕ) (s : Sharding) (o : Outermost) → outermostAt repeats mesh sizes file ran count k at s ≡ accept o
+  pub outermost-short : (kinds : ℕ → Bool) (ran count k at : ℕ) (s : Sharding) (o : Outermost) → outermostAt kinds mesh sizes file ran count k at s ≡ accept o
       → AllShort (o .records)
-  outermost-short repeats ran count k at s o e =
-      steps-short (itemAt repeats mesh sizes file mostDepth) (item-short repeats mostDepth) count k at s (readBy mesh sizes file s o)
-      (outermost-steps mesh sizes file repeats ran count k at s o e)
+  outermost-short kinds ran count k at s o e =
+      steps-short (itemAt kinds mesh sizes file mostDepth) (item-short kinds mostDepth) count k at s (readBy mesh sizes file s o)
+      (outermost-steps mesh sizes file kinds ran count k at s o e)
 
 -- ---- and so is what passes 8
 

@@ -2,7 +2,7 @@
 use Prim.Native.Nat.{ℕ, zero, suc, _+_, _*_, _/_, _%_, _≤_, _<_}
 use mathlib.Core.Path.{_≡_, refl, sym, ap, ap₂, _∙_, subst}
 use mathlib.Core.Logic.{_⊎_, inl, inr, ⊎-elim}
-use mathlib.Core.Bool.{Bool, true, false, not, _&&_}
+use mathlib.Core.Bool.{Bool, true, false, not}
 use mathlib.Core.List.{List, [], _∷_, _++_, map, append-assoc, append-nil}
 use native.Mathlib.Omega.{arith}
 use native.Mathlib.Numerals.{add-one}
@@ -41,12 +41,17 @@ use Rattle.rules.specs.PlanFile.{
   itemBy,
   tooDeep,
   itemAt,
+  Kind,
+  AllSlice,
+  AllGather,
+  AllReduce,
+  AllToAll,
+  ReduceScatter,
+  Unknown,
 }
-use Rattle.rules.specs.declared.Kind.{Kind}
-use Rattle.rules.specs.declared.Kind.the-variants.{AllSlice, AllGather, AllReduce, AllToAll, Unknown}
-use Rattle.rules.proofs.Lists.{T?, T-and}
-use Rattle.rules.proofs.Judging.{never, accept-inj, need-inv, bind-inv}
-use Rattle.rules.proofs.Repeats.{IsRepeat, repeat-inv, positive-inv}
+use Rattle.laws.proofs.Lists.{T?}
+use Rattle.laws.proofs.Judging.{never, accept-inj, need-inv, bind-inv}
+use Rattle.laws.proofs.Repeats.{IsRepeat, repeat-inv, positive-inv}
 use Rattle.records.specs.Records.{
   Given,
   known,
@@ -148,6 +153,7 @@ codeOf AllSlice = 1
 codeOf AllGather = 2
 codeOf AllReduce = 3
 codeOf AllToAll = 4
+codeOf ReduceScatter = 5
 codeOf Unknown = 0
 
 kind-is : (b : ℕ) → (codeOf (kindOf b) ≡ b) ⊎ (kindOf b ≡ Unknown)
@@ -155,7 +161,8 @@ kind-is b = ⊎-elim (λ t. inl (subst (λ (z : ℕ). codeOf (kindOf z) ≡ z) (
     (λ n₁. ⊎-elim (λ t. inl (subst (λ (z : ℕ). codeOf (kindOf z) ≡ z) (sym (eqb→eq b 2 t)) refl))
     (λ n₂. ⊎-elim (λ t. inl (subst (λ (z : ℕ). codeOf (kindOf z) ≡ z) (sym (eqb→eq b 3 t)) refl))
     (λ n₃. ⊎-elim (λ t. inl (subst (λ (z : ℕ). codeOf (kindOf z) ≡ z) (sym (eqb→eq b 4 t)) refl))
-    (λ n₄. inr (rw (off (eqb b 1) n₁, off (eqb b 2) n₂, off (eqb b 3) n₃, off (eqb b 4) n₄))) (T? (eqb b 4))) (T? (eqb b 3))) (T? (eqb b 2))) (T? (eqb b 1))
+    (λ n₄. ⊎-elim (λ t. inl (subst (λ (z : ℕ). codeOf (kindOf z) ≡ z) (sym (eqb→eq b 5 t)) refl))
+    (λ n₅. inr (rw (off (eqb b 1) n₁, off (eqb b 2) n₂, off (eqb b 3) n₃, off (eqb b 4) n₄, off (eqb b 5) n₅))) (T? (eqb b 5))) (T? (eqb b 4))) (T? (eqb b 3))) (T? (eqb b 2))) (T? (eqb b 1))
   where
     off : (t : Bool) → T (not t) → t ≡ false
     off true h = absurd h
@@ -188,6 +195,10 @@ module _ (file : List ℕ) where
       (join file (at + 1) (at + 2) (l .0 .next) (getD file (at + 1) 0 ∷ []) (listBytes (l .0 .value)) second (list-spells file n (at + 2) (l .0) (l .1))) in
       subst (λ (z : Read Step). (bytes : List ℕ) × (stepBytes (z .value) ≡ 4 ∷ bytes) × Spells file at (z .next) bytes) (accept-inj (l .2))
       (getD file at 0 ∷ getD file (at + 1) 0 ∷ listBytes (l .0 .value), refl, s)
+  rest-spells n rank k at ReduceScatter r h e =
+      let l = bind-inv (listsAt n rank file at) _ r e in
+      let s : Spells file at (l .0 .next) (listsBytes (l .0 .value)) = lists-spell file n rank at (l .0) h (l .1) .0 in
+      subst (λ (z : Read Step). (bytes : List ℕ) × (stepBytes (z .value) ≡ 5 ∷ bytes) × Spells file at (z .next) bytes) (accept-inj (l .2)) (listsBytes (l .0 .value), refl, s)
   rest-spells n rank k at Unknown r h e = absurd (never e)
 
   no-unknown : (n rank k at : ℕ) (r : Read Step) → listsOf n rank k file at Unknown ≡ accept r → ⊥
@@ -260,20 +271,19 @@ module _ (mesh sizes file : List ℕ) where
       (join file (at + 1) (at + 1 + 1) (i .block .next) (i .count ∷ []) (i .number ∷ bytes) b
       (join file (at + 1 + 1) (at + 1 + 2) (i .block .next) (i .number ∷ []) bytes c d)))
 
-  by-spells : (b repeats : Bool) (inner : JudgesSteps) → ((count : ℕ) → Spelling (inner count)) → (k at : ℕ) (s : Sharding) (w : StepsRead) → at ≤ length file
-      → repeats && isRepeat file at ≡ b → itemBy b inner mesh sizes file k at s ≡ accept w → Spelled at w
+  by-spells : (b : Bool) (inner : JudgesSteps) → ((count : ℕ) → Spelling (inner count)) → (k at : ℕ) (s : Sharding) (w : StepsRead) → at ≤ length file
+      → isRepeat file at ≡ b → itemBy b inner mesh sizes file k at s ≡ accept w → Spelled at w
   unfolding itemBy
-  by-spells false repeats inner g k at s w h q e = plain-spells k at s w h e
-  by-spells true repeats inner g k at s w h q e =
-      repeat-spells inner g k at s w (eqb→eq (getD file at 0) 9 (T-and repeats (isRepeat file at) (subst T (sym q) tt) .1)) e
+  by-spells false inner g k at s w h q e = plain-spells k at s w h e
+  by-spells true inner g k at s w h q e = repeat-spells inner g k at s w (eqb→eq (getD file at 0) 9 (subst T (sym q) tt)) e
 
-  pub item-spells : (repeats : Bool) (depth : ℕ) → Spelling (itemAt repeats mesh sizes file depth)
+  pub item-spells : (kinds : ℕ → Bool) (depth : ℕ) → Spelling (itemAt kinds mesh sizes file depth)
   unfolding itemAt
-  item-spells repeats zero k at s w h e =
-      by-spells (repeats && isRepeat file at) repeats (tooDeep k) (λ count k′ at′ s′ w′ h′ e′. absurd (never e′)) k at s w h refl e
-  item-spells repeats (suc depth) k at s w h e =
-      by-spells (repeats && isRepeat file at) repeats (stepsAt (itemAt repeats mesh sizes file depth))
-      (steps-spell (itemAt repeats mesh sizes file depth) (item-spells repeats depth)) k at s w h refl e
+  item-spells kinds zero k at s w h e =
+      by-spells (isRepeat file at) (tooDeep k) (λ count k′ at′ s′ w′ h′ e′. absurd (never e′)) k at s w h refl (need-inv k (kinds (getD file at 0)) 20 _ w e .1)
+  item-spells kinds (suc depth) k at s w h e =
+      by-spells (isRepeat file at) (stepsAt (itemAt kinds mesh sizes file depth))
+      (steps-spell (itemAt kinds mesh sizes file depth) (item-spells kinds depth)) k at s w h refl (need-inv k (kinds (getD file at 0)) 20 _ w e .1)
 
 -- ---- sizes
 

@@ -11,8 +11,8 @@ use lib.Dec.{T, leb, eqb, lit<}
 use Rattle.rules.specs.Lists.{tab, pick}
 use Rattle.rules.specs.Mesh.{devices}
 use Rattle.rules.specs.Sharding.{Sharding}
-use Rattle.rules.specs.Collectives.{Step, allSlice, allGather, allReduce, allToAll}
-use Rattle.rules.specs.Limits.{present, mostBytes, leastBytes, mostSteps, mostDevices, mostWords}
+use Rattle.rules.specs.Collectives.{Step, allSlice, allGather, allReduce, allToAll, reduceScatter}
+use Rattle.rules.specs.Limits.{present, mostBytes, leastBytes, mostSteps, mostDevices, mostWords, everyKind}
 use Rattle.rules.specs.Refusals.{Judged, accept, refuse, _>>=_, _>>_, need}
 use Rattle.rules.specs.PlanFile.{
   Read,
@@ -47,8 +47,8 @@ use Rattle.rules.specs.PlanFile.{
   judge,
   judgeBy,
 }
-use Rattle.rules.proofs.Lists.{T→true, tab-cong}
-use Rattle.rules.proofs.Fronts.{whole-tab}
+use Rattle.laws.proofs.Lists.{T→true, tab-cong}
+use Rattle.laws.proofs.Fronts.{whole-tab}
 use Rattle.records.specs.Records.{
   Given,
   known,
@@ -207,6 +207,7 @@ given-some (known (plain (allSlice Ss))) = omega arith
 given-some (known (plain (allGather Gs))) = omega arith
 given-some (known (plain (allReduce L))) = omega arith
 given-some (known (plain (allToAll source target L))) = omega arith
+given-some (known (plain (reduceScatter Ss))) = omega arith
 given-some (known (repeat count number)) = omega arith
 given-some unknown = omega arith
 
@@ -405,13 +406,13 @@ module _ (r : Records) (fits : Fits r) where
   unfolding judgeBy judgeRecords
   file-judged =
       let steps : List ℕ = stepsBytes (r .steps) in
-      let read-there : outermostAt true (r .mesh) (r .sizes) file 0 (outermost (r .steps)) 1 (stepsStart r) (r .start)
-      ≡ judgedBy (outermostFurther (stepsStart r)) (outermostAt true (r .mesh) (r .sizes) steps 0 (outermost (r .steps)) 1 0 (r .start)) =
+      let read-there : outermostAt everyKind (r .mesh) (r .sizes) file 0 (outermost (r .steps)) 1 (stepsStart r) (r .start)
+      ≡ judgedBy (outermostFurther (stepsStart r)) (outermostAt everyKind (r .mesh) (r .sizes) steps 0 (outermost (r .steps)) 1 0 (r .start)) =
       (let z : stepsStart r ≡ stepsStart r + 0 = omega arith in
-      ap (λ (k : ℕ). outermostAt true (r .mesh) (r .sizes) file 0 (outermost (r .steps)) 1 k (r .start)) z
-      ∙ outermost-moved (stepsStart r) file steps at-steps (r .mesh) (r .sizes) true 0 (outermost (r .steps)) 1 0 (r .start)) in
+      ap (λ (k : ℕ). outermostAt everyKind (r .mesh) (r .sizes) file 0 (outermost (r .steps)) 1 k (r .start)) z
+      ∙ outermost-moved (stepsStart r) file steps at-steps (r .mesh) (r .sizes) everyKind 0 (outermost (r .steps)) 1 0 (r .start)) in
       rw (front-from, then-bind, is-count, read-there, bind-by)
-      (ap (_>>_ (judgeOpening r)) (rw numbered (ends (outermostAt true (r .mesh) (r .sizes) steps 0 (outermost (r .steps)) 1 0 (r .start)) refl)))
+      (ap (_>>_ (judgeOpening r)) (rw numbered (ends (outermostAt everyKind (r .mesh) (r .sizes) steps 0 (outermost (r .steps)) 1 0 (r .start)) refl)))
     where
       numbered : leb (length (r .steps)) mostRecords ≡ true
       numbered = is-le (length (r .steps)) mostRecords (unfold fileLength in omega (arith, fits .short, steps-some (r .steps)))
@@ -428,11 +429,11 @@ module _ (r : Records) (fits : Fits r) where
       }
 
       -- all bytes are read
-      ends : (j : Judged Outermost) → outermostAt true (r .mesh) (r .sizes) (stepsBytes (r .steps)) 0 (outermost (r .steps)) 1 0 (r .start) ≡ j
+      ends : (j : Judged Outermost) → outermostAt everyKind (r .mesh) (r .sizes) (stepsBytes (r .steps)) 0 (outermost (r .steps)) 1 0 (r .start) ≡ j
           → _>>=_ j (λ o. _>>_ (need (eqb (stepsStart r + o .next) (length file)) 9) (accept (planOf o))) ≡ _>>=_ j (λ o. accept (planOf o))
       ends (refuse n k) e = refl
       ends (accept o) e =
           let all : o .next ≡ length (stepsBytes (r .steps)) =
-          all-given (r .mesh) (r .sizes) (stepsBytes (r .steps)) true 0 1 0 (r .start) (r .steps) o (fits .proper .steps-ranked) (from-all (stepsBytes (r .steps))) e .1 in
+          all-given (r .mesh) (r .sizes) (stepsBytes (r .steps)) everyKind 0 1 0 (r .start) (r .steps) o (fits .proper .steps-ranked) (from-all (stepsBytes (r .steps))) e .1 in
           let last : stepsStart r + o .next ≡ length file = ap (λ (k : ℕ). stepsStart r + k) all ∙ from-length (stepsStart r) file (stepsBytes (r .steps)) at-steps in
           rw (is-eq (stepsStart r + o .next) (length file) last) refl

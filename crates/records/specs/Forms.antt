@@ -7,16 +7,16 @@ use lib.Dec.{leb, eqb}
 use Rattle.rules.specs.Lists.{tab, pick, flat}
 use Rattle.rules.specs.Limits.{mostAxes}
 use Rattle.rules.specs.Sharding.{Sharding}
-use Rattle.rules.specs.Collectives.{allSlice, allGather, allReduce, allToAll}
+use Rattle.rules.specs.Collectives.{allSlice, allGather, allReduce, allToAll, reduceScatter}
 use Rattle.rules.specs.PlanFile.{kindOf, Record, plain, repeat}
-use Rattle.rules.specs.Types.{axesOf, fourPlaces}
-use Rattle.rules.specs.declared.Axis.{Axis}
-use Rattle.rules.specs.declared.AxisList.{AxisList}
-use Rattle.rules.specs.declared.DimLists.{DimLists}
-use Rattle.rules.specs.declared.Sharding as code
-use Rattle.rules.specs.declared.Kind.{Kind}
-use Rattle.rules.specs.declared.Kind.the-variants.{AllSlice, AllGather, AllReduce, AllToAll, Unknown}
-use Rattle.rules.specs.declared.Step.{Step}
+use Rattle.types.specs.Types.{axesOf, fourPlaces, kindFrom}
+use Rattle.types.specs.declared.Axis.{Axis}
+use Rattle.types.specs.declared.AxisList.{AxisList}
+use Rattle.types.specs.declared.DimLists.{DimLists}
+use Rattle.types.specs.declared.Sharding as code
+use Rattle.types.specs.declared.Kind.{Kind}
+use Rattle.types.specs.declared.Kind.the-variants.{AllSlice, AllGather, AllReduce, AllToAll, ReduceScatter, Unknown}
+use Rattle.types.specs.declared.Step.{Step}
 use Rattle.records.specs.Records.{Given, known, unknown, Records}
 
 -- ---- lists and shardings
@@ -51,7 +51,7 @@ listRecord bytes at j = record { count = getD bytes (at + 3 + j) 0; axes = place
 
 abbrev pub stepRecord : List ℕ → ℕ → Step
 stepRecord bytes at = record {
-  kind = kindOf (getD bytes at 0);
+  kind = kindFrom (kindOf (getD bytes at 0));
   source = record { 0 = getD bytes (at + 1) 0 };
   target = record { 0 = getD bytes (at + 2) 0 };
   lists = record { 0 = listRecord bytes at 0 ∷ listRecord bytes at 1 ∷ listRecord bytes at 2 ∷ listRecord bytes at 3 ∷ [] };
@@ -63,13 +63,14 @@ givenKind AllSlice rank t = known (plain (allSlice (dimsGiven rank (t .lists))))
 givenKind AllGather rank t = known (plain (allGather (dimsGiven rank (t .lists))))
 givenKind AllReduce rank t = known (plain (allReduce (listGiven (t .list))))
 givenKind AllToAll rank t = known (plain (allToAll (t .source .0) (t .target .0) (listGiven (t .list))))
+givenKind ReduceScatter rank t = known (plain (reduceScatter (dimsGiven rank (t .lists))))
 givenKind Unknown rank t = unknown
 
 unfoldable pub givenAt : (rank : ℕ) → List ℕ → ℕ → Given
 unfolding dimsGiven
 givenAt rank bytes at =
     pick (eqb (getD bytes at 0) 9) (known (repeat (getD bytes (at + 1) 0) (getD bytes (at + 2) 0)))
-    (givenKind (kindOf (getD bytes at 0)) rank (stepRecord bytes at))
+    (givenKind (kindFrom (kindOf (getD bytes at 0))) rank (stepRecord bytes at))
 
 -- as many records as there are whole ones; bytes after the last of them count for nothing
 abbrev pub recordCount : List ℕ → ℕ
@@ -96,6 +97,7 @@ recordHead (plain (allSlice Ss)) = 1 ∷ 0 ∷ 0 ∷ []
 recordHead (plain (allGather Gs)) = 2 ∷ 0 ∷ 0 ∷ []
 recordHead (plain (allReduce L)) = 3 ∷ 0 ∷ 0 ∷ []
 recordHead (plain (allToAll source target L)) = 4 ∷ source ∷ target ∷ []
+recordHead (plain (reduceScatter Ss)) = 5 ∷ 0 ∷ 0 ∷ []
 recordHead (repeat count number) = 9 ∷ count ∷ number ∷ []
 
 -- the five lists: those by dimension, then the one
@@ -107,6 +109,7 @@ recordLists (plain (allSlice Ss)) = fiveLists Ss []
 recordLists (plain (allGather Gs)) = fiveLists Gs []
 recordLists (plain (allReduce L)) = fiveLists [] L
 recordLists (plain (allToAll source target L)) = fiveLists [] L
+recordLists (plain (reduceScatter Ss)) = fiveLists Ss []
 recordLists (repeat count number) = fiveLists [] []
 
 -- how many axes each has, then the axes, in six places each

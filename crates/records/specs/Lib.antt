@@ -6,6 +6,7 @@ pub mod RoundTrip
 pub mod Reading
 pub mod Planning
 pub mod PlanAnswer
+pub mod WorkedPlans
 pub mod Promises
 pub mod WorkedReading
 pub mod WorkedRecords

@@ -3,14 +3,15 @@ use Prim.Native.Nat.{ℕ}
 use mathlib.Core.List.{List, [], _∷_, map}
 use lib.ListN.{length, getD}
 use Rattle.rules.specs.Lists.{tab}
-use Rattle.rules.specs.Collectives.{allSlice, allGather, allReduce, allToAll}
+use Rattle.rules.specs.Collectives.{allSlice, allGather, allReduce, allToAll, reduceScatter}
 use Rattle.rules.specs.Collectives as rules
-use Rattle.rules.specs.Types.{listFrom, listsFrom}
-use Rattle.rules.specs.declared.Kind.{Kind}
-use Rattle.rules.specs.declared.Kind.the-variants.{AllSlice, AllGather, AllReduce, AllToAll, Unknown}
-use Rattle.rules.specs.declared.Step.{Step}
-use Rattle.rules.specs.Refusals.{Judged, accept, refuse, _>>_, refusalOf}
-use Rattle.rules.specs.declared.Sharding as code
+use Rattle.types.specs.Types.{listFrom, listsFrom}
+use Rattle.types.specs.declared.Kind.{Kind}
+use Rattle.types.specs.declared.Kind.the-variants.{AllSlice, AllGather, AllReduce, AllToAll, ReduceScatter, Unknown}
+use Rattle.types.specs.declared.Step.{Step}
+use Rattle.rules.specs.Refusals.{Judged, accept, refuse, _>>_}
+use Rattle.types.specs.Answers.{refusalOf}
+use Rattle.types.specs.declared.Sharding as code
 use Rattle.records.specs.Forms.{shardingGiven}
 use Rattle.records.specs.Planning.{planSteps, planOf}
 use Rattle.records.specs.declared.Steps.{Steps}
@@ -31,6 +32,7 @@ stepFrom (allSlice Ss) = stepWith AllSlice 0 0 Ss []
 stepFrom (allGather Gs) = stepWith AllGather 0 0 Gs []
 stepFrom (allReduce L) = stepWith AllReduce 0 0 [] L
 stepFrom (allToAll source target L) = stepWith AllToAll source target [] L
+stepFrom (reduceScatter Ss) = stepWith ReduceScatter 0 0 Ss []
 
 abbrev pub noStep : Step
 noStep = stepWith Unknown 0 0 [] []

@@ -14,7 +14,7 @@ use Rattle.rules.specs.Limits.{mostDevices, mostWords}
 use Rattle.rules.specs.Refusals.{Judged, accept, _>>=_, _>>_, need}
 use Rattle.rules.specs.PlanFile.{axesAllowed, rankAllowed, judgeSizes, same, some, allIn, plain, Plan, judge, announced}
 use Rattle.rules.specs.Calls.{runOf}
-use Rattle.rules.specs.Demands.{Words, Fits as RoomIn}
+use Rattle.laws.specs.Demands.{Words, Fits as RoomIn}
 use Rattle.records.specs.Records.{known, Records, fileOf}
 use Rattle.records.specs.Writing.{judgeSharding, judgeOrder, orderOf, judgeRecords}
 use Rattle.records.specs.RoundTrip.{Shorts}
@@ -58,7 +58,7 @@ unfoldable pub reachable : (start goal : Sharding) → Judged (Unit {0})
 unfolding allIn same
 reachable start goal = need (allIn (goal .unreduced) (start .unreduced) && same (start .replicated) (goal .replicated)) 40
 
--- "a bad mesh or table gets 5, 10, 11, 12, 13, then bad shardings 8 and 14 to 17, start first, all before 40."; 19 of an order after 11
+-- "a bad mesh (order as in the writer) or table gets 5, 10, 11, 19, 12, 13, then bad shardings 8 and 14 to 17, start first, all before 40."
 unfoldable pub planOf : (mesh order sizes : List ℕ) → (start goal : Sharding) → Judged Records
 unfolding judgeSizes judgeOrder judgeSharding reachable planSteps
 planOf mesh order sizes start goal = do

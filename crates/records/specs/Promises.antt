@@ -4,15 +4,17 @@ use Prim.Native.Nat.{ℕ, _≤_}
 use mathlib.Core.Path.{_≡_}
 use mathlib.Core.List.{List, [], _∷_, map}
 use lib.ListN.{length, take, drop}
-use Rattle.rules.specs.Refusals.{Judged, accept, refuse, refusedAs}
+use Rattle.rules.specs.Collectives.{Step}
+use Rattle.rules.specs.Refusals.{Judged, accept, refuse}
+use Rattle.types.specs.Answers.{refusedAs}
 use Rattle.rules.specs.PlanFile.{plain, Plan, judge}
-use Rattle.rules.specs.declared.Refusal.{Refusal}
-use Rattle.rules.specs.declared.Sharding as code
-use Rattle.records.specs.Records.{Records, recordsOf, fileOf}
+use Rattle.types.specs.declared.Refusal.{Refusal}
+use Rattle.types.specs.declared.Sharding as code
+use Rattle.records.specs.Records.{known, Records, recordsOf, fileOf}
 use Rattle.records.specs.Writing.{writeOf, writeLeaves}
 use Rattle.records.specs.Forms.{shardingGiven, recordsGiven, recordsBytes}
 use Rattle.records.specs.Reading.{ReadAnswer, readOf, readLeavesOrder, readLeavesSteps, openedOf}
-use Rattle.records.specs.Planning.{planSteps, planOf, Reaches}
+use Rattle.records.specs.Planning.{planOf, Reaches}
 use Rattle.records.specs.PlanAnswer.{stepsPlanned, plannedOf}
 use Rattle.records.specs.declared.WriteOutcome.{WriteOutcome}
 use Rattle.records.specs.declared.WriteOutcome.the-variants as write
@@ -58,12 +60,20 @@ pub record ReadPromise (file order steps : List ℕ) (r : Opened) (orderAfter st
 
 -- ---- the planner
 
--- Its answer is the definition's, in every place, and so is a refusal's number. Where a plan is made, its steps as records are what the writer takes, and the check accepts the file that is
--- written of them, which ends at the goal and, run to the end, carries a faithful spread of a table from the start to the goal (`Reaches`).
+-- Where the definition makes a plan: the steps that are answered are those of its records, all of them and no other; their bytes are what the writer takes
+-- ("as the records that the writer takes"); and the check accepts the file that is written of them, which ends at the goal and, run to the end, carries a
+-- faithful spread of a table from the start to the goal (`Reaches`)
+pub record PlanMade (mesh order sizes : List ℕ) (start goal : code.Sharding) (r : Planned) (rs : Records) : Type 0 where
+  pub steps : List Step
+  pub answered : r ≡ plannedOf (accept steps)
+  pub all : rs .steps ≡ map known (map plain steps)
+  pub given : recordsGiven mesh order sizes start (recordsBytes (map plain steps)) ≡ rs
+  pub plan : Plan
+  pub reached : Reaches mesh order sizes (shardingGiven (length sizes) start) (shardingGiven (length sizes) goal) rs plan
+
+-- Its answer is the definition's, in every place, and so is a refusal's number.
 pub record PlanPromise (mesh order sizes : List ℕ) (start goal : code.Sharding) (r : Planned) : Type 0 where
   pub answers : r ≡ plannedOf (stepsPlanned mesh order sizes start goal)
   pub refused : (x : Refusal) → r .outcome ≡ plan.Refused x → stepsPlanned mesh order sizes start goal ≡ refusedAs x
   pub reaches : (rs : Records) → planOf mesh order sizes (shardingGiven (length sizes) start) (shardingGiven (length sizes) goal) ≡ accept rs
-      → (p : Plan) × Reaches mesh order sizes (shardingGiven (length sizes) start) (shardingGiven (length sizes) goal) rs p
-      × (recordsGiven mesh order sizes start
-      (recordsBytes (map plain (planSteps (shardingGiven (length sizes) start) (shardingGiven (length sizes) goal)))) ≡ rs)
+      → PlanMade mesh order sizes start goal r rs

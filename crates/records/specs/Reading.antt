@@ -5,9 +5,10 @@ use mathlib.Core.List.{List, [], _++_}
 use lib.ListN.{length, drop}
 use lib.Dec.{leb}
 use Rattle.rules.specs.Sharding.{Sharding}
-use Rattle.rules.specs.Refusals.{Judged, accept, refuse, _>>=_, _>>_, need, refusalOf}
+use Rattle.rules.specs.Refusals.{Judged, accept, refuse, _>>=_, _>>_, need}
+use Rattle.types.specs.Answers.{refusalOf}
 use Rattle.rules.specs.PlanFile.{Plan, judge, judgeBy}
-use Rattle.rules.specs.Types.{fourPlaces, shardingFrom, noLists}
+use Rattle.types.specs.Types.{fourPlaces, shardingFrom, noLists}
 use Rattle.records.specs.Records.{recordsOf}
 use Rattle.records.specs.Forms.{recordBytes, recordsBytes, sixPlaces}
 use Rattle.records.specs.declared.Opened.{Opened}

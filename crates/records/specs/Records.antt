@@ -6,7 +6,7 @@ use lib.Dec.{leb}
 use Rattle.rules.specs.Lists.{pick}
 use Rattle.rules.specs.Mesh.{devices, plainOrder}
 use Rattle.rules.specs.Sharding.{Sharding}
-use Rattle.rules.specs.Collectives.{Step, allSlice, allGather, allReduce, allToAll}
+use Rattle.rules.specs.Collectives.{Step, allSlice, allGather, allReduce, allToAll, reduceScatter}
 use Rattle.rules.specs.Limits.{leastBytes}
 use Rattle.rules.specs.PlanFile.{same, some, Record, plain, repeat, Plan}
 
@@ -87,6 +87,7 @@ stepBytes (allSlice Ss) = 1 ∷ listsBytes Ss
 stepBytes (allGather Gs) = 2 ∷ listsBytes Gs
 stepBytes (allReduce L) = 3 ∷ listBytes L
 stepBytes (allToAll source target L) = 4 ∷ source ∷ target ∷ listBytes L
+stepBytes (reduceScatter Ss) = 5 ∷ listsBytes Ss
 
 -- "Step kind 9 is a repeat: a count byte .., a byte with the number of inner steps" (Ask 11); of a kind that there is not a byte stands there that is no
 -- kind's

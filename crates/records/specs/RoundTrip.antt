@@ -7,7 +7,7 @@ use lib.ListN.{length, getD}
 use lib.Dec.{T}
 use Rattle.rules.specs.Mesh.{devices}
 use Rattle.rules.specs.Sharding.{Sharding}
-use Rattle.rules.specs.Collectives.{Step, allSlice, allGather, allReduce, allToAll}
+use Rattle.rules.specs.Collectives.{Step, allSlice, allGather, allReduce, allToAll, reduceScatter}
 use Rattle.rules.specs.Limits.{mostAxes, mostBytes}
 use Rattle.rules.specs.Refusals.{accept, refuse}
 use Rattle.rules.specs.PlanFile.{Record, plain, repeat, some, Plan, judge}
@@ -27,6 +27,7 @@ RankedStep rank (allSlice Ss) = length Ss ≡ rank
 RankedStep rank (allGather Gs) = length Gs ≡ rank
 RankedStep rank (allReduce L) = Unit {0}
 RankedStep rank (allToAll source target L) = Unit {0}
+RankedStep rank (reduceScatter Ss) = length Ss ≡ rank
 
 abbrev pub Ranked : ℕ → Given → Type 0
 Ranked rank (known (plain t)) = RankedStep rank t
@@ -51,6 +52,7 @@ ShortStep (allSlice Ss) = ShortLists Ss
 ShortStep (allGather Gs) = ShortLists Gs
 ShortStep (allReduce L) = length L ≤ mostAxes
 ShortStep (allToAll source target L) = length L ≤ mostAxes
+ShortStep (reduceScatter Ss) = ShortLists Ss
 
 abbrev pub ShortGiven : Given → Type 0
 ShortGiven (known (plain t)) = ShortStep t

@@ -4,13 +4,13 @@ use mathlib.Core.Path.{_≡_, refl}
 use mathlib.Core.List.{List, [], _∷_, _++_, map}
 use lib.ListN.{take, replicate}
 use Rattle.rules.specs.Lists.{All, done, _&_}
-use Rattle.rules.specs.Refusals.{reasonOf}
-use Rattle.rules.specs.Types.{listsFrom}
+use Rattle.types.specs.Answers.{reasonOf}
+use Rattle.types.specs.Types.{listsFrom}
 use Rattle.rules.specs.Ledger.{w1, nines}
-use Rattle.rules.specs.declared.AxisList.{AxisList}
-use Rattle.rules.specs.declared.Sharding as code
-use Rattle.rules.specs.declared.Reason.{Reason}
-use Rattle.rules.specs.declared.Reason.the-variants.{FileTooShort, NotTail, OutputTooShort}
+use Rattle.types.specs.declared.AxisList.{AxisList}
+use Rattle.types.specs.declared.Sharding as code
+use Rattle.types.specs.declared.Reason.{Reason}
+use Rattle.types.specs.declared.Reason.the-variants.{FileTooShort, NotTail, OutputTooShort}
 use Rattle.records.specs.Reading.{readOf, readLeavesOrder, readLeavesSteps, openedOf}
 use Rattle.records.specs.declared.Opened.{Opened}
 use Rattle.records.specs.declared.ReadOutcome.{ReadOutcome}

@@ -6,13 +6,13 @@ use mathlib.Core.List.{List, [], _∷_, _++_, map}
 use lib.ListN.{length, take, replicate}
 use Rattle.rules.specs.Lists.{flat, All, done, _&_}
 use Rattle.rules.specs.Sharding.{Sharding}
-use Rattle.rules.specs.Collectives.{Step, allSlice, allGather, allReduce, allToAll}
+use Rattle.rules.specs.Collectives.{Step, allSlice, allGather, allReduce, allToAll, reduceScatter}
 use Rattle.rules.specs.Refusals.{Judged, accept, refuse}
 use Rattle.rules.specs.PlanFile.{plain, repeat, Plan}
 use Rattle.rules.specs.Ledger.{w1, nines}
-use Rattle.rules.specs.declared.Axis.{Axis}
-use Rattle.rules.specs.declared.AxisList.{AxisList}
-use Rattle.rules.specs.declared.Sharding as code
+use Rattle.types.specs.declared.Axis.{Axis}
+use Rattle.types.specs.declared.AxisList.{AxisList}
+use Rattle.types.specs.declared.Sharding as code
 use Rattle.records.specs.Records.{Given, known, unknown, Records, fileLength}
 use Rattle.records.specs.Writing.{judgeRecords, writeOf, writeLeaves}
 use Rattle.records.specs.Forms.{stepsGiven, recordsGiven}
@@ -130,6 +130,11 @@ writes =
     0x03 ∷ 0 ∷ 0x03 ∷ 0 ∷ 0x03 ∷ 0 ∷ 0x01 ∷ 0 ∷ 0x12 ∷ 0 ∷ 0x24 ∷ 0 ∷ 0x2a ∷ 0 ∷ 0x31 ∷ 0 ∷ 0x36 ∷ 0 ∷ 3 ∷ 0 ∷ 2 ∷ 0 ∷ 1 ∷ 0
     ∷ 2 ∷ 0 ∷ 4 ∷ 0 ∷ 3 ∷ 0 ∷ 0 ∷ 0 ∷ 5 ∷ 0 ∷ 1 ∷ 0 ∷ 1 ∷ 0 ∷ 4 ∷ 0 ∷ 6 ∷ 0 ∷ 0 ∷ 1 ∷ 1 ∷ 0 ∷ 0 ∷ 1 ∷ 2 ∷ 4 ∷ 1 ∷ 2 ∷ 1 ∷ 1 ∷ []
     )
+    -- a reduce-scatter
+    ∷ writesAs (recordsFor (2 ∷ []) [] (4 ∷ []) (sharding ([] ∷ []) (0 ∷ []) []) (step (reduceScatter ((0 ∷ []) ∷ [])) ∷ [])) (
+    0x01 ∷ 0 ∷ 0x01 ∷ 0 ∷ 0x01 ∷ 0 ∷ 0x01 ∷ 0 ∷ 0x12 ∷ 0 ∷ 0x14 ∷ 0 ∷ 0x16 ∷ 0 ∷ 0x19 ∷ 0 ∷ 0x1c ∷ 0 ∷ 2 ∷ 0 ∷ 4 ∷ 0
+    ∷ 0 ∷ 1 ∷ 0 ∷ 5 ∷ 1 ∷ 0 ∷ []
+    )
     -- sizes past 255, low byte first
     ∷ writesAs (on (0x0102 ∷ []) [] (0x0304 ∷ [])) (
     0x01 ∷ 0 ∷ 0x01 ∷ 0 ∷ 0x01 ∷ 0 ∷ 0x00 ∷ 0 ∷ 0x12 ∷ 0 ∷ 0x14 ∷ 0 ∷ 0x16 ∷ 0 ∷ 0x18 ∷ 0 ∷ 0x18 ∷ 0 ∷ 0x02 ∷ 0x01 ∷ 0x04 ∷ 0x03
@@ -150,7 +155,7 @@ writes =
 
 pub written : All Holds writes
 unfolding writeOf writeLeaves
-written = refl & refl & refl & refl & refl & refl & refl & refl & refl & refl & done
+written = refl & refl & refl & refl & refl & refl & refl & refl & refl & refl & refl & done
 
 -- ---- "Records that the check would refuse get that refusal .., in 01's order."
 
@@ -234,6 +239,10 @@ refusals =
     ∷ refused (small [] (1 ∷ []) [] (step (allReduce (0 ∷ 1 ∷ [])) ∷ [])) 27 1
     ∷ refused (whole (step (allToAll 0 0 (0 ∷ [])) ∷ [])) 28 1
     ∷ refused (whole (step (allToAll 0 2 (0 ∷ [])) ∷ [])) 28 1
+    -- of a reduce-scatter (Ask 5)
+    ∷ refused (small [] (0 ∷ []) [] (step (reduceScatter ((0 ∷ []) ∷ (0 ∷ []) ∷ [])) ∷ [])) 23 1
+    ∷ refused (whole (step (reduceScatter ((0 ∷ []) ∷ [] ∷ [])) ∷ [])) 27 1
+    ∷ refused (small [] (0 ∷ []) [] (step (reduceScatter ([] ∷ (0 ∷ []) ∷ [])) ∷ [])) 25 1
     -- a step is judged before the next is looked at
     ∷ refused (whole (gather ∷ step (allReduce (0 ∷ 1 ∷ 0 ∷ [])) ∷ [])) 24 1
     -- 41 to 44 at the repeat's number, or at the outermost step's; "Inner steps are then read and judged in order."
@@ -253,6 +262,7 @@ refusals =
     -- more records than there are step numbers, which no file could hold
     ∷ refused (whole (nested 65536 [])) 2 0
     ∷ refused (whole (nested 65535 [])) 42 5
+    ∷ refused (recordsFor (0 ∷ []) [] (4 ∷ []) (sharding ([] ∷ []) [] []) (nested 65536 [])) 10 0
     ∷ []
 
 pub refused-as : All Holds refusals
@@ -264,7 +274,7 @@ refused-as =
     & refl & refl & refl & refl & refl & refl & refl & refl & refl & refl & refl & refl
     & refl & refl & refl & refl & refl & refl & refl & refl & refl & refl & refl & refl
     & refl & refl & refl & refl & refl & refl & refl & refl & refl & refl & refl & refl
-    & refl & refl & refl & refl & refl & done
+    & refl & refl & refl & refl & refl & refl & refl & refl & refl & done
 
 -- ---- what the calls' arguments stand for
 
@@ -310,13 +320,14 @@ forms =
     )
     ∷ given 2 (recordOf 3 77 77 ((0 ∷ []) ∷ (1 ∷ []) ∷ (2 ∷ []) ∷ (3 ∷ []) ∷ (4 ∷ 5 ∷ []) ∷ [])) (step (allReduce (4 ∷ 5 ∷ [])) ∷ [])
     ∷ given 2 (recordOf 4 1 0 ((0 ∷ []) ∷ [] ∷ [] ∷ [] ∷ (4 ∷ 5 ∷ []) ∷ [])) (step (allToAll 1 0 (4 ∷ 5 ∷ [])) ∷ [])
+    ∷ given 2 (recordOf 5 77 77 ((1 ∷ 0 ∷ []) ∷ [] ∷ (3 ∷ []) ∷ (4 ∷ []) ∷ (5 ∷ []) ∷ [])) (step (reduceScatter ((1 ∷ 0 ∷ []) ∷ [] ∷ [])) ∷ [])
     ∷ given 2 (recordOf 9 3 2 ((0 ∷ []) ∷ [] ∷ [] ∷ [] ∷ (4 ∷ 5 ∷ []) ∷ [])) (times 3 2 ∷ [])
     ∷ given 4 (recordOf 1 0 0 ((0 ∷ []) ∷ (1 ∷ []) ∷ (2 ∷ []) ∷ (3 ∷ []) ∷ (4 ∷ []) ∷ [])) (
     step (allSlice ((0 ∷ []) ∷ (1 ∷ []) ∷ (2 ∷ []) ∷ (3 ∷ []) ∷ [])) ∷ []
     )
-    -- the kinds that there are: 1 to 4, and 9
+    -- the kinds that there are: 1 to 5, and 9
     ∷ given 1 (recordOf 0 0 0 (replicate 5 [])) (unknown ∷ [])
-    ∷ given 1 (recordOf 5 0 0 (replicate 5 [])) (unknown ∷ [])
+    ∷ given 1 (recordOf 6 0 0 (replicate 5 [])) (unknown ∷ [])
     ∷ given 1 (recordOf 8 0 0 (replicate 5 [])) (unknown ∷ [])
     ∷ given 1 (recordOf 10 0 0 (replicate 5 [])) (unknown ∷ [])
     -- records in their order; bytes after the last whole one count for nothing
@@ -325,6 +336,15 @@ forms =
     ∷ given 1 [] []
     -- "unused places aside": W1
     ∷ called (2 ∷ 2 ∷ []) [] (4 ∷ 4 ∷ []) (startOf 1 0 0) (gatherOf 1) (nines 37) (filled w1)
+    -- an order, and a start with unreduced and replicated axes
+    ∷ called (2 ∷ 2 ∷ 1 ∷ []) (1 ∷ 0 ∷ 3 ∷ 2 ∷ []) (4 ∷ []) (record {
+      dims = record { 0 = listOf 1 (0 ∷ []) ∷ listOf 1 [] ∷ listOf 5 [] ∷ listOf 9 [] ∷ [] };
+      unreduced = listOf 1 (1 ∷ []);
+      replicated = listOf 1 (2 ∷ []);
+    }) [] (nines 42) (filled (
+    0x03 ∷ 0 ∷ 0x03 ∷ 0 ∷ 0x01 ∷ 0 ∷ 0x00 ∷ 0 ∷ 0x12 ∷ 0 ∷ 0x20 ∷ 0 ∷ 0x22 ∷ 0 ∷ 0x28 ∷ 0 ∷ 0x28 ∷ 0 ∷ 2 ∷ 0 ∷ 2 ∷ 0 ∷ 1 ∷ 0
+    ∷ 1 ∷ 0 ∷ 0 ∷ 0 ∷ 3 ∷ 0 ∷ 2 ∷ 0 ∷ 4 ∷ 0 ∷ 1 ∷ 0 ∷ 1 ∷ 1 ∷ 1 ∷ 2 ∷ []
+    ))
     -- 8 where a count is above n, also where there are fewer places than that: of the start, of a step
     ∷ called (2 ∷ 2 ∷ []) [] (4 ∷ 4 ∷ []) (startOf 3 0 0) (gatherOf 1) (nines 17) (untouched 17 8 0)
     ∷ called (2 ∷ 2 ∷ []) [] (4 ∷ 4 ∷ []) (startOf 1 7 0) (gatherOf 1) (nines 17) (untouched 17 8 0)
@@ -339,7 +359,7 @@ pub formed : All Holds forms
 unfolding writeOf writeLeaves stepsGiven
 formed =
     refl & refl & refl & refl & refl & refl & refl & refl & refl & refl & refl & refl
-    & refl & refl & refl & refl & refl & refl & refl & refl & refl & done
+    & refl & refl & refl & refl & refl & refl & refl & refl & refl & refl & refl & done
 
 -- ---- plans
 

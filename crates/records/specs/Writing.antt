@@ -1,13 +1,13 @@
 -- Document 02, Ask 2: the judgement of records, made of the tests of PlanFile, and what the writer answers and leaves. Assumes nothing.
 use Prim.Native.Nat.{ℕ}
-use mathlib.Core.Bool.{true, not, _||_}
+use mathlib.Core.Bool.{not, _||_}
 use mathlib.Core.List.{List, [], _∷_, _++_}
 use lib.ListN.{length, drop}
 use lib.Dec.{leb}
 use Rattle.rules.specs.Lists.{pick}
 use Rattle.rules.specs.Mesh.{devices, plainOrder}
 use Rattle.rules.specs.Sharding.{Sharding}
-use Rattle.rules.specs.Limits.{mostDevices, mostWords, mostSteps, mostBytes}
+use Rattle.rules.specs.Limits.{mostDevices, mostWords, mostSteps, mostBytes, everyKind}
 use Rattle.rules.specs.Refusals.{Judged, accept, refuse, _>>=_, _>>_, need}
 use Rattle.rules.specs.PlanFile.{axesAllowed, rankAllowed, judgeSizes, orderAllowed, some, judgeStart, outermostAt, Plan}
 use Rattle.records.specs.Records.{Records, outermost, outermostFrom, stepsBytes, fileLength, fileOf}
@@ -57,7 +57,7 @@ unfolding judgeOpening stepsBytes outermostAt
 judgeRecords r = do
   judgeOpening r
   need (leb (length (r .steps)) mostRecords) 2
-  ts ← outermostAt true (r .mesh) (r .sizes) (stepsBytes (r .steps)) 0 (outermost (r .steps)) 1 0 (r .start)
+  ts ← outermostAt everyKind (r .mesh) (r .sizes) (stepsBytes (r .steps)) 0 (outermost (r .steps)) 1 0 (r .start)
   accept (record {
     mesh = r .mesh;
     order = orderOf (devices (r .mesh)) (r .order);

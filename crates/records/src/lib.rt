@@ -1,9 +1,9 @@
 // Plans as records and the files that are written of them: definitions in specs/, laws in proofs/. Of code it has the types of the answers alone.
-use rules::Axis;
-use rules::Dim;
-use rules::Refusal;
-use rules::Sharding;
-use rules::Step;
+use types::Axis;
+use types::Dim;
+use types::Refusal;
+use types::Sharding;
+use types::Step;
 
 // The number of bytes written, or the refusal.
 pub enum WriteOutcome {

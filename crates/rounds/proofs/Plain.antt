@@ -13,14 +13,14 @@ use Rattle.rules.specs.Collectives.{Step, after, stepped}
 use Rattle.rules.specs.Limits.{mostBytes}
 use Rattle.rules.specs.Refusals.{accept}
 use Rattle.rules.specs.PlanFile.{Read, stepAt, judgeStep, plain, StepsRead, plainAt}
-use Rattle.rules.specs.Demands.{largestOn}
-use Rattle.rules.specs.Types.{shardingOf, stepOf, meshOf, sizesOf}
-use Rattle.rules.specs.declared.Mesh.{Mesh}
-use Rattle.rules.specs.declared.Refusal.{Refusal}
-use Rattle.rules.specs.declared.Table.{Table}
-use Rattle.rules.proofs.Judging.{never, accept-inj, bind-inv}
-use Rattle.rules.proofs.Steps.{facts}
-use Rattle.rules.proofs.Bytes.{Takes, plain-takes}
+use Rattle.laws.specs.Demands.{largestOn}
+use Rattle.types.specs.Types.{shardingOf, stepOf, meshOf, sizesOf}
+use Rattle.types.specs.declared.Mesh.{Mesh}
+use Rattle.types.specs.declared.Refusal.{Refusal}
+use Rattle.types.specs.declared.Table.{Table}
+use Rattle.laws.proofs.Judging.{never, accept-inj, bind-inv}
+use Rattle.laws.proofs.Steps.{facts}
+use Rattle.laws.proofs.Bytes.{Takes, plain-takes}
 use Rattle.reader.specs.declared.Next.the-variants as next
 use Rattle.reader.proofs.Answers.{read-on, read-stopped}
 use Rattle.taking.specs.Taking.{StepTaken, takeStep}
@@ -110,5 +110,5 @@ module _ {file : List ℕ} {mesh : Mesh} {table : Table} {p : Progress} (work sp
           leaves = subst (λ (x : Step). Leaves (meshOf mesh) (shapeOf mesh table (p .sharding)) (x ∷ []) (p .«in_work») work spare b work′ spare′)
               (sym (ap (λ (x : Read StepTaken). x .value .step) is)) (λ v f st.
               ap (λ (c : Bool). record { shards = stepped addWords (meshOf mesh) (stepOf (table .rank) (r .step)) v; in-work = c; work = work′; spare = spare′ }) q
-              ∙ step-leaves (meshOf mesh) (table .rank) (r .step) (p .«in_work») v work spare work′ spare′ (t .leaves v f st) (t .keeps));
+              ∙ step-leaves (meshOf mesh) (table .rank) (r .step) (p .«in_work») v work spare work′ spare′ (t .leaves v f st) (t .keeps v f st));
         })

@@ -3,7 +3,7 @@
 -- (`item-plain`). Assumes nothing.
 use Prim.Native.Nat.{ℕ, zero, suc, _+_, _-_, _*_, _≤_, _<_}
 use mathlib.Core.Path.{_≡_, refl, sym, ap, _∙_, subst}
-use mathlib.Core.Bool.{Bool, true, false, _&&_}
+use mathlib.Core.Bool.{Bool, true, false}
 use mathlib.Core.List.{List, _++_, append-assoc, append-nil}
 use native.Mathlib.Omega.{arith}
 use native.Mathlib.Numerals.{add-one}
@@ -13,15 +13,16 @@ use Rattle.rules.specs.Mesh.{devices}
 use Rattle.rules.specs.Sharding.{Sharding, shardSizes}
 use Rattle.rules.specs.Spread.{addWords}
 use Rattle.rules.specs.Collectives.{Step, after, Shards, stepped}
+use Rattle.rules.specs.Limits.{everyKind}
 use Rattle.rules.specs.Refusals.{accept}
 use Rattle.rules.specs.PlanFile.{StepsRead, JudgesSteps, stepsAt, plainAt, isRepeat, itemBy, tooDeep, itemAt}
-use Rattle.rules.specs.Demands.{largestOn}
-use Rattle.rules.specs.Types.{meshOf, sizesOf}
-use Rattle.rules.specs.declared.Mesh.{Mesh}
-use Rattle.rules.specs.declared.Table.{Table}
-use Rattle.rules.proofs.Judging.{never, accept-inj}
-use Rattle.rules.proofs.Turns.{in-turn-times, fine-times, steps-shape, largest-times}
-use Rattle.rules.proofs.Repeats.{Told, steps-tell, item-tells, positive-inv, IsRepeat, repeat-inv}
+use Rattle.laws.specs.Demands.{largestOn}
+use Rattle.types.specs.Types.{meshOf, sizesOf}
+use Rattle.types.specs.declared.Mesh.{Mesh}
+use Rattle.types.specs.declared.Table.{Table}
+use Rattle.laws.proofs.Judging.{never, accept-inj}
+use Rattle.laws.proofs.Turns.{in-turn-times, fine-times, steps-shape, largest-times}
+use Rattle.laws.proofs.Repeats.{Told, steps-tell, item-tells, positive-inv, IsRepeat, repeat-inv}
 use Rattle.rounds.specs.Rounds.{shapeOf, Leaves, blockAt, shardingOn, judgedFrom, CanRun, HasTaken, HasRun}
 use Rattle.rounds.specs.declared.Progress.{Progress}
 use Rattle.rounds.proofs.Memory.{leaves-append}
@@ -35,26 +36,26 @@ rounds-more {A} (suc n) l =
 -- ---- a step of either kind
 
 module _ (mesh sizes file : List ℕ) (depth k at : ℕ) (s : Sharding) {w : StepsRead} where
-  pub item-repeat : isRepeat file at ≡ true → itemAt true mesh sizes file depth k at s ≡ accept w
+  pub item-repeat : isRepeat file at ≡ true → itemAt everyKind mesh sizes file depth k at s ≡ accept w
       → (0 < depth) × (blockAt mesh sizes file (depth - 1) k at s ≡ accept w)
   unfolding itemAt itemBy
   item-repeat r e = go depth e
     where
-      go : (n : ℕ) → itemAt true mesh sizes file n k at s ≡ accept w → (0 < n) × (blockAt mesh sizes file (n - 1) k at s ≡ accept w)
-      go zero q = absurd (never (repeat-inv mesh sizes file (tooDeep k) k (at + 1) s w (sym (ap (λ (b : Bool). itemBy (true && b) (tooDeep k) mesh sizes file k at s) r) ∙ q) .block-is))
+      go : (n : ℕ) → itemAt everyKind mesh sizes file n k at s ≡ accept w → (0 < n) × (blockAt mesh sizes file (n - 1) k at s ≡ accept w)
+      go zero q = absurd (never (repeat-inv mesh sizes file (tooDeep k) k (at + 1) s w (sym (ap (λ (b : Bool). itemBy b (tooDeep k) mesh sizes file k at s) r) ∙ q) .block-is))
       go (suc n) q =
           let z : suc n - 1 ≡ n = omega arith in (
             omega arith,
-            ap (λ (m : ℕ). blockAt mesh sizes file m k at s) z ∙ sym (ap (λ (b : Bool). itemBy (true && b) (stepsAt (itemAt true mesh sizes file n)) mesh sizes file k at s) r) ∙ q,
+            ap (λ (m : ℕ). blockAt mesh sizes file m k at s) z ∙ sym (ap (λ (b : Bool). itemBy b (stepsAt (itemAt everyKind mesh sizes file n)) mesh sizes file k at s) r) ∙ q,
           )
 
-  pub item-plain : isRepeat file at ≡ false → itemAt true mesh sizes file depth k at s ≡ accept w → plainAt mesh sizes file k at s ≡ accept w
+  pub item-plain : isRepeat file at ≡ false → itemAt everyKind mesh sizes file depth k at s ≡ accept w → plainAt mesh sizes file k at s ≡ accept w
   unfolding itemAt itemBy
   item-plain r e = go depth e
     where
-      go : (n : ℕ) → itemAt true mesh sizes file n k at s ≡ accept w → plainAt mesh sizes file k at s ≡ accept w
-      go zero q = sym (ap (λ (b : Bool). itemBy (true && b) (tooDeep k) mesh sizes file k at s) r) ∙ q
-      go (suc n) q = sym (ap (λ (b : Bool). itemBy (true && b) (stepsAt (itemAt true mesh sizes file n)) mesh sizes file k at s) r) ∙ q
+      go : (n : ℕ) → itemAt everyKind mesh sizes file n k at s ≡ accept w → plainAt mesh sizes file k at s ≡ accept w
+      go zero q = sym (ap (λ (b : Bool). itemBy b (tooDeep k) mesh sizes file k at s) r) ∙ q
+      go (suc n) q = sym (ap (λ (b : Bool). itemBy b (stepsAt (itemAt everyKind mesh sizes file n)) mesh sizes file k at s) r) ∙ q
 
 -- ---- rounds
 
@@ -63,7 +64,7 @@ module _ (mesh : Mesh) (table : Table) (file : List ℕ) (depth : ℕ) (from : P
   s = shardingOn table from
 
   abbrev inner : JudgesSteps
-  inner = stepsAt (itemAt true (meshOf mesh) (sizesOf table) file depth)
+  inner = stepsAt (itemAt everyKind (meshOf mesh) (sizesOf table) file depth)
 
   abbrev words : Sharding → ℕ
   words r = product (shardSizes (meshOf mesh) (sizesOf table) (r .dims))
@@ -108,7 +109,7 @@ module _ (mesh : Mesh) (table : Table) (file : List ℕ) (depth : ℕ) (from : P
         let m : number ≡ is .number = n ∙ ap (λ (a : ℕ). getD file a 0) two
         ∙ positive-inv (meshOf mesh) (sizesOf table) file (from .number) (from .at + 1 + 1) (is .number) (is .number-is) .2 in
         let told : Told (meshOf mesh) (sizesOf table) file s b =
-        steps-tell (meshOf mesh) (sizesOf table) file (itemAt true (meshOf mesh) (sizesOf table) file depth) (item-tells (meshOf mesh) (sizesOf table) file true depth)
+        steps-tell (meshOf mesh) (sizesOf table) file (itemAt everyKind (meshOf mesh) (sizesOf table) file depth) (item-tells (meshOf mesh) (sizesOf table) file everyKind depth)
         (is .number) (from .number + 1) (from .at + 1 + 2) s b (is .block-is) in
         record {
           block = b;

@@ -2,7 +2,6 @@
 -- (`row-step`), and what it gives after the last (`row-done`). Assumes nothing.
 use Prim.Native.Nat.{ℕ, zero, suc, _+_, _-_, _≤_, _<_, max}
 use mathlib.Core.Path.{_≡_, refl, sym, ap, _∙_, subst}
-use mathlib.Core.Bool.{true}
 use mathlib.Core.List.{List, [], _++_, append-assoc, append-nil}
 use native.Mathlib.Omega.{arith}
 use lib.ListN.{length, length-append}
@@ -10,17 +9,18 @@ use Rattle.rules.specs.Lists.{inTurn, product}
 use Rattle.rules.specs.Sharding.{Sharding, shardSizes, IsSharding}
 use Rattle.rules.specs.Spread.{addWords}
 use Rattle.rules.specs.Collectives.{Step, Shards, stepped}
+use Rattle.rules.specs.Limits.{everyKind}
 use Rattle.rules.specs.Refusals.{accept}
 use Rattle.rules.specs.PlanFile.{StepsRead, JudgesStep, stepsAt, itemAt}
-use Rattle.rules.specs.Demands.{largestOn}
-use Rattle.rules.specs.Types.{meshOf, sizesOf}
-use Rattle.rules.specs.declared.Mesh.{Mesh}
-use Rattle.rules.specs.declared.Table.{Table}
-use Rattle.rules.proofs.Lists.{in-turn-append}
-use Rattle.rules.proofs.Judging.{accept-inj, bind-inv}
-use Rattle.rules.proofs.Turns.{steps-sharding, steps-shape, largest-append}
-use Rattle.rules.proofs.Repeats.{Told, item-tells}
-use Rattle.rules.proofs.Bytes.{Takes, item-takes}
+use Rattle.laws.specs.Demands.{largestOn}
+use Rattle.types.specs.Types.{meshOf, sizesOf}
+use Rattle.types.specs.declared.Mesh.{Mesh}
+use Rattle.types.specs.declared.Table.{Table}
+use Rattle.laws.proofs.Lists.{in-turn-append}
+use Rattle.laws.proofs.Judging.{accept-inj, bind-inv}
+use Rattle.laws.proofs.Turns.{steps-sharding, steps-shape, largest-append}
+use Rattle.laws.proofs.Repeats.{Told, item-tells}
+use Rattle.laws.proofs.Bytes.{Takes, item-takes}
 use Rattle.rounds.specs.Rounds.{shapeOf, shardingOn, judgedFrom, CanRun, HasTaken, HasRun}
 use Rattle.rounds.specs.declared.Progress.{Progress}
 use Rattle.rounds.proofs.Memory.{leaves-append}
@@ -64,7 +64,7 @@ no-steps one (suc n) k at s w h e = absurd (omega arith)
 
 module _ (mesh : Mesh) (table : Table) (file : List ℕ) (depth : ℕ) where
   abbrev item : JudgesStep
-  item = itemAt true (meshOf mesh) (sizesOf table) file depth
+  item = itemAt everyKind (meshOf mesh) (sizesOf table) file depth
 
   abbrev words : Sharding → ℕ
   words s = product (shardSizes (meshOf mesh) (sizesOf table) (s .dims))
@@ -128,7 +128,7 @@ module _ (mesh : Mesh) (table : Table) (file : List ℕ) (depth : ℕ) where
       apart = split item (count - i) (here .number) (here .at) s (g .rest .read) (omega arith) (g .rest .accepted)
 
       told : Told (meshOf mesh) (sizesOf table) file s (apart .first)
-      told = item-tells (meshOf mesh) (sizesOf table) file true depth (here .number) (here .at) s (apart .first) (apart .first-is)
+      told = item-tells (meshOf mesh) (sizesOf table) file everyKind depth (here .number) (here .at) s (apart .first) (apart .first-is)
 
       largest : largestOn words s (g .rest .read .steps) ≡ max (largestOn words s (apart .first .steps)) (largestOn words (apart .first .sharding) (apart .others .steps))
       largest =
@@ -162,7 +162,7 @@ module _ (mesh : Mesh) (table : Table) (file : List ℕ) (depth : ℕ) where
             let l : largestOn words (shardingOn table end) (u .steps) ≤ largestOn words s (g .rest .read .steps) =
             subst (λ (x : Sharding). largestOn words x (u .steps) ≤ largestOn words s (g .rest .read .steps)) (sym q) (omega (arith, largest)) in
             let tk : Takes (meshOf mesh) (sizesOf table) file (here .at) (apart .first) =
-            item-takes (meshOf mesh) (sizesOf table) file true depth (here .number) (here .at) s (apart .first) (apart .first-is) in
+            item-takes (meshOf mesh) (sizesOf table) file everyKind depth (here .number) (here .at) s (apart .first) (apart .first-is) in
             record {
               ready = record {
                 fits = g .rest .ready .fits;

@@ -10,10 +10,10 @@ use Rattle.rules.specs.Lists.{pick}
 use Rattle.rules.specs.Mesh.{devices}
 use Rattle.rules.specs.Refusals.{accept}
 use Rattle.rules.specs.PlanFile.{JudgesStep}
-use Rattle.rules.specs.Types.{meshOf, sizesOf}
-use Rattle.rules.specs.declared.Table.{Table}
-use Rattle.rules.specs.declared.Mesh.{Mesh}
-use Rattle.rules.proofs.Accepted.{Within}
+use Rattle.types.specs.Types.{meshOf, sizesOf}
+use Rattle.types.specs.declared.Table.{Table}
+use Rattle.types.specs.declared.Mesh.{Mesh}
+use Rattle.laws.proofs.Accepted.{Within}
 use Rattle.rounds.specs.Rounds.{judgedFrom, CanRun}
 use Rattle.rounds.specs.declared.Progress.{Progress}
 

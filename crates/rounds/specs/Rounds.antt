@@ -9,20 +9,20 @@ use Rattle.rules.specs.Lists.{pick, inTurn, product}
 use Rattle.rules.specs.Mesh.{devices, OnMesh}
 use Rattle.rules.specs.Sharding.{Sharding, shardSizes}
 use Rattle.rules.specs.Spread.{addWords}
-use Rattle.rules.specs.Collectives.{Step, allSlice, allGather, allReduce, allToAll, Shards, stepped, Stands, withShards}
-use Rattle.rules.specs.Limits.{mostDims, mostWords, mostBytes}
+use Rattle.rules.specs.Collectives.{Step, allSlice, allGather, allReduce, allToAll, reduceScatter, Shards, stepped, Stands, withShards}
+use Rattle.rules.specs.Limits.{mostDims, mostWords, mostBytes, everyKind}
 use Rattle.rules.specs.Refusals.{Judged, accept}
 use Rattle.rules.specs.PlanFile.{Read, StepsRead, JudgesStep, stepsAt, repeatAt, itemAt}
-use Rattle.rules.specs.Demands.{largestOn}
-use Rattle.rules.specs.Types.{dimsOf, shardingOf, stepOf, meshOf, sizesOf}
-use Rattle.rules.specs.declared.Kind.{Kind}
-use Rattle.rules.specs.declared.Sharding as code
-use Rattle.rules.specs.declared.Table.{Table}
-use Rattle.rules.specs.declared.Mesh.{Mesh}
+use Rattle.laws.specs.Demands.{largestOn}
+use Rattle.types.specs.Types.{dimsOf, shardingOf, stepOf, meshOf, sizesOf}
+use Rattle.types.specs.declared.Kind.{Kind}
+use Rattle.types.specs.declared.Sharding as code
+use Rattle.types.specs.declared.Table.{Table}
+use Rattle.types.specs.declared.Mesh.{Mesh}
 use Rattle.judge.specs.Step.{Sharded}
 use Rattle.taking.specs.Taking.{StepTaken, takeStep, takenRead}
 use Rattle.taking.specs.declared.Taken.{Taken}
-use Rattle.step.specs.Stepping.{Stepping, inPlace}
+use Rattle.step.specs.Stepping.{Stepping, inPlace, spentShards}
 use Rattle.rounds.specs.declared.Progress.{Progress}
 
 -- ---- one step
@@ -41,13 +41,15 @@ pub record Turning (file : List ℕ) (at k : ℕ) (mesh : Mesh) (table : Table) 
       (product (shardSizes (meshOf mesh) (sizesOf table) (move .value .sharding .dims))) old new
 
 -- what the step leaves, from the state in here: of any shards of that sharding's shape that stood there, those after the step, in here where it is done
--- in place, else in there, with the words behind them as they were; and the other buffer as it was
+-- in place, else in there, with the words behind them as they were; and in the other buffer what the step has spent of it
 pub record Turned (file : List ℕ) (at k : ℕ) (mesh : Mesh) (table : Table) (s : code.Sharding) (here there here′ there′ : List ℕ) (r : Taken) : Type 0 where
   pub taken : takenRead (table .rank) r ≡ takeStep (meshOf mesh) (sizesOf table) k file at (shardingOf (table .rank) s)
   pub leaves : (v : Shards ℕ) → v .shape ≡ shapeOf mesh table s → Stands (meshOf mesh) v here
       → pick (inPlace (r .step .kind)) here′ there′
       ≡ withShards (meshOf mesh) (stepped addWords (meshOf mesh) (stepOf (table .rank) (r .step)) v) (pick (inPlace (r .step .kind)) here there)
-  pub keeps : pick (inPlace (r .step .kind)) there′ here′ ≡ pick (inPlace (r .step .kind)) there here
+  pub keeps : (v : Shards ℕ) → v .shape ≡ shapeOf mesh table s → Stands (meshOf mesh) v here
+      → pick (inPlace (r .step .kind)) there′ here′
+      ≡ pick (inPlace (r .step .kind)) there (spentShards addWords (meshOf mesh) (stepOf (table .rank) (r .step)) v here)
 
 -- whether the state stands in work after a step: one that is not done in place leaves it in the other buffer
 abbrev pub standsAfter : Kind → Bool → Bool
@@ -77,13 +79,23 @@ staysIn (allSlice Ss) = false
 staysIn (allGather Gs) = false
 staysIn (allReduce L) = true
 staysIn (allToAll source target L) = false
+staysIn (reduceScatter Ss) = false
+
+-- what a step spends of the buffer in which the shards stood
+abbrev pub spentIn : (mesh : List ℕ) → Step → Memory → Memory
+spentIn mesh t m = record {
+  shards = m .shards;
+  in-work = m .in-work;
+  work = pick (m .in-work) (spentShards addWords mesh t (m .shards) (m .work)) (m .work);
+  spare = pick (m .in-work) (m .spare) (spentShards addWords mesh t (m .shards) (m .spare));
+}
 
 -- one step on it
 unfoldable pub memoryAfter : (mesh : List ℕ) → Step → Memory → Memory
-memoryAfter mesh t m = putIn mesh (stepped addWords mesh t (m .shards)) (pick (staysIn t) (m .in-work) (not (m .in-work))) m
+memoryAfter mesh t m = putIn mesh (stepped addWords mesh t (m .shards)) (pick (staysIn t) (m .in-work) (not (m .in-work))) (spentIn mesh t m)
 
 -- What steps leave of two buffers, of any shards of a shape that stood in the one that is named; the words that it holds are such shards (`held-stands`,
--- rules/proofs/Stands). So every word of both buffers is fixed, and in which of them the shards after the steps stand.
+-- laws/proofs/Stands). So every word of both buffers is fixed, and in which of them the shards after the steps stand.
 abbrev pub Leaves : (mesh shape : List ℕ) → List Step → (in-work : Bool) → (work spare : List ℕ) → (in-work′ : Bool) → (work′ spare′ : List ℕ) → Type 0
 Leaves mesh shape ts in-work work spare in-work′ work′ spare′ =
     (v : Shards ℕ) → v .shape ≡ shape → Stands mesh v (pick in-work work spare)
@@ -94,7 +106,7 @@ Leaves mesh shape ts in-work work spare in-work′ work′ spare′ =
 
 -- a repeat at its kind byte, its inner steps nested at most so deep
 abbrev pub blockAt : (mesh sizes : List ℕ) → List ℕ → (depth : ℕ) → JudgesStep
-blockAt mesh sizes file depth k at s = repeatAt (stepsAt (itemAt true mesh sizes file depth)) file k (at + 1) s
+blockAt mesh sizes file depth k at s = repeatAt (stepsAt (itemAt everyKind mesh sizes file depth)) file k (at + 1) s
 
 -- a mesh and a table within the limits
 pub record WithinLimits (mesh sizes : List ℕ) : Type 0 where

@@ -2,24 +2,24 @@
 // stands, in every round again. No plan is named; specs/Rounds.antt says what each part asks for and leaves, in the judgements of
 // rules/specs/PlanFile.antt.
 ghost use mathlib.Core.Path.{_≡_};
-ghost use mathlib.Core.Bool.{true};
 ghost use lib.ListN.{length};
 ghost use Rattle.rules.specs.Lists.{pick};
-ghost use Rattle.rules.specs.Types.{meshOf, sizesOf};
+ghost use Rattle.types.specs.Types.{meshOf, sizesOf};
+ghost use Rattle.rules.specs.Limits.{everyKind};
 ghost use Rattle.rules.specs.PlanFile.{stepsAt, plainAt, itemAt};
 ghost use Rattle.rounds.specs.Rounds.{Turning, Turned, standsAfter, blockAt, CanRun, HasRun};
 use blocks::is_repeat;
 use dims::shard_of;
 use dims::words;
 use reader::Next;
-use rules::Kind;
-use rules::Mesh;
-use rules::Sharding;
-use rules::Table;
 use step::in_place;
 use step::step_from;
 use taking::Taken;
 use taking::take_step;
+use types::Kind;
+use types::Mesh;
+use types::Sharding;
+use types::Table;
 
 // Where a run is: the place of the next kind byte and its number, whether the state stands at the front of work (else at that of spare), and its
 // sharding.
@@ -31,7 +31,7 @@ pub struct Progress {
 }
 
 // Step k, read again and done: from the state in here, the next one at the front of here where the step is done in place, else at that of there. The
-// other words of that buffer stay, and so does the other buffer.
+// other words of that buffer stay, and so does the other buffer, but for the sums of a reduce-scatter.
 fn do_step(
     file: &[u8],
     at: usize,
@@ -173,8 +173,8 @@ fn run_item(
     work: &mut [u32],
     spare: &mut [u32],
 ) -> Progress
-    requires { ⌜ CanRun (itemAt true (meshOf mesh) (sizesOf table) (now file) depth) (now file) mesh table from (length (now work)) (length (now spare)) ⌝ }
-    ensures { λ r. ⌜ HasRun (itemAt true (meshOf mesh) (sizesOf table) (now (file .entry)) depth) mesh table from
+    requires { ⌜ CanRun (itemAt everyKind (meshOf mesh) (sizesOf table) (now file) depth) (now file) mesh table from (length (now work)) (length (now spare)) ⌝ }
+    ensures { λ r. ⌜ HasRun (itemAt everyKind (meshOf mesh) (sizesOf table) (now (file .entry)) depth) mesh table from
         (now (work .entry)) (now (spare .entry)) (now (work .exit)) (now (spare .exit)) r ⌝ }
 {
     if is_repeat(file, from.at) {
@@ -195,9 +195,9 @@ pub fn run_row(
     work: &mut [u32],
     spare: &mut [u32],
 ) -> Progress
-    requires { ⌜ CanRun (stepsAt (itemAt true (meshOf mesh) (sizesOf table) (now file) depth) count) (now file) mesh table from
+    requires { ⌜ CanRun (stepsAt (itemAt everyKind (meshOf mesh) (sizesOf table) (now file) depth) count) (now file) mesh table from
         (length (now work)) (length (now spare)) ⌝ }
-    ensures { λ r. ⌜ HasRun (stepsAt (itemAt true (meshOf mesh) (sizesOf table) (now (file .entry)) depth) count) mesh table from
+    ensures { λ r. ⌜ HasRun (stepsAt (itemAt everyKind (meshOf mesh) (sizesOf table) (now (file .entry)) depth) count) mesh table from
         (now (work .entry)) (now (spare .entry)) (now (work .exit)) (now (spare .exit)) r ⌝ }
 {
     let mut here = from;

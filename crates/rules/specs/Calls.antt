@@ -1,4 +1,4 @@
--- Document 01, "Calls": what each of the calls answers, and leaves in the memory lent to it, on any input; and the code's answers.
+-- Document 01, "Calls": what each of the calls answers, and leaves in the memory lent to it, on any input.
 -- Assumes nothing.
 use Prim.Native.Nat.{ℕ, _+_, _-_}
 use mathlib.Core.Bool.{false}
@@ -11,17 +11,8 @@ use Rattle.rules.specs.Sharding.{Sharding, firstIndexes}
 use Rattle.rules.specs.Spread.{tabulateBy, heldBy, addWords}
 use Rattle.rules.specs.Collectives.{Shards, stepped}
 use Rattle.rules.specs.Limits.{mostDevices}
-use Rattle.rules.specs.Refusals.{Judged, accept, refuse, _>>=_, _>>_, need, refusedAs, refusalOf}
+use Rattle.rules.specs.Refusals.{Judged, accept, refuse, _>>=_, _>>_, need}
 use Rattle.rules.specs.PlanFile.{Plan, judge, judgeBy, axesAllowed, judgeSizes, orderAllowed, judgeAxes, announced, announcedShape, room, stateOf}
-use Rattle.rules.specs.Types.{fourPlaces, shardingFrom, noLists}
-use Rattle.rules.specs.declared.Checked.{Checked}
-use Rattle.rules.specs.declared.CheckOutcome.the-variants as check
-use Rattle.rules.specs.declared.Placed.{Placed}
-use Rattle.rules.specs.declared.PlaceOutcome.the-variants as place
-use Rattle.rules.specs.declared.GroupsOutcome.{GroupsOutcome}
-use Rattle.rules.specs.declared.GroupsOutcome.the-variants as groups
-use Rattle.rules.specs.declared.RunOutcome.{RunOutcome}
-use Rattle.rules.specs.declared.RunOutcome.the-variants as run
 
 -- ---- the check
 
@@ -48,19 +39,6 @@ checkOf file = do
     shard = announcedShape p (length (p .steps));
   })
 
--- The answer of the code, every place of it: past the rank no axes and sizes of 0, and so in every place beside a refusal.
-abbrev pub checkedOf : Judged CheckAnswer → Checked
-checkedOf (accept a) = record {
-  outcome = check.Passed (record { room = a .room; devices = a .devices; steps = a .steps; rank = a .rank });
-  sharding = shardingFrom (a .sharding);
-  shard = fourPlaces 0 (a .shard);
-}
-checkedOf (refuse n k) = record {
-  outcome = check.Refused (refusalOf n k);
-  sharding = shardingFrom noLists;
-  shard = fourPlaces 0 [];
-}
-
 -- ---- the placement
 
 -- "The placement call takes a file, a state number (0 is the start) and a device, and returns that state's sharding and shard sizes, and the device's
@@ -82,21 +60,6 @@ placeOf file state device = do
     shard = s .shard;
     first = firstIndexes (s .mesh) (s .sharding .dims) (s .shard) (deviceCoords (s .order) (s .mesh) device);
   })
-
--- the answer of the code; first indexes are 0 where sizes are
-abbrev pub placedOf : Judged PlaceAnswer → Placed
-placedOf (accept a) = record {
-  outcome = place.Found (a .rank);
-  sharding = shardingFrom (a .sharding);
-  shard = fourPlaces 0 (a .shard);
-  first = fourPlaces 0 (a .first);
-}
-placedOf (refuse n k) = record {
-  outcome = place.Refused (refusalOf n k);
-  sharding = shardingFrom noLists;
-  shard = fourPlaces 0 [];
-  first = fourPlaces 0 [];
-}
 
 -- ---- the group listing
 
@@ -132,10 +95,6 @@ groupsOrderedOf mesh order axes out = groupsBy (need (orderAllowed (devices mesh
 unfoldable pub groupsOrderedLeave : (mesh order axes out : List ℕ) → List ℕ
 unfolding groupsOrderedOf listing
 groupsOrderedLeave mesh order axes out = groupsOut (groupsOrderedOf mesh order axes out) order mesh axes out
-
-abbrev pub groupsMeaning : GroupsOutcome → Judged ℕ
-groupsMeaning (groups.Listed d) = accept d
-groupsMeaning (groups.Refused r) = refusedAs r
 
 -- ---- the run
 
@@ -179,7 +138,3 @@ runLeaves (refuse n k) work spare = record { outcome = refuse n k; work = work; 
 unfoldable pub runOf : List ℕ → (work spare : List ℕ) → Ran
 unfolding runnable lastState
 runOf file work spare = runLeaves (runnable file work spare) work spare
-
-abbrev pub runMeaning : RunOutcome → Judged (Unit {0})
-runMeaning run.Finished = accept tt
-runMeaning (run.Refused r) = refusedAs r

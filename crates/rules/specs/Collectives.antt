@@ -1,4 +1,4 @@
--- Document 01, "The four steps". Each collective is defined once, by its sources: the places of the old words that each new word is made from.
+-- Document 01, "The four steps", and the fifth of document 02, Ask 5. Each collective is defined once, by its sources: the places of the old words that each new word is made from.
 -- The words, the locality of a step and the bounds of the code all follow from them. Source document 001 decides on what a collective does to a
 -- sharding; 01 is stricter on the axes that an all-reduce may name. Assumes nothing.
 use Prim.Native.Nat.{ℕ, _+_, _-_, _*_, _/_, _%_}
@@ -6,17 +6,18 @@ use mathlib.Core.Path.{_≡_}
 use mathlib.Core.List.{List, [], _∷_, _++_, map}
 use lib.ListN.{length, set, take, drop, replicate}
 use lib.Dec.{T}
-use Rattle.rules.specs.Lists.{each, flat, product, without}
+use Rattle.rules.specs.Lists.{each, flat, product, without, ascending}
 use Rattle.rules.specs.Mesh.{span, devices, member, members}
 use Rattle.rules.specs.Sharding.{Sharding, divisible, shardSizes, firstIndexes}
 use Rattle.rules.specs.Spread.{StateOf, tabulate, held, from}
 
 -- "All-slice has one axis list per dimension", "All-gather has one list per dimension", "All-reduce has one list", "All-to-all has a source
--- dimension, another target dimension and one list."
+-- dimension, another target dimension and one list." Document 02, Ask 5, of reduce-scatter: "with one list per dimension as in all-slice".
 pub data Step : Type 0 where
   allSlice allGather : List (List ℕ) → Step
   allReduce : List ℕ → Step
   allToAll : ℕ → ℕ → List ℕ → Step
+  reduceScatter : List (List ℕ) → Step
 
 -- the step's axes, in file order
 abbrev pub stepAxes : Step → List ℕ
@@ -24,6 +25,7 @@ stepAxes (allSlice Ss) = flat Ss
 stepAxes (allGather Gs) = flat Gs
 stepAxes (allReduce L) = L
 stepAxes (allToAll source target L) = L
+stepAxes (reduceScatter Ss) = flat Ss
 
 -- one list per dimension: L at one dimension, none at the others
 abbrev pub only : ℕ → ℕ → List ℕ → List (List ℕ)
@@ -47,18 +49,21 @@ unfoldable pub reduced : List ℕ → Sharding → Sharding
 unfolding without
 reduced L s = record { dims = s .dims; unreduced = without (s .unreduced) L; replicated = s .replicated }
 
--- "It means: all-gather of that list off the source, then all-slice of it on the target."
+-- "It means: all-gather of that list off the source, then all-slice of it on the target." An axis of a reduce-scatter "leaves the unreduced list and
+-- joins the end of its dimension's list" (02, Ask 5).
 unfoldable pub after : Step → Sharding → Sharding
 unfolding sliced gathered reduced
 after (allSlice Ss) s = sliced Ss s
 after (allGather Gs) s = gathered Gs s
 after (allReduce L) s = reduced L s
 after (allToAll source target L) s = sliced (only (length (s .dims)) target L) (gathered (only (length (s .dims)) source L) s)
+after (reduceScatter Ss) s = sliced Ss (reduced (flat Ss) s)
 
 -- ---- the shape after a step, by the step itself
 
 -- "All-slice divides each size, without remainder, by the product of the mesh sizes of its axes there; all-gather multiplies by it; all-reduce keeps
--- the shape; all-to-all goes by its meaning."
+-- the shape; all-to-all goes by its meaning." A reduce-scatter's words and shape "are those of an all-reduce over all the step's axes in increasing
+-- order, then the all-slice with the step's lists" (02, Ask 5).
 abbrev pub grown : List ℕ → List (List ℕ) → List ℕ → List ℕ
 grown mesh Gs shape = each (λ n G. span mesh G * n) shape Gs
 
@@ -68,14 +73,16 @@ shapeAfter mesh (allGather Gs) shape = grown mesh Gs shape
 shapeAfter mesh (allReduce L) shape = shape
 shapeAfter mesh (allToAll source target L) shape =
     shardSizes mesh (grown mesh (only (length shape) source L) shape) (only (length shape) target L)
+shapeAfter mesh (reduceScatter Ss) shape = shardSizes mesh shape Ss
 
--- "without remainder": of an all-slice, the sizes that it is given; of an all-to-all, those that its gather leaves
+-- "without remainder": of an all-slice and a reduce-scatter, the sizes that it is given; of an all-to-all, those that its gather leaves
 abbrev pub WithoutRemainder : List ℕ → Step → List ℕ → Type 0
 WithoutRemainder mesh (allSlice Ss) shape = T (divisible mesh shape Ss)
 WithoutRemainder mesh (allGather Gs) shape = Unit {0}
 WithoutRemainder mesh (allReduce L) shape = Unit {0}
 WithoutRemainder mesh (allToAll source target L) shape =
     T (divisible mesh (grown mesh (only (length shape) source L) shape) (only (length shape) target L))
+WithoutRemainder mesh (reduceScatter Ss) shape = T (divisible mesh shape Ss)
 
 -- ---- the words after a step; `shape` is the shards' shape before it
 
@@ -125,13 +132,14 @@ abbrev pub andThen : Sources → Move → Sources
 andThen s m x i = s (m x i .device) (m x i .index)
 
 unfoldable pub sources : List ℕ → Step → List ℕ → Sources
-unfolding slicePlace gatherPlace reducePlaces
+unfolding slicePlace gatherPlace reducePlaces ascending
 sources mesh (allSlice Ss) shape = single (slicePlace mesh Ss shape)
 sources mesh (allGather Gs) shape = single (gatherPlace mesh Gs shape)
 sources mesh (allReduce L) shape = reducePlaces mesh L
 sources mesh (allToAll source target L) shape =
     andThen (single (gatherPlace mesh (only (length shape) source L) shape))
     (slicePlace mesh (only (length shape) target L) (grown mesh (only (length shape) source L) shape))
+sources mesh (reduceScatter Ss) shape = andThen (reducePlaces mesh (ascending (length mesh) (flat Ss))) (slicePlace mesh Ss shape)
 
 -- what is made of the words at the sources
 unfoldable pub made : {W : Type 0} → (List W → W) → Sources → StateOf W → StateOf W

@@ -69,6 +69,11 @@ unfoldable pub without : List ℕ → List ℕ → List ℕ
 unfolding keep mem
 without l k = keep (λ a. not (mem a k)) l
 
+-- the numbers below n that are in a list, in increasing order
+unfoldable pub ascending : (n : ℕ) → List ℕ → List ℕ
+unfolding keep mem
+ascending n l = keep (λ a. mem a l) (tab n (λ a. a))
+
 -- What the tests find: a is one of the list; no entry is there twice; P holds of each.
 abbrev pub In : ℕ → List ℕ → Type 0
 In a [] = ⊥

@@ -1,7 +1,7 @@
 -- Document 01, "Mesh, devices, groups".
 -- A mesh is the list of its axis sizes, so an axis is a place in that list. A device is the list of its coordinates. Device numbers stand only
 -- where devices are written down: in buffers, listings and placements. Source document 000 decides on groups and their order. Numbers here are
--- plain; that an axis number, a tensor dimension and a device number are three kinds is kept by the types of the code (src/lib.rt).
+-- plain; that an axis number, a tensor dimension and a device number are three kinds is kept by the types of the code (crate types).
 -- Assumes nothing.
 use Prim.Native.Nat.{ℕ, _+_, _*_, _/_, _%_, _<_, _≤_}
 use mathlib.Core.Path.{_≡_}

@@ -9,11 +9,9 @@ use lib.Dec.{ltb, leb, eqb}
 use Rattle.rules.specs.Lists.{tab, both, flat, pick, inTurn, product, total, largest, mem}
 use Rattle.rules.specs.Mesh.{devices, plainOrder}
 use Rattle.rules.specs.Sharding.{Sharding, varying, named, divisible, shardSizes}
-use Rattle.rules.specs.Collectives.{Step, allSlice, allGather, allReduce, allToAll, stepAxes, only, sliced, gathered, reduced, after}
+use Rattle.rules.specs.Collectives.{Step, allSlice, allGather, allReduce, allToAll, reduceScatter, stepAxes, only, sliced, gathered, reduced, after}
 use Rattle.rules.specs.Limits.{mostAxes, mostDims, mostSteps, mostRun, mostDepth, leastBytes, Reader, present}
 use Rattle.rules.specs.Refusals.{Judged, accept, refuse, _>>=_, _>>_, need, needAt}
-use Rattle.rules.specs.declared.Kind.{Kind}
-use Rattle.rules.specs.declared.Kind.the-variants.{AllSlice, AllGather, AllReduce, AllToAll, Unknown}
 
 -- What was read, and where the next byte is.
 pub record Read (A : Type 0) : Type 0 where
@@ -237,9 +235,20 @@ oneMeaning e L = not (eqb e 2) || some L
 
 -- ---- a step
 
--- "1 all-slice, 2 all-gather (one list per dimension), 3 all-reduce (one list), 4 all-to-all (source byte, target byte, one list)"
+-- the kinds of step, and of a byte that is none
+pub data Kind : Type 0 where
+  AllSlice : Kind
+  AllGather : Kind
+  AllReduce : Kind
+  AllToAll : Kind
+  ReduceScatter : Kind
+  Unknown : Kind
+
+-- "1 all-slice, 2 all-gather (one list per dimension), 3 all-reduce (one list), 4 all-to-all (source byte, target byte, one list)"; "Kind 5, with one
+-- list per dimension as in all-slice" (document 02, Ask 5)
 abbrev pub kindOf : ℕ → Kind
-kindOf b = pick (eqb b 1) AllSlice (pick (eqb b 2) AllGather (pick (eqb b 3) AllReduce (pick (eqb b 4) AllToAll Unknown)))
+kindOf b =
+    pick (eqb b 1) AllSlice (pick (eqb b 2) AllGather (pick (eqb b 3) AllReduce (pick (eqb b 4) AllToAll (pick (eqb b 5) ReduceScatter Unknown))))
 
 -- what follows the kind byte of step k
 unfoldable pub listsOf : (n rank k : ℕ) → List ℕ → ℕ → Kind → Judged (Read Step)
@@ -257,6 +266,9 @@ listsOf n rank k file at AllToAll = do
   need (leb (at + 2) (length file)) 7
   l ← listAt n file (at + 2)
   accept (record { value = allToAll (getD file at 0) (getD file (at + 1) 0) (l .value); next = l .next })
+listsOf n rank k file at ReduceScatter = do
+  ls ← listsAt n rank file at
+  accept (record { value = reduceScatter (ls .value); next = ls .next })
 listsOf n rank k file at Unknown = refuse 20 k
 
 -- "Each step: its bytes (7, 20, 8)"
@@ -277,7 +289,7 @@ unfoldable pub increasingFrom : ℕ → List ℕ → Bool
 increasingFrom low [] = true
 increasingFrom low (a ∷ L) = leb low a && increasingFrom (a + 1) L
 
--- 27: "all-reduce axis not unreduced"
+-- 27: "all-reduce axis not unreduced"; of a reduce-scatter too
 unfoldable pub allIn : List ℕ → List ℕ → Bool
 unfolding mem
 allIn [] U = true
@@ -302,7 +314,8 @@ sliceOn mesh sizes k Ss s = do
   needAt k (divisible mesh (shardSizes mesh sizes (s .dims)) Ss) 25
   accept (sliced Ss s)
 
--- "then by kind: 23 in file order, or 24 by dimension, or 26 over the whole list then 27 in file order, or 28 then 24; last 25 by dimension"
+-- "then by kind: 23 in file order, or 24 by dimension, or 26 over the whole list then 27 in file order, or 28 then 24; last 25 by dimension". Of a
+-- reduce-scatter: "Each axis must be named once in the step (23, tested over the whole step first) and be unreduced (27, in file order, then 25)."
 unfoldable pub judgeKind : (mesh sizes : List ℕ) → ℕ → Step → Sharding → Judged Sharding
 unfolding fresh gatherOff sliceOn increasingFrom allIn reduced
 judgeKind mesh sizes k (allSlice Ss) s = do
@@ -317,6 +330,10 @@ judgeKind mesh sizes k (allToAll source target L) s = do
   needAt k (twoDims (length (s .dims)) source target) 28
   g ← gatherOff k (only (length (s .dims)) source L) s
   sliceOn mesh sizes k (only (length (s .dims)) target L) g
+judgeKind mesh sizes k (reduceScatter Ss) s = do
+  needAt k (fresh [] (flat Ss)) 23
+  needAt k (allIn (flat Ss) (s .unreduced)) 27
+  sliceOn mesh sizes k Ss (reduced (flat Ss) s)
 
 -- "then 21", "a step names no axis", "then 22 in file order": of the axes that step k names
 abbrev pub judgeNamed : (n k : ℕ) → List ℕ → Judged (Unit {0})
@@ -337,6 +354,15 @@ judgeStep mesh sizes k t s = do
 pub data Record : Type 0 where
   plain : Step → Record
   repeat : (count number : ℕ) → Record
+
+-- the kind byte of a record
+abbrev pub kindByte : Record → ℕ
+kindByte (plain (allSlice Ss)) = 1
+kindByte (plain (allGather Gs)) = 2
+kindByte (plain (allReduce L)) = 3
+kindByte (plain (allToAll source target L)) = 4
+kindByte (plain (reduceScatter Ss)) = 5
+kindByte (repeat count number) = 9
 
 -- what was read and judged: the records, the plain steps in running order, the sharding after them, and where the next byte is
 pub record StepsRead : Type 0 where
@@ -414,13 +440,16 @@ itemBy true inner mesh sizes file k at s = repeatAt inner file k (at + 1) s
 abbrev pub tooDeep : (k : ℕ) → JudgesSteps
 tooDeep k count k′ at s = refuse 42 k
 
--- A step or a repeat, where repeats may nest so deep. "Those steps .. may be repeats themselves down to depth 4". A reader that knows no repeats reads
--- every kind byte as a plain step's.
-unfoldable pub itemAt : (known : Bool) → (mesh sizes : List ℕ) → List ℕ → (depth : ℕ) → JudgesStep
+-- A step or a repeat, where repeats may nest so deep. "Those steps .. may be repeats themselves down to depth 4". 20 is for every kind byte that the
+-- reader does not know.
+unfoldable pub itemAt : (known : ℕ → Bool) → (mesh sizes : List ℕ) → List ℕ → (depth : ℕ) → JudgesStep
 unfolding itemBy stepsAt
-itemAt known mesh sizes file zero k at s = itemBy (known && isRepeat file at) (tooDeep k) mesh sizes file k at s
-itemAt known mesh sizes file (suc depth) k at s =
-    itemBy (known && isRepeat file at) (stepsAt (itemAt known mesh sizes file depth)) mesh sizes file k at s
+itemAt known mesh sizes file zero k at s = do
+  needAt k (known (getD file at 0)) 20
+  itemBy (isRepeat file at) (tooDeep k) mesh sizes file k at s
+itemAt known mesh sizes file (suc depth) k at s = do
+  needAt k (known (getD file at 0)) 20
+  itemBy (isRepeat file at) (stepsAt (itemAt known mesh sizes file depth)) mesh sizes file k at s
 
 -- what was read and judged of the outermost steps; `runs` has the number of plain steps that each of them runs
 pub record Outermost : Type 0 where
@@ -431,7 +460,7 @@ pub record Outermost : Type 0 where
 
 -- So many outermost steps, where those before them run so many plain steps. "An outermost one is" of depth 1; 43 is "tested .. after each outermost step
 -- for the plan so far", with "the outermost step's" number.
-unfoldable pub outermostAt : (known : Bool) → (mesh sizes : List ℕ) → List ℕ → (ran count k at : ℕ) → Sharding → Judged Outermost
+unfoldable pub outermostAt : (known : ℕ → Bool) → (mesh sizes : List ℕ) → List ℕ → (ran count k at : ℕ) → Sharding → Judged Outermost
 unfolding itemAt
 outermostAt known mesh sizes file ran zero k at s = accept (record { records = []; steps = []; runs = []; next = at })
 outermostAt known mesh sizes file ran (suc count) k at s = do
@@ -486,7 +515,7 @@ unfoldable pub judgeBy : Reader → List ℕ → Judged Plan
 unfolding u16At judgeFrontBy outermostAt
 judgeBy r file = do
   f ← judgeFrontBy r file
-  ts ← outermostAt (r .repeats) (f .mesh) (f .sizes) file 0 (stepCount file) 1 (f .next) (f .start)
+  ts ← outermostAt (r .kinds) (f .mesh) (f .sizes) file 0 (stepCount file) 1 (f .next) (f .start)
   need (eqb (ts .next) (length file)) 9
   accept (record {
     mesh = f .mesh;

@@ -14,7 +14,7 @@ use Rattle.rules.specs.Spread.{held, Faithful, addWords}
 use Rattle.rules.specs.Refusals.{Judged, accept, refuse}
 use Rattle.rules.specs.PlanFile.{judgeBy}
 use Rattle.rules.specs.Calls.{CheckAnswer, checkOf, PlaceAnswer, placeOf, runOf}
-use Rattle.rules.specs.Readers.{upTo}
+use Rattle.rules.specs.Limits.{upTo}
 use Rattle.rules.specs.Ledger.{Case, checked, placed, Holds, fileIn, fileOf, leaves}
 
 -- ---- files of edition 2

@@ -9,7 +9,7 @@ use Rattle.rules.specs.Collectives.{allSlice, allGather, allReduce}
 use Rattle.rules.specs.Refusals.{accept, refuse}
 use Rattle.rules.specs.PlanFile.{plain, judgeBy}
 use Rattle.rules.specs.Calls.{checkOf, placeOf, groupsOrderedOf, groupsOrderedLeave, runOf}
-use Rattle.rules.specs.Readers.{upTo}
+use Rattle.rules.specs.Limits.{upTo}
 use Rattle.rules.specs.Ledger.{Case, checked, placed, ordered, Holds, fileIn, passed, found, nines, leaves}
 use Rattle.rules.specs.WorkedEditions.{there}
 

@@ -114,11 +114,12 @@ refusals =
     ∷ checked (three ((0 ∷ []) ∷ (2 ∷ 1 ∷ 1 ∷ []) ∷ [])) (refuse 16 0)
     -- 17, before the 7 and the 20 of a step, and before 9
     ∷ checked (one ([] ∷ (0 ∷ []) ∷ [] ∷ []) []) (refuse 17 0)
-    ∷ checked (one ([] ∷ (0 ∷ []) ∷ [] ∷ []) (5 ∷ [])) (refuse 17 0)
+    ∷ checked (one ([] ∷ (0 ∷ []) ∷ [] ∷ []) (6 ∷ [])) (refuse 17 0)
+    ∷ checked (fileOf (2 ∷ 2 ∷ []) (2 ∷ []) ((0 ∷ 1 ∷ []) ∷ [] ∷ []) []) (refuse 17 0)
     ∷ checked (set (but 6 0) 22 3) (refuse 17 0)
     -- a step's bytes: 7 for the kind byte; 20 before 7; 7 for a count byte and for axes; 8 before 7
     ∷ checked (cutAt 31) (refuse 7 0)
-    ∷ checked (one whole (5 ∷ [])) (refuse 20 1)
+    ∷ checked (one whole (6 ∷ [])) (refuse 20 1)
     ∷ checked (but 31 0) (refuse 20 1)
     ∷ checked (one whole (6 ∷ 1 ∷ 1 ∷ 0 ∷ [])) (refuse 20 1)
     ∷ checked (one whole (255 ∷ [])) (refuse 20 1)
@@ -149,6 +150,8 @@ refusals =
     ∷ checked (one whole (1 ∷ 1 ∷ 0 ∷ 1 ∷ 0 ∷ [])) (refuse 23 1)
     -- 25, of the present shard size
     ∷ checked (one whole (1 ∷ 0 ∷ 1 ∷ 0 ∷ [])) (refuse 25 1)
+    ∷ checked (fileOf (2 ∷ 2 ∷ []) (2 ∷ []) ([] ∷ [] ∷ []) ((1 ∷ 2 ∷ 0 ∷ 1 ∷ []) ∷ [])) (refuse 25 1)
+    ∷ checked (one whole (1 ∷ 2 ∷ 0 ∷ 1 ∷ 1 ∷ 0 ∷ [])) (refuse 23 1)
     ∷ checked (fileOf (2 ∷ 4 ∷ []) (4 ∷ []) ((0 ∷ []) ∷ [] ∷ []) ((1 ∷ 1 ∷ 1 ∷ []) ∷ [])) (refuse 25 1)
     -- all-gather: 24 of the front, of another order, of a list that is longer than the dimension's, of another dimension's
     ∷ checked (one split (2 ∷ 1 ∷ 1 ∷ 0 ∷ [])) (refuse 24 1)
@@ -170,7 +173,7 @@ refusals =
     ∷ checked (one split (4 ∷ 0 ∷ 1 ∷ 1 ∷ 0 ∷ [])) (refuse 25 1)
     -- the second step: each number of a step, and 7
     ∷ checked (second []) (refuse 7 0)
-    ∷ checked (second (5 ∷ [])) (refuse 20 2)
+    ∷ checked (second (6 ∷ [])) (refuse 20 2)
     ∷ checked (second (3 ∷ 0 ∷ [])) (refuse 21 2)
     ∷ checked (second (1 ∷ 1 ∷ 2 ∷ 0 ∷ [])) (refuse 22 2)
     ∷ checked (second (1 ∷ 1 ∷ 1 ∷ 0 ∷ [])) (refuse 23 2)
@@ -215,4 +218,4 @@ refused =
     & refl & refl & refl & refl & refl & refl & refl & refl & refl & refl & refl & refl
     & refl & refl & refl & refl & refl & refl & refl & refl & refl & refl & refl & refl
     & refl & refl & refl & refl & refl & refl & refl & refl & refl & refl & refl & refl
-    & refl & refl & refl & refl & refl & refl & refl & refl & done
+    & refl & refl & refl & refl & refl & refl & refl & refl & refl & refl & refl & done

@@ -7,12 +7,10 @@ use mathlib.Core.List.{List, [], _∷_, _++_}
 use lib.ListN.{length, set, replicate}
 use Rattle.rules.specs.Lists.{tab, flat, All, done, _&_}
 use Rattle.rules.specs.Collectives.{Step, allSlice, allGather}
-use Rattle.rules.specs.Refusals.{Judged, accept, refuse, _>>=_, reasonOf}
-use Rattle.rules.specs.PlanFile.{plain, repeat, sameSharding, judge, judgeBy}
-use Rattle.rules.specs.Calls.{checkOf, checkedOf, placeOf, runOf}
-use Rattle.rules.specs.Readers.{withoutRepeats, original}
-use Rattle.rules.specs.declared.Reason.the-variants.{ShardingChanged, TooDeep, TooManyRun, RepeatOfNothing}
-use Rattle.rules.specs.declared.CheckOutcome.the-variants as check
+use Rattle.rules.specs.Refusals.{Judged, accept, refuse, _>>=_}
+use Rattle.rules.specs.PlanFile.{plain, repeat, sameSharding, repeatAt, judge, judgeBy}
+use Rattle.rules.specs.Calls.{checkOf, placeOf, runOf}
+use Rattle.rules.specs.Limits.{withoutRepeats, original}
 use Rattle.rules.specs.Ledger.{Case, checked, placed, Holds, fileIn, fileOf, on2x2, passed, found, leaves}
 use Rattle.rules.specs.WorkedRefusals.{refusedRun}
 use Rattle.rules.specs.WorkedEditions.{second, shardingOf, passed as passed2x2}
@@ -97,7 +95,7 @@ repeats =
     -- outermost steps, and "0 to 64 steps" is a limit of theirs
     checked (whole (times 2 (swings 1) ∷ [])) (passed 4 2 1 ([] ∷ []) [] (2 ∷ []))
     ∷ checked mixed (passed 4 2 3 ([] ∷ []) [] (2 ∷ []))
-    ∷ checked (whole (times 1 (swings 40) ∷ slice ∷ [])) (passed 4 2 2 ((0 ∷ []) ∷ []) [] (1 ∷ []))
+    ∷ checked (whole (times 1 (swings 33) ∷ slice ∷ [])) (passed 4 2 2 ((0 ∷ []) ∷ []) [] (1 ∷ []))
     -- "which may be repeats themselves down to depth 4 (an outermost one is 1)": also one after another
     ∷ checked (whole (nested 4 (swings 1))) (passed 4 2 1 ([] ∷ []) [] (2 ∷ []))
     ∷ checked (whole (nested 4 (swings 1) ++ nested 4 (swings 1))) (passed 4 2 2 ([] ∷ []) [] (2 ∷ []))
@@ -127,11 +125,11 @@ repeats =
     ∷ checked (whole ((10 ∷ 2 ∷ 2 ∷ slice ++ gather) ∷ [])) (refuse 20 1)
     -- "Inner steps are then read and judged in order.": each at its own number, from the sharding that the one before it left, before the next is
     -- read, and before 41
-    ∷ checked (whole (times 1 (slice ∷ (5 ∷ []) ∷ []) ∷ [])) (refuse 20 3)
+    ∷ checked (whole (times 1 (slice ∷ (6 ∷ []) ∷ []) ∷ [])) (refuse 20 3)
     ∷ checked (whole (times 1 (slice ∷ (1 ∷ 0 ∷ []) ∷ []) ∷ [])) (refuse 21 3)
     ∷ checked (whole (times 1 (slice ∷ (1 ∷ 1 ∷ 1 ∷ []) ∷ []) ∷ [])) (refuse 22 3)
     ∷ checked (whole (times 1 (slice ∷ slice ∷ []) ∷ [])) (refuse 23 3)
-    ∷ checked (whole (times 1 (gather ∷ (5 ∷ []) ∷ []) ∷ [])) (refuse 24 2)
+    ∷ checked (whole (times 1 (gather ∷ (6 ∷ []) ∷ []) ∷ [])) (refuse 24 2)
     ∷ checked (on2x2 (2 ∷ []) ([] ∷ [] ∷ []) (times 1 (slice ∷ (1 ∷ 1 ∷ 1 ∷ []) ∷ []))) (refuse 25 3)
     ∷ checked (on2x2 (2 ∷ []) ([] ∷ (0 ∷ 1 ∷ []) ∷ []) (times 1 (reduce ∷ (3 ∷ 2 ∷ 1 ∷ 0 ∷ []) ∷ []))) (refuse 26 3)
     ∷ checked (whole (times 1 (slice ∷ reduce ∷ []) ∷ [])) (refuse 27 3)
@@ -159,7 +157,7 @@ repeats =
     ∷ checked (whole (nearlyFull ∷ times 1 (times 9 (swings 1) ∷ []) ∷ [])) (refuse 43 18)
     ∷ checked (whole (full ∷ (1 ∷ 0 ∷ []) ∷ [])) (refuse 21 5)
     ∷ checked (whole (full ∷ times 1 (slice ∷ []) ∷ [])) (refuse 41 5)
-    ∷ checked (whole (full ∷ slice ∷ (5 ∷ []) ∷ [])) (refuse 43 5)
+    ∷ checked (whole (full ∷ slice ∷ (6 ∷ []) ∷ [])) (refuse 43 5)
     -- "Step numbers count kind bytes in file order": after a repeat with another inside, outermost and inside a block
     ∷ checked (whole (times 2 (slice ∷ times 2 (gather ∷ slice ∷ []) ∷ gather ∷ []) ∷ (1 ∷ 0 ∷ []) ∷ [])) (refuse 21 7)
     ∷ checked (whole (times 1 (times 3 (swings 1) ∷ (1 ∷ 0 ∷ []) ∷ []) ∷ [])) (refuse 21 5)
@@ -208,8 +206,6 @@ repeats =
     ∷ leaves (third [] [] (times 2 (slice ∷ (1 ∷ 1 ∷ 1 ∷ []) ∷ (2 ∷ 2 ∷ 0 ∷ 1 ∷ []) ∷ []) ∷ [])) 16 (tab 16 (λ k. k + 1)) (
     9 ∷ 2 ∷ 15 ∷ 8 ∷ 9 ∷ 2 ∷ 15 ∷ 8 ∷ 9 ∷ 2 ∷ 15 ∷ 8 ∷ 9 ∷ 2 ∷ 15 ∷ 8 ∷ []
     )
-    -- a byte's most inner steps
-    ∷ checked (square (times 1 (flat (replicate 85 (sliceRows ∷ toColumns ∷ gatherColumns ∷ []))) ∷ [])) (passed 8 2 1 ([] ∷ [] ∷ []) [] (2 ∷ 2 ∷ []))
     ∷ []
 
 pub repeated : All Holds repeats
@@ -221,7 +217,7 @@ repeated =
     & refl & refl & refl & refl & refl & refl & refl & refl & refl & refl & refl & refl
     & refl & refl & refl & refl & refl & refl & refl & refl & refl & refl & refl & refl
     & refl & refl & refl & refl & refl & refl & refl & refl & refl & refl & refl & refl
-    & refl & refl & refl & refl & refl & refl & refl & refl & refl & refl & refl & refl & refl & done
+    & refl & refl & refl & refl & refl & refl & refl & refl & refl & refl & refl & refl & done
 
 -- ---- what is read
 
@@ -239,14 +235,11 @@ runsOf file = _>>=_ (judge file) (λ p. accept (p .runs))
 pub record RepeatsRead : Type 0 where
   -- "Step kind 9 is a repeat": no byte above it is one
   pub unknown : tab 246 (λ i. checkOf (whole (((i + 10) ∷ 2 ∷ 2 ∷ slice ++ gather) ∷ []))) ≡ replicate 246 (refuse 20 1)
+  -- a byte's most inner steps are judged, from the number after the repeat's on
+  pub most-inner : repeatAt (λ number k at s. refuse number k) (1 ∷ 255 ∷ []) 1 0 (shardingOf [] [] []) ≡ refuse 255 2
   -- the reader with document 01's limits knows repeats and orders
   pub original-reads : judgeBy original mixed ≡ judge mixed
   pub original-orders : judgeBy original (third [] [] (times 2 (swings 1) ∷ [])) ≡ judge (third [] [] (times 2 (swings 1) ∷ []))
-  -- the reason of each number
-  pub reason-41 : checkedOf (checkOf (whole (times 1 (slice ∷ []) ∷ []))) .outcome ≡ check.Refused (record { reason = ShardingChanged; step = 1 })
-  pub reason-42 : checkedOf (checkOf (whole (nested 5 (swings 1)))) .outcome ≡ check.Refused (record { reason = TooDeep; step = 5 })
-  pub reason-43 : checkedOf (checkOf (whole (times 255 (swings 9) ∷ []))) .outcome ≡ check.Refused (record { reason = TooManyRun; step = 1 })
-  pub reason-44 : checkedOf (checkOf (whole ((9 ∷ 0 ∷ []) ∷ []))) .outcome ≡ check.Refused (record { reason = RepeatOfNothing; step = 1 })
   -- a record for each kind byte, in file order; the plain steps in running order; how many of them each outermost step runs
   pub mixed-read : judge mixed ≡ accept (record {
     mesh = 2 ∷ [];
@@ -284,15 +277,12 @@ pub record RepeatsRead : Type 0 where
   })
 
 pub repeats-read : RepeatsRead
-unfolding fileIn fileOf judgeBy sameSharding checkOf reasonOf
+unfolding fileIn fileOf judgeBy sameSharding repeatAt checkOf
 repeats-read = record {
   unknown = refl;
+  most-inner = refl;
   original-reads = refl;
   original-orders = refl;
-  reason-41 = refl;
-  reason-42 = refl;
-  reason-43 = refl;
-  reason-44 = refl;
   mixed-read = refl;
   alone = refl;
   so-far = refl;

@@ -16,12 +16,12 @@ use Rattle.rules.specs.Collectives.{Step, Shards, stepped, Stands}
 use Rattle.rules.specs.Refusals.{accept}
 use Rattle.rules.specs.PlanFile.{u16At, edition, carriesOrder, Plan, judge, announced, announcedShape, room}
 use Rattle.rules.specs.Calls.{shardsAfter, lastState}
-use Rattle.rules.specs.declared.Sharding as code
-use Rattle.rules.proofs.Buffers.{length-tabulate}
-use Rattle.rules.proofs.Judging.{accept-inj}
-use Rattle.rules.proofs.Accepted.{accepted}
-use Rattle.rules.proofs.Room.{state}
-use Rattle.rules.proofs.Whole.{plan-shapes}
+use Rattle.types.specs.declared.Sharding as code
+use Rattle.laws.proofs.Buffers.{length-tabulate}
+use Rattle.laws.proofs.Judging.{accept-inj}
+use Rattle.laws.proofs.Accepted.{accepted}
+use Rattle.laws.proofs.Room.{state}
+use Rattle.laws.proofs.Whole.{plan-shapes}
 use Rattle.reader.specs.Reading.{orderOf}
 use Rattle.order.specs.Order.{byPlace, placesOf, ShardsFit}
 use Rattle.order.proofs.Shards.{order-fits, inverse-fits, placed-stands, numbered, plain-stands, plain-tabulate}

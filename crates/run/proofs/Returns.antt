@@ -15,10 +15,10 @@ use Rattle.rules.specs.Limits.{mostDevices, mostWords}
 use Rattle.rules.specs.Refusals.{accept, refuse}
 use Rattle.rules.specs.PlanFile.{Plan, judge, announcedShape, room}
 use Rattle.rules.specs.Calls.{lastState, runnable, Ran, runLeaves, runOf}
-use Rattle.rules.specs.Demands.{Fits}
-use Rattle.rules.proofs.Accepted.{AcceptedPlan, accepted}
-use Rattle.rules.proofs.Room.{state, room-few}
-use Rattle.rules.proofs.Whole.{judged, run-is, run-fits, last-length}
+use Rattle.laws.specs.Demands.{Fits}
+use Rattle.laws.proofs.Accepted.{AcceptedPlan, accepted}
+use Rattle.laws.proofs.Room.{state, room-few}
+use Rattle.laws.proofs.Whole.{judged, run-is, run-fits, last-length}
 use Rattle.plan.specs.Parts.{HoldsPlan, answerOf}
 use Rattle.plan.specs.declared.Whole.{Whole}
 

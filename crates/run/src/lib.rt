@@ -1,5 +1,5 @@
 // The run of a plan: its judgement, the tests of the two buffers, the steps in turn, and zeros behind the last state.
-// What it answers and leaves is defined in rules/specs/Calls.antt (runOf); rules/specs/Promises.antt has its promise, specs/Runs.antt what the parts
+// What it answers and leaves is defined in rules/specs/Calls.antt (runOf); types/specs/Promises.antt has its promise, specs/Runs.antt what the parts
 // ask for and leave.
 ghost use mathlib.Core.Path.{_≡_};
 ghost use Prim.Native.Nat.{_*_, _≤_};
@@ -7,8 +7,8 @@ ghost use mathlib.Core.List.{_++_};
 ghost use lib.ListN.{length, take, drop, replicate};
 ghost use Rattle.rules.specs.Lists.{pick, product};
 ghost use Rattle.rules.specs.Limits.{mostDevices, mostWords};
-ghost use Rattle.rules.specs.Types.{WithinPlaces};
-ghost use Rattle.rules.specs.Promises.{RunPromise};
+ghost use Rattle.types.specs.Types.{WithinPlaces};
+ghost use Rattle.types.specs.Promises.{RunPromise};
 ghost use Rattle.plan.specs.Parts.{Bounded, answerOf};
 ghost use Rattle.order.specs.Order.{byPlace, ShardsFit};
 ghost use Rattle.rounds.specs.Rounds.{shapeOf};
@@ -24,13 +24,13 @@ use reader::carries_order;
 use reader::read_order;
 use rounds::Progress;
 use rounds::run_row;
-use rules::Device;
-use rules::PlanFile;
-use rules::Reason;
-use rules::Refusal;
-use rules::RunOutcome;
-use rules::Sharding;
-use rules::Step;
+use types::Device;
+use types::PlanFile;
+use types::Reason;
+use types::Refusal;
+use types::RunOutcome;
+use types::Sharding;
+use types::Step;
 
 // Zeros.
 fn clear(words: &mut [u32])

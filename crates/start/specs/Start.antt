@@ -4,10 +4,11 @@ use mathlib.Core.Bool.{Bool, true, false}
 use mathlib.Core.List.{List, [], _∷_, _++_}
 use lib.ListN.{set}
 use Rattle.rules.specs.Lists.{pick}
-use Rattle.rules.specs.Refusals.{Judged, accept, refuse, _>>_, refusedAs}
+use Rattle.rules.specs.Refusals.{Judged, accept, refuse, _>>_}
+use Rattle.types.specs.Answers.{refusedAs}
 use Rattle.rules.specs.PlanFile.{judgeAxis, judgeAxes}
-use Rattle.rules.specs.declared.Reason.the-variants.{CountOutsideLimits}
-use Rattle.rules.specs.declared.Refusal.{Refusal}
+use Rattle.types.specs.declared.Reason.the-variants.{CountOutsideLimits}
+use Rattle.types.specs.declared.Refusal.{Refusal}
 use Rattle.axes.specs.Marks.{marked}
 use Rattle.start.specs.declared.Verdict.{Verdict}
 use Rattle.start.specs.declared.Verdict.the-variants as verdict

@@ -6,23 +6,24 @@ ghost use Prim.Native.Nat.{_+_, _≤_};
 ghost use lib.ListN.{length, take};
 ghost use Rattle.rules.specs.Lists.{flat, pick};
 ghost use Rattle.rules.specs.Limits.{mostAxes, mostDims};
-ghost use Rattle.rules.specs.Refusals.{refuse, numberOf};
+ghost use Rattle.rules.specs.Refusals.{refuse};
+ghost use Rattle.types.specs.Answers.{numberOf};
 ghost use Rattle.rules.specs.PlanFile.{judgeAxis, judgeAxes, judgeStart};
-ghost use Rattle.rules.specs.Types.{axesOf, dimsOf, shardingOf, meshOf, sizesOf, WithinPlaces};
+ghost use Rattle.types.specs.Types.{axesOf, dimsOf, shardingOf, meshOf, sizesOf, WithinPlaces};
 ghost use Rattle.axes.specs.Marks.{marked};
 ghost use Rattle.start.specs.Start.{meaning, refusalOf, marksAfter, judgeRising};
 use axes::is_marked;
 use axes::mark;
 use dims::divisible;
-use rules::Axis;
-use rules::AxisList;
-use rules::Dim;
-use rules::DimLists;
-use rules::Mesh;
-use rules::Reason;
-use rules::Refusal;
-use rules::Sharding;
-use rules::Table;
+use types::Axis;
+use types::AxisList;
+use types::Dim;
+use types::DimLists;
+use types::Mesh;
+use types::Reason;
+use types::Refusal;
+use types::Sharding;
+use types::Table;
 
 pub enum Verdict {
     Fine,

@@ -1,22 +1,22 @@
 -- A step that was accepted of a sharding within the limits has what it asks for (`stepping`), and leaves the shards after it of those that stood in the
--- old buffer (`leaves-shards`). Assumes nothing.
+-- old buffer (`leaves-shards`), and what it spends of that buffer (`spends-shards`). Assumes nothing.
 use Prim.Native.Nat.{ℕ, _*_, _≤_}
 use mathlib.Core.Path.{_≡_, refl, sym, ap, ap₂, _∙_, subst}
 use mathlib.Core.List.{List, _++_}
-use lib.ListN.{drop}
-use Rattle.rules.specs.Lists.{product}
+use lib.ListN.{length, drop}
+use Rattle.rules.specs.Lists.{flat, product, ascending}
 use Rattle.rules.specs.Mesh.{devices}
 use Rattle.rules.specs.Sharding.{Sharding, shardSizes, IsSharding}
-use Rattle.rules.specs.Collectives.{Step, after, shapeAfter, Shards, stepped, Stands, withShards}
+use Rattle.rules.specs.Collectives.{Step, allSlice, allGather, allReduce, allToAll, reduceScatter, after, shapeAfter, Shards, stepped, Stands, withShards}
 use Rattle.rules.specs.Refusals.{accept}
 use Rattle.rules.specs.PlanFile.{judgeStep}
-use Rattle.rules.proofs.Sources.{Ready}
-use Rattle.rules.proofs.Steps.{facts, after-shape}
-use Rattle.rules.proofs.Accepted.{Within}
-use Rattle.rules.proofs.Room.{ShardWords, shard-words}
-use Rattle.rules.proofs.Next.{step-ready}
-use Rattle.rules.proofs.Stands.{step-stands}
-use Rattle.step.specs.Stepping.{Stepping, steppedBuffer}
+use Rattle.laws.proofs.Sources.{Ready}
+use Rattle.laws.proofs.Steps.{facts, after-shape}
+use Rattle.laws.proofs.Accepted.{Within}
+use Rattle.laws.proofs.Room.{ShardWords, shard-words}
+use Rattle.laws.proofs.Next.{step-ready}
+use Rattle.laws.proofs.Stands.{step-stands}
+use Rattle.step.specs.Stepping.{Stepping, steppedBuffer, spentBuffer, spentShards}
 use Rattle.step.proofs.Kernels.{sizes-pos}
 
 pub stepping : {mesh sizes : List ℕ} (k : ℕ) {t : Step} {s : Sharding} {old new : ℕ} → Within mesh sizes → IsSharding mesh sizes s
@@ -53,3 +53,15 @@ module _ {mesh shape : List ℕ} {t : Step} {words old new : ℕ} (h : Stepping 
       (facts mesh (h .sizes) (h .number) t (h .before) (h .next) (h .judged) .0)) in
       (λ i. steppedBuffer addAll z mesh (sym q i) t (h .words-are i) olds news)
       ∙ ap₂ (λ (b : List W) (shape : List ℕ). b ++ drop (devices mesh * product (shapeAfter mesh t shape)) news) (step-stands mesh addAll z t v olds r st) (sym q)
+
+pub spends-shards : {W : Type 0} (addAll : List W → W) (z : W) (mesh : List ℕ) {shape : List ℕ} (t : Step) (v : Shards W) → v .shape ≡ shape → (olds : List W)
+    → Stands mesh v olds → spentBuffer addAll z mesh shape t olds ≡ spentShards addAll mesh t v olds
+unfolding stepped
+spends-shards addAll z mesh (allSlice Ss) v q olds st = refl
+spends-shards addAll z mesh (allGather Gs) v q olds st = refl
+spends-shards addAll z mesh (allReduce L) v q olds st = refl
+spends-shards addAll z mesh (allToAll source target L) v q olds st = refl
+spends-shards {W} addAll z mesh (reduceScatter Ss) v q olds st =
+    let t : Step = allReduce (ascending (length mesh) (flat Ss)) in
+    ap (λ (l : List ℕ). steppedBuffer addAll z mesh l t (product l) olds olds) (sym q)
+    ∙ ap (λ (b : List W). b ++ drop (devices mesh * product (v .shape)) olds) (step-stands mesh addAll z t v olds tt st)

@@ -1,20 +1,20 @@
--- One step of an accepted plan, given in shards of the announced shape, the buffer that it leaves, and whether that is the buffer that it was given.
--- Assumes nothing.
+-- One step of an accepted plan, given in shards of the announced shape, the buffer that it leaves, whether that is the buffer that it was given, and
+-- what it leaves there else. Assumes nothing.
 use Prim.Native.Nat.{ℕ, _*_, _≤_, _<_}
 use mathlib.Core.Path.{_≡_}
 use mathlib.Core.Bool.{Bool, true, false}
 use mathlib.Core.List.{List, _++_}
 use lib.ListN.{length, drop}
-use Rattle.rules.specs.Lists.{product}
+use Rattle.rules.specs.Lists.{flat, product, ascending}
 use Rattle.rules.specs.Mesh.{devices, OnMesh}
 use Rattle.rules.specs.Sharding.{Sharding, shardSizes, IsSharding}
 use Rattle.rules.specs.Spread.{tabulate, held}
-use Rattle.rules.specs.Collectives.{Step, shapeAfter, sources, made}
+use Rattle.rules.specs.Collectives.{Step, allSlice, allGather, allReduce, allToAll, reduceScatter, shapeAfter, sources, made, Shards, stepped, withShards}
 use Rattle.rules.specs.Limits.{mostDims, mostWords}
 use Rattle.rules.specs.Refusals.{accept}
 use Rattle.rules.specs.PlanFile.{judgeStep}
-use Rattle.rules.specs.declared.Kind.{Kind}
-use Rattle.rules.specs.declared.Kind.the-variants.{AllSlice, AllGather, AllReduce, AllToAll, Unknown}
+use Rattle.types.specs.declared.Kind.{Kind}
+use Rattle.types.specs.declared.Kind.the-variants.{AllSlice, AllGather, AllReduce, AllToAll, ReduceScatter, Unknown}
 
 -- a step that was accepted of a sharding of a table within the limits, and buffers with room for the old state and for the new one
 pub record Stepping (mesh shape : List ℕ) (t : Step) (words old new : ℕ) : Type 0 where
@@ -47,4 +47,22 @@ inPlace AllSlice = false
 inPlace AllGather = false
 inPlace AllReduce = true
 inPlace AllToAll = false
+inPlace ReduceScatter = false
 inPlace Unknown = true
+
+-- What stands in the buffer of the old state where the new one stands in the other: a reduce-scatter has summed there, every other step has only read.
+abbrev pub spentBuffer : {W : Type 0} → (List W → W) → W → (mesh shape : List ℕ) → Step → List W → List W
+spentBuffer addAll z mesh shape (allSlice Ss) old = old
+spentBuffer addAll z mesh shape (allGather Gs) old = old
+spentBuffer addAll z mesh shape (allReduce L) old = old
+spentBuffer addAll z mesh shape (allToAll source target L) old = old
+spentBuffer addAll z mesh shape (reduceScatter Ss) old =
+    steppedBuffer addAll z mesh shape (allReduce (ascending (length mesh) (flat Ss))) (product shape) old old
+
+-- the same of any shards that stood in it
+abbrev pub spentShards : {W : Type 0} → (List W → W) → (mesh : List ℕ) → Step → Shards W → List W → List W
+spentShards addAll mesh (allSlice Ss) v old = old
+spentShards addAll mesh (allGather Gs) v old = old
+spentShards addAll mesh (allReduce L) v old = old
+spentShards addAll mesh (allToAll source target L) v old = old
+spentShards addAll mesh (reduceScatter Ss) v old = withShards mesh (stepped addAll mesh (allReduce (ascending (length mesh) (flat Ss))) v) old

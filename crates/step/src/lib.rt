@@ -1,18 +1,21 @@
 // One step of a plan: from the words of the old state to those of the new one, by the step's kind. A reduction keeps the shape of the shards and is
-// done in place; a step that moves words goes over to another buffer. specs/Stepping.antt says what a step asks for and leaves.
+// done in place; a step that moves words goes over to another buffer; a reduce-scatter is the one and then the other. specs/Stepping.antt says what a
+// step asks for and leaves.
 ghost use mathlib.Core.Path.{_≡_};
-ghost use lib.ListN.{length};
+ghost use lib.ListN.{length, take};
 ghost use Rattle.rules.specs.Lists.{pick};
 ghost use Rattle.rules.specs.Spread.{addWords};
-ghost use Rattle.rules.specs.Types.{axesOf, stepOf};
+ghost use Rattle.rules.specs.Collectives.{reduceScatter};
+ghost use Rattle.types.specs.Types.{axesOf, dimsOf, stepOf};
 ghost use Rattle.sums.specs.Sums.{Reducing, reducedBuffer};
-ghost use Rattle.step.specs.Stepping.{Stepping, steppedBuffer, inPlace};
+ghost use Rattle.step.specs.Stepping.{Stepping, steppedBuffer, spentBuffer, inPlace};
+use dims::ascending;
 use moves::move_into;
-use rules::AxisList;
-use rules::DimLists;
-use rules::Kind;
-use rules::Step;
 use sums::reduce_in;
+use types::AxisList;
+use types::DimLists;
+use types::Kind;
+use types::Step;
 
 // Whether a step of this kind leaves the new state in the buffer of the old one.
 pub fn in_place(kind: Kind) -> bool
@@ -23,6 +26,7 @@ pub fn in_place(kind: Kind) -> bool
         Kind::AllGather => false,
         Kind::AllReduce => true,
         Kind::AllToAll => false,
+        Kind::ReduceScatter => false,
         Kind::Unknown => true,
     }
 }
@@ -36,8 +40,29 @@ fn reduce_here(here: &mut [u32], there: &mut [u32], mesh: &[u16], shape: &[u16],
     reduce_in(here, mesh, shape, axes);
 }
 
+// Reduce-scatter: summed in the buffer of the old state, by increasing axes, and sliced from there. The state between needs no room of its own.
+fn scatter(
+    here: &mut [u32],
+    there: &mut [u32],
+    mesh: &[u16],
+    shape: &[u16],
+    lists: DimLists,
+    words: usize,
+)
+    requires { ⌜ Stepping (now mesh) (now shape) (reduceScatter (take (length (now shape)) (dimsOf lists))) words (length (now here)) (length (now there)) ⌝ }
+    ensures { λ _. ⌜ now (here .exit) ≡ spentBuffer addWords 0 (now (mesh .entry)) (now (shape .entry))
+        (reduceScatter (take (length (now (shape .entry))) (dimsOf lists))) (now (here .entry)) ⌝ }
+    ensures { λ _. ⌜ now (there .exit) ≡ steppedBuffer addWords 0 (now (mesh .entry)) (now (shape .entry))
+        (reduceScatter (take (length (now (shape .entry))) (dimsOf lists))) words (now (here .entry)) (now (there .entry)) ⌝ }
+{
+    let none = DimLists::empty();
+    let along = ascending(lists, shape.len(), mesh.len());
+    reduce_in(here, mesh, shape, along);
+    move_into(here, there, mesh, shape, none, lists, words);
+}
+
 // From the state at the front of here, the new one, of shards of the given words: at the front of here where the step is done in place, else at the
-// front of there. The other words of that buffer stay, and so does the other buffer.
+// front of there. The other words of that buffer stay. So does the other buffer, but that a reduce-scatter leaves its sums in here.
 pub fn step_from(
     here: &mut [u32],
     there: &mut [u32],
@@ -48,7 +73,8 @@ pub fn step_from(
 )
     requires { ⌜ Stepping (now mesh) (now shape) (stepOf (length (now shape)) step) words (length (now here)) (length (now there)) ⌝ }
     ensures { λ _. ⌜ now (here .exit) ≡ pick (inPlace (step .kind)) (steppedBuffer addWords 0 (now (mesh .entry)) (now (shape .entry))
-        (stepOf (length (now (shape .entry))) step) words (now (here .entry)) (now (here .entry))) (now (here .entry)) ⌝ }
+        (stepOf (length (now (shape .entry))) step) words (now (here .entry)) (now (here .entry)))
+        (spentBuffer addWords 0 (now (mesh .entry)) (now (shape .entry)) (stepOf (length (now (shape .entry))) step) (now (here .entry))) ⌝ }
     ensures { λ _. ⌜ now (there .exit) ≡ pick (inPlace (step .kind)) (now (there .entry)) (steppedBuffer addWords 0 (now (mesh .entry)) (now (shape .entry))
         (stepOf (length (now (shape .entry))) step) words (now (here .entry)) (now (there .entry))) ⌝ }
 {
@@ -65,6 +91,7 @@ pub fn step_from(
             let on = none.with(step.target, list);
             move_into(here, there, mesh, shape, off, on, words)
         }
+        Kind::ReduceScatter => scatter(here, there, mesh, shape, lists, words),
         Kind::Unknown => reduce_here(here, there, mesh, shape, AxisList::empty()),
     }
 }

@@ -4,27 +4,14 @@ use Prim.Native.Nat.{ℕ, suc, _+_, _*_, _/_, _%_, _≤_, _<_, _-_}
 use mathlib.Core.Path.{_≡_, refl, ap, _∙_}
 use mathlib.Core.Logic.{_≢_}
 use mathlib.Core.List.{List, [], _∷_}
-use native.Mathlib.Nat.{
-  add-zero,
-  add-assoc,
-  zero-mul,
-  mul-one,
-  one-mul,
-  suc-mul,
-  div-one,
-  mod-one,
-  zero-div,
-  zero-mod,
-  mul-le-mul-right,
-  le-mul-of-pos-right,
-}
+use native.Mathlib.Nat.{add-zero, add-assoc, zero-mul, mul-one, one-mul, suc-mul, div-one, mod-one, zero-div, zero-mod, mul-le-mul-right, le-mul-of-pos-right}
 use native.Mathlib.Omega.{arith}
 use lib.ListN.{length, getD, take, drop}
 use lib.Arith.{digits-div, digits-mod}
 use Rattle.rules.specs.Lists.{tab}
-use Rattle.rules.proofs.Lists.{tab-cong}
-use Rattle.rules.proofs.Positions.{pos-of-lt}
-use Rattle.rules.proofs.Fronts.{part-tab}
+use Rattle.laws.proofs.Lists.{tab-cong}
+use Rattle.laws.proofs.Positions.{pos-of-lt}
+use Rattle.laws.proofs.Fronts.{part-tab}
 use Rattle.strided.specs.Strided.{offset, Nested, Row, Rows, Counts, Copy, row, rows, copied}
 
 -- ---- one digit

@@ -28,11 +28,11 @@ use Rattle.rules.specs.Lists.{tab, product, In, Distinct, Below}
 use Rattle.rules.specs.Mesh.{number, coords, span, position, member, members, remaining, IsGroup}
 use Rattle.rules.specs.Spread.{tabulate, held}
 use Rattle.rules.specs.Collectives.{Place, made, reducePlaces, word}
-use Rattle.rules.proofs.Lists.{length-tab, getD-tab, tab-cong, map-tab}
-use Rattle.rules.proofs.Positions.{div-lt, pos-of-lt, span-append, below-member}
-use Rattle.rules.proofs.Buffers.{number-lt, coords-number, below-coords, number-coords}
-use Rattle.rules.proofs.Groups.{group-by-position, span-remaining}
-use Rattle.rules.proofs.Fronts.{part-in}
+use Rattle.laws.proofs.Lists.{length-tab, getD-tab, tab-cong, map-tab}
+use Rattle.laws.proofs.Positions.{div-lt, pos-of-lt, span-append, below-member}
+use Rattle.laws.proofs.Buffers.{number-lt, coords-number, below-coords, number-coords}
+use Rattle.laws.proofs.Groups.{group-by-position, span-remaining}
+use Rattle.laws.proofs.Fronts.{part-in}
 use Rattle.strided.specs.Strided.{offset, mostPlaces, Counts}
 use Rattle.digits.specs.Digits.{mostRoom, meshStrides, dot, cleared, axisDigits, meshDigits, HasStrides}
 use Rattle.digits.proofs.Strides.{

@@ -5,7 +5,7 @@ use digits::axis_digits;
 use digits::fill_strides;
 use digits::mesh_digits;
 use mesh::product_from;
-use rules;
+use types;
 ghost use mathlib.Core.Path.{_≡_};
 ghost use mathlib.Core.List.{[], _++_};
 ghost use Prim.Native.Nat.{_+_, _*_, _%_, _^_, _≤_, _<_};
@@ -13,14 +13,14 @@ ghost use lib.ListN.{length, getD, take, drop};
 ghost use Rattle.rules.specs.Lists.{tab, product};
 ghost use Rattle.rules.specs.Mesh.{span};
 ghost use Rattle.rules.specs.Spread.{addWords};
-ghost use Rattle.rules.specs.Types.{axesOf};
+ghost use Rattle.types.specs.Types.{axesOf};
 ghost use Rattle.strided.specs.Strided.{offset, mostPlaces, Counts};
 ghost use Rattle.digits.specs.Digits.{cleared, axisDigits, meshDigits};
 ghost use Rattle.sums.specs.Sums.{written, partWord, groupWord, reducedWord, reducedBuffer, firstWords, shiftWords};
 ghost use Rattle.sums.specs.Sums.{Behind, Group, Shared, Groups, Shifting, Firsts, Tables, Reducing};
 
 // The numbers of the digits of a group's axes, or of all devices.
-const ROOM: usize = 3 * rules::Axis::MOST;
+const ROOM: usize = 3 * types::Axis::MOST;
 
 // A group of so many members is reduced in blocks of words, and the words of each shard in a block.
 const MANY: usize = 32;
@@ -190,7 +190,7 @@ fn list_shifts(
     shifts: &mut [usize],
     strides: &mut [usize],
     mesh: &[u16],
-    axes: rules::AxisList,
+    axes: types::AxisList,
 ) -> usize
     requires { ⌜ Shifting (now shifts) (now strides) (now mesh) (axesOf axes) ⌝ }
     ensures { λ r. ⌜ r ≡ span (now (mesh .entry)) (axesOf axes) ⌝ }
@@ -221,7 +221,7 @@ fn fill_tables(
     shifts: &mut [usize],
     strides: &mut [usize],
     mesh: &[u16],
-    axes: rules::AxisList,
+    axes: types::AxisList,
     m: usize,
 ) -> usize
     requires { ⌜ Tables (now firsts) (now shifts) (now strides) (now mesh) (axesOf axes) m ⌝ }
@@ -242,7 +242,7 @@ fn sum_with(
     shifts: &mut [usize],
     strides: &mut [usize],
     mesh: &[u16],
-    axes: rules::AxisList,
+    axes: types::AxisList,
     m: usize,
 )
     requires { ⌜ Tables (now firsts) (now shifts) (now strides) (now mesh) (axesOf axes) m ⌝ }
@@ -256,16 +256,16 @@ fn sum_with(
 }
 
 // All-reduce: the new state at the front of words, in place of the old one; the other words stay.
-pub fn reduce_in(words: &mut [u32], mesh: &[u16], shape: &[u16], axes: rules::AxisList)
+pub fn reduce_in(words: &mut [u32], mesh: &[u16], shape: &[u16], axes: types::AxisList)
     requires { ⌜ Reducing (now mesh) (now shape) (axesOf axes) (length (now words)) ⌝ }
     ensures { λ _. ⌜ now (words .exit) ≡ reducedBuffer addWords 0 (now (mesh .entry)) (now (shape .entry)) (axesOf axes) (now (words .entry)) ⌝ }
 {
     let m = product_from(shape, 0);
     let count = product_from(mesh, 0);
     let n = mesh.len();
-    let mut strides = [0usize; rules::Axis::MOST];
-    let mut firsts = [0usize; rules::Device::MOST];
-    let mut shifts = [0usize; rules::Device::MOST];
+    let mut strides = [0usize; types::Axis::MOST];
+    let mut firsts = [0usize; types::Device::MOST];
+    let mut shifts = [0usize; types::Device::MOST];
     sum_with(
         words,
         &mut firsts[0..count],

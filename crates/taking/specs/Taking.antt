@@ -6,7 +6,7 @@ use Rattle.rules.specs.Sharding.{Sharding}
 use Rattle.rules.specs.Collectives.{Step}
 use Rattle.rules.specs.Refusals.{Judged, accept, _>>=_}
 use Rattle.rules.specs.PlanFile.{Read, stepAt, judgeStep}
-use Rattle.rules.specs.Types.{shardingOf, stepOf}
+use Rattle.types.specs.Types.{shardingOf, stepOf}
 use Rattle.reader.specs.Reading.{reading, Tells, noStep}
 use Rattle.taking.specs.declared.Taken.{Taken}
 

@@ -3,26 +3,26 @@ ghost use mathlib.Core.Path.{_≡_};
 ghost use Prim.Native.Nat.{ℕ, max};
 ghost use lib.ListN.{take};
 ghost use Rattle.rules.specs.Lists.{product};
-ghost use Rattle.rules.specs.Refusals.{refusedAs};
+ghost use Rattle.types.specs.Answers.{refusedAs};
 ghost use Rattle.rules.specs.Sharding.{shardSizes};
-ghost use Rattle.rules.specs.Types.{dimsOf, shardingOf, meshOf, sizesOf};
+ghost use Rattle.types.specs.Types.{dimsOf, shardingOf, meshOf, sizesOf};
 ghost use Rattle.judge.specs.Step.{Sharded};
 ghost use Rattle.taking.specs.Taking.{takeStep, TakenTells};
 use dims::span_dims;
 use judge::judge_step;
 use reader::Next;
 use reader::read_step;
-use rules::AxisList;
-use rules::Dim;
-use rules::DimLists;
-use rules::Kind;
-use rules::Mesh;
-use rules::Refusal;
-use rules::Sharding;
-use rules::Step;
-use rules::Table;
 use start::Verdict;
 use start::refusal_of;
+use types::AxisList;
+use types::Dim;
+use types::DimLists;
+use types::Kind;
+use types::Mesh;
+use types::Refusal;
+use types::Sharding;
+use types::Step;
+use types::Table;
 
 // A step that was read and judged, the sharding after it, and where the next byte is.
 pub struct Taken {

@@ -6,11 +6,12 @@ use borrow.Author.Tests.{le-leb, lt-leb}
 use lib.ListN.{length, take, drop}
 use lib.Seq.{take-at, drop-at}
 use Rattle.rules.specs.Limits.{mostBytes}
-use Rattle.rules.specs.Refusals.{Judged, accept, refuse, refusedAs}
+use Rattle.rules.specs.Refusals.{Judged, accept, refuse}
+use Rattle.types.specs.Answers.{refusedAs}
 use Rattle.rules.specs.PlanFile.{Plan, judge}
-use Rattle.rules.specs.declared.Refusal.{Refusal}
-use Rattle.rules.specs.declared.Sharding as code
-use Rattle.rules.proofs.Judging.{never, then-inv}
+use Rattle.types.specs.declared.Refusal.{Refusal}
+use Rattle.types.specs.declared.Sharding as code
+use Rattle.laws.proofs.Judging.{never, then-inv}
 use Rattle.start.specs.Start.{meaning}
 use Rattle.start.specs.declared.Verdict.{Verdict}
 use Rattle.start.specs.declared.Verdict.the-variants as verdict

@@ -1,18 +1,19 @@
 // The writer: a plan given as records, judged and written into a lent buffer, as records/specs/Writing.antt defines it;
 // records/specs/Promises.antt is its promise.
 ghost use mathlib.Core.Path.{_≡_};
-ghost use Rattle.rules.specs.Refusals.{refuse, numberOf};
+ghost use Rattle.rules.specs.Refusals.{refuse};
+ghost use Rattle.types.specs.Answers.{numberOf};
 ghost use Rattle.records.specs.Promises.{writeMeaning, WritePromise};
 use encode::file_length;
 use encode::put_file;
 use given::judge_records;
 use records::WriteOutcome;
-use rules::PlanFile;
-use rules::Reason;
-use rules::Refusal;
-use rules::Sharding;
 use start::Verdict;
 use start::refusal_of;
+use types::PlanFile;
+use types::Reason;
+use types::Refusal;
+use types::Sharding;
 
 // A refusal outside the steps.
 fn refused(reason: Reason) -> WriteOutcome

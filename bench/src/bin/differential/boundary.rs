@@ -2,8 +2,10 @@
 //! they differ. What is given has any bytes in such places.
 
 use super::shown;
-use bench::answers::{Checked, Device, Placed, Refusal, MOST_AXES, MOST_RANK};
-use bench::library::{raw, RawChecked, RawOpened, RawPlaced, RawPlanned, RawSharding, RawWritten};
+use bench::answers::{Checked, Device, NotPlaced, Placed, Refusal, MOST_AXES, MOST_RANK};
+use bench::library::{
+    raw, RawChecked, RawOpened, RawPlaced, RawPlacedAll, RawPlanned, RawSharding, RawWritten,
+};
 use bench::random::Random;
 use bench::records::{
     MeshAndTable, Opened, Records, ShardingRecord, StepRecord, RECORD_BYTES, RECORD_LISTS,
@@ -68,6 +70,17 @@ impl Boundary {
         answer: Result<Placed, Refusal>,
     ) -> Option<String> {
         shown(&RawPlaced::from(answer), &raw::place(file, state, device))
+    }
+
+    pub fn place_all(
+        self,
+        (file, state, devices): (&[u8], u16, &[Device]),
+        before: &[u16],
+        (answer, after): (Result<(), NotPlaced>, &[u16]),
+    ) -> Option<String> {
+        let mut first = before.to_vec();
+        let placed = raw::place_all(file, state, devices, &mut first);
+        shown(&(RawPlacedAll::from(answer), after), &(placed, &first))
     }
 
     /// With any bytes in the places that are not used, and some after the last record.

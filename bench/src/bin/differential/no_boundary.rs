@@ -1,6 +1,6 @@
 //! The same where there is no library: nothing differs.
 
-use bench::answers::{Checked, Device, Placed, Refusal};
+use bench::answers::{Checked, Device, NotPlaced, Placed, Refusal};
 use bench::random::Random;
 use bench::records::{MeshAndTable, Opened, Records, ShardingRecord, StepRecord};
 
@@ -12,6 +12,15 @@ impl Boundary {
     }
 
     pub fn place(self, _: &[u8], _: u16, _: Device, _: Result<Placed, Refusal>) -> Option<String> {
+        None
+    }
+
+    pub fn place_all(
+        self,
+        _: (&[u8], u16, &[Device]),
+        _: &[u16],
+        _: (Result<(), NotPlaced>, &[u16]),
+    ) -> Option<String> {
         None
     }
 

@@ -45,11 +45,10 @@ impl Tally {
             ("read", &reads, &self.refused_reads),
             ("plan", &PLAN_REFUSALS, &self.refused_plans),
         ];
-        let not_met = |(call, numbers, met): (&str, &[u8], &Met)| -> Vec<String> {
-            let missing = numbers.iter().filter(|number| !met.0.contains_key(number));
-            missing.map(|number| format!("{call} {number}")).collect()
-        };
-        calls.into_iter().flat_map(not_met).collect()
+        calls
+            .into_iter()
+            .flat_map(|(call, numbers, met): (&str, &[u8], &Met)| met.missing(call, numbers))
+            .collect()
     }
 }
 

@@ -3,7 +3,7 @@ use Prim.Native.Nat.{_-_}
 use mathlib.Core.Path.{sym, _∙_}
 use borrow.Author.Tests.{lt-ltb, le-ltb}
 use Rattle.rules.specs.PlanFile.{allBelow}
-use Rattle.rules.specs.Types.{axesOf}
+use Rattle.types.specs.Types.{axesOf}
 use Rattle.axes.proofs.Going.{Going, begin, ahead, onward, finish}
 use Rattle.axes.proofs.all_below.Statement.{statement}
 use Rattle.axes.proofs.all_below.Tie as tie

@@ -4,7 +4,7 @@ use mathlib.Core.List.{List}
 use mathlib.Core.Path.{sym, _∙_}
 use borrow.Author.Tests.{not-true, not-false}
 use Rattle.rules.specs.PlanFile.{allIn}
-use Rattle.rules.specs.Types.{axesOf}
+use Rattle.types.specs.Types.{axesOf}
 use Rattle.axes.proofs.Going.{Going, begin, ahead, onward, finish}
 use Rattle.axes.proofs.all_in.Statement.{statement}
 use Rattle.axes.proofs.all_in.Tie as tie

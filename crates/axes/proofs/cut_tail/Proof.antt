@@ -2,8 +2,8 @@ use borrow.Author.Needs.{needs}
 use native.Mathlib.Omega.{arith}
 use mathlib.Core.Path.{refl}
 use lib.ListN.{length-map}
-use Rattle.rules.specs.Types.{axesOf}
-use Rattle.rules.proofs.Types.{axes-length}
+use Rattle.types.specs.Types.{axesOf}
+use Rattle.types.proofs.Types.{axes-length}
 use Rattle.axes.proofs.Lists.{cut-counted}
 use Rattle.axes.proofs.cut_tail.Statement.{statement}
 use Rattle.axes.proofs.cut_tail.Tie as tie

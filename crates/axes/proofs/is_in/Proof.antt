@@ -3,7 +3,7 @@ use Prim.Native.Nat.{_-_}
 use mathlib.Core.Path.{sym, _∙_}
 use borrow.Author.Tests.{eq-eqb, ne-eqb}
 use Rattle.rules.specs.Lists.{mem}
-use Rattle.rules.specs.Types.{axesOf}
+use Rattle.types.specs.Types.{axesOf}
 use Rattle.axes.proofs.Going.{Going, begin, ahead, onward, finish}
 use Rattle.axes.proofs.is_in.Statement.{statement}
 use Rattle.axes.proofs.is_in.Tie as tie

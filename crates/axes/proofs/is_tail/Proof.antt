@@ -2,7 +2,7 @@ use borrow.Author.Needs.{needs}
 use native.Mathlib.Omega.{arith}
 use Prim.Native.Nat.{_-_}
 use mathlib.Core.Path.{sym}
-use Rattle.rules.specs.Types.{axesOf}
+use Rattle.types.specs.Types.{axesOf}
 use Rattle.axes.proofs.Lists.{too-long, Tailing, tailing, differ, agree, all-agree}
 use Rattle.axes.proofs.is_tail.Statement.{statement}
 use Rattle.axes.proofs.is_tail.Tie as tie

@@ -5,7 +5,7 @@ use mathlib.Core.List.{List, [], _∷_, _++_, append-nil, append-assoc}
 use mathlib.Core.Path.{refl, sym, ap, _∙_}
 use lib.ListN.{length, length-append}
 use Rattle.rules.specs.Limits.{mostAxes}
-use Rattle.rules.specs.Types.{axesOf}
+use Rattle.types.specs.Types.{axesOf}
 use Rattle.axes.proofs.Going.{Going, begin, onward, finish}
 use Rattle.axes.proofs.join.Statement.{statement}
 use Rattle.axes.proofs.join.Tie as tie

@@ -2,7 +2,7 @@ use borrow.Author.Needs.{needs}
 use Prim.Native.Nat.{_-_}
 use mathlib.Core.Path.{_≡_, refl, sym, _∙_}
 use lib.ListN.{length}
-use Rattle.rules.specs.Types.{axesOf}
+use Rattle.types.specs.Types.{axesOf}
 use Rattle.axes.specs.Marks.{marksWith}
 use Rattle.axes.proofs.Going.{Going, begin, onward, finish}
 use Rattle.axes.proofs.mark_list.Statement.{statement}

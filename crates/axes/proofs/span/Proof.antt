@@ -7,8 +7,8 @@ use native.Mathlib.Nat.{mul-one, mul-assoc}
 use lib.ListN.{length-map}
 use Rattle.rules.specs.Limits.{mostAxes, mostDevices}
 use Rattle.rules.specs.Mesh.{span as spanOf}
-use Rattle.rules.specs.Types.{axesOf, meshOf}
-use Rattle.rules.proofs.Types.{axes-length}
+use Rattle.types.specs.Types.{axesOf, meshOf}
+use Rattle.types.proofs.Types.{axes-length}
 use Rattle.axes.proofs.Going.{Going, onward, finish}
 use Rattle.axes.proofs.Lists.{grown, small}
 use Rattle.axes.proofs.span.Statement.{statement}

@@ -5,7 +5,7 @@ use native.Mathlib.Omega.{arith}
 use Prim.Native.Nat.{ℕ, _<_, _+_, _-_}
 use mathlib.Core.Path.{refl, sym, ap, _∙_}
 use lib.ListN.{length}
-use Rattle.rules.specs.Types.{shardingOf, meshOf, sizesOf}
+use Rattle.types.specs.Types.{shardingOf, meshOf, sizesOf}
 use Rattle.reader.proofs.Answers.{read-on, read-stopped, retold}
 use Rattle.reader.proofs.Next.refusal.Reads as Next-refusal-reads
 use Rattle.blocks.specs.Blocks.{summarized}

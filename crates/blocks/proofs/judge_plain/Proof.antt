@@ -2,7 +2,7 @@ use borrow.Author.Needs.{needs}
 use native.Mathlib.Omega.{arith}
 use Prim.Native.Nat.{max}
 use mathlib.Core.Path.{sym, ap, _∙_}
-use Rattle.rules.specs.Types.{meshOf, sizesOf}
+use Rattle.types.specs.Types.{meshOf, sizesOf}
 use Rattle.reader.proofs.Answers.{read-on, read-stopped, is-told, retold}
 use Rattle.taking.proofs.Takes.{sharded-after}
 use Rattle.blocks.proofs.Plain.{plain-stops, plain-is}

@@ -6,7 +6,7 @@ use mathlib.Core.Path.{sym, _∙_}
 use borrow.Author.Tests.{not-true, not-false}
 use lib.ListN.{length-map, take}
 use Rattle.rules.specs.PlanFile.{same}
-use Rattle.rules.specs.Types.{dimsOf}
+use Rattle.types.specs.Types.{dimsOf}
 use Rattle.dims.proofs.Pairs.{Testing, testing, fails, passes, tested}
 use Rattle.dims.proofs.Dims.{dims-length, list-at}
 use Rattle.blocks.proofs.same_lists.Statement.{statement}

@@ -1,7 +1,7 @@
 use borrow.Author.Needs.{needs}
 use borrow.Author.Tests.{not-true, not-false}
 use mathlib.Core.Path.{sym, _∙_}
-use Rattle.rules.specs.Types.{shardingOf}
+use Rattle.types.specs.Types.{shardingOf}
 use Rattle.blocks.proofs.Same.{dims-differ, unreduced-differ, replicated-decides}
 use Rattle.blocks.proofs.same_sharding.Statement.{statement}
 use Rattle.blocks.proofs.same_sharding.Tie as tie

@@ -1,6 +1,6 @@
 use borrow.Author.Needs.{needs}
 use mathlib.Core.Path.{sym, ap, _∙_}
-use Rattle.rules.specs.Calls.{groupsMeaning}
+use Rattle.types.specs.Answers.{groupsMeaning}
 use Rattle.capi.specs.Boundary.{refusalCode}
 use Rattle.capi.proofs.ishkrela_groups.Statement.{statement}
 use Rattle.capi.proofs.ishkrela_groups.Tie as tie

@@ -1,6 +1,6 @@
 use borrow.Author.Needs.{needs}
 use mathlib.Core.Path.{sym, ap, _∙_}
-use Rattle.rules.specs.Calls.{runMeaning}
+use Rattle.types.specs.Answers.{runMeaning}
 use Rattle.capi.specs.Boundary.{refusalCode}
 use Rattle.capi.proofs.ishkrela_run.Statement.{statement}
 use Rattle.capi.proofs.ishkrela_run.Tie as tie

@@ -1,7 +1,7 @@
 use borrow.Author.Needs.{needs}
 use native.Mathlib.Omega.{arith}
 use lib.ListN.{length-map}
-use Rattle.rules.proofs.Types.{axes-length}
+use Rattle.types.proofs.Types.{axes-length}
 use Rattle.decode.proofs.count_of.Statement.{statement}
 use Rattle.decode.proofs.count_of.Tie as tie
 

@@ -1,7 +1,7 @@
 use borrow.Author.Needs.{needs}
 use native.Mathlib.Omega.{arith}
 use lib.ListN.{take}
-use Rattle.rules.specs.Types.{axesOf, dimsOf}
+use Rattle.types.specs.Types.{axesOf, dimsOf}
 use Rattle.decode.proofs.Forms.{axes-put}
 use Rattle.decode.proofs.put_axes.Statement.{statement}
 use Rattle.decode.proofs.put_axes.Tie as tie

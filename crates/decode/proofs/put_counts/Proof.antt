@@ -1,7 +1,7 @@
 use borrow.Author.Needs.{needs}
 use mathlib.Core.Path.{ap, _∙_}
 use lib.ListN.{length, take}
-use Rattle.rules.specs.Types.{axesOf, dimsOf}
+use Rattle.types.specs.Types.{axesOf, dimsOf}
 use Rattle.encode.proofs.Puts.{put-both}
 use Rattle.decode.proofs.Forms.{counts-put}
 use Rattle.decode.proofs.put_counts.Statement.{statement}

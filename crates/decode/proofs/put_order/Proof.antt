@@ -7,7 +7,7 @@ use lib.ListN.{drop}
 use denote.Ref.{now}
 use Rattle.rules.specs.Lists.{tab}
 use Rattle.rules.specs.PlanFile.{u16At}
-use Rattle.rules.proofs.Fronts.{lent-length, lent-put}
+use Rattle.laws.proofs.Fronts.{lent-length, lent-put}
 use Rattle.decode.proofs.put_order.Statement.{statement}
 use Rattle.decode.proofs.put_order.Tie as tie
 

@@ -1,5 +1,5 @@
 use borrow.Author.Needs.{needs}
-use Rattle.rules.specs.Types.{axesOf}
+use Rattle.types.specs.Types.{axesOf}
 use Rattle.encode.proofs.Puts.{put-both}
 use Rattle.decode.proofs.Forms.{places-put}
 use Rattle.decode.proofs.put_places.Statement.{statement}

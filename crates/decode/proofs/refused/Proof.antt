@@ -1,8 +1,8 @@
 use borrow.Author.Needs.{needs}
 use mathlib.Core.Path.{sym}
 use mathlib.Core.List.{[]}
-use Rattle.rules.specs.Types.{fourPlaces}
-use Rattle.rules.proofs.Refusals.{refusal-told}
+use Rattle.types.specs.Types.{fourPlaces}
+use Rattle.types.proofs.Refusals.{refusal-told}
 use Rattle.records.specs.Forms.{sixPlaces}
 use Rattle.records.specs.declared.ReadOutcome.the-variants as outcome
 use Rattle.decode.proofs.refused.Statement.{statement}

@@ -6,8 +6,8 @@ use mathlib.Core.Path.{_≡_, refl, sym, ap, _∙_}
 use lib.ListN.{length, getD, set, length-set, take-append-drop}
 use lib.Seq.{drop-length}
 use denote.Ref.{now}
-use Rattle.rules.specs.Types.{axesOf}
-use Rattle.rules.proofs.Lists.{at-in}
+use Rattle.types.specs.Types.{axesOf}
+use Rattle.laws.proofs.Lists.{at-in}
 use Rattle.mesh.proofs.Sizes.{span-less, group-pos}
 use Rattle.digits.specs.Digits.{mostRoom}
 use Rattle.digits.proofs.Loops.{AxesAt, axes-step}

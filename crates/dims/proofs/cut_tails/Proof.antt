@@ -5,7 +5,7 @@ use mathlib.Core.List.{[]}
 use mathlib.Core.Path.{_≡_, refl}
 use lib.ListN.{length-map, take, drop}
 use Rattle.rules.specs.Collectives.{cutTail}
-use Rattle.rules.specs.Types.{axesOf, dimsOf}
+use Rattle.types.specs.Types.{axesOf, dimsOf}
 use Rattle.dims.proofs.Pairs.{Making, making, makes, all-made, past-stays}
 use Rattle.dims.proofs.Dims.{dims-length, list-at}
 use Rattle.dims.proofs.cut_tails.Statement.{statement}

@@ -1,7 +1,7 @@
 use borrow.Author.Needs.{needs}
 use mathlib.Core.Path.{ap, _∙_}
 use mathlib.Core.List.{[], _∷_}
-use Rattle.rules.specs.Types.{listFrom, listsFrom}
+use Rattle.types.specs.Types.{listFrom, listsFrom}
 use Rattle.dims.proofs.dims_within.Statement.{statement}
 use Rattle.dims.proofs.dims_within.Tie as tie
 

@@ -8,7 +8,7 @@ use lib.Dec.{eqb}
 use lib.ListN.{length-map, take}
 use lib.Seq.{getD-take, length-take-le}
 use Rattle.rules.specs.Mesh.{span as spanOf}
-use Rattle.rules.specs.Types.{axesOf, dimsOf, meshOf, sizesOf}
+use Rattle.types.specs.Types.{axesOf, dimsOf, meshOf, sizesOf}
 use Rattle.dims.proofs.Pairs.{Testing, testing, fails, passes, tested}
 use Rattle.dims.proofs.Dims.{dims-length, list-at, span-least}
 use Rattle.dims.proofs.divisible.Statement.{statement}

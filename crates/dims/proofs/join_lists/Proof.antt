@@ -4,7 +4,7 @@ use Prim.Native.Nat.{_-_}
 use mathlib.Core.List.{[], _++_}
 use mathlib.Core.Path.{_≡_, refl, ap}
 use lib.ListN.{length, length-map, take, drop}
-use Rattle.rules.specs.Types.{axesOf, dimsOf}
+use Rattle.types.specs.Types.{axesOf, dimsOf}
 use Rattle.dims.proofs.Pairs.{Making, making, makes, all-made, past-stays}
 use Rattle.dims.proofs.Dims.{dims-length, list-at}
 use Rattle.dims.proofs.join_lists.Statement.{statement}

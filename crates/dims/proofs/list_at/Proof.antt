@@ -2,7 +2,7 @@ use borrow.Author.Needs.{needs}
 use native.Mathlib.Omega.{arith}
 use mathlib.Core.Path.{sym, _∙_}
 use mathlib.Core.List.{[]}
-use Rattle.rules.specs.Types.{dimsOf}
+use Rattle.types.specs.Types.{dimsOf}
 use Rattle.dims.proofs.Dims.{list-at, none-past}
 use Rattle.dims.proofs.list_at.Statement.{statement}
 use Rattle.dims.proofs.list_at.Tie as tie

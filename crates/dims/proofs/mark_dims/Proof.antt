@@ -5,7 +5,7 @@ use mathlib.Core.List.{List, []}
 use mathlib.Core.Path.{_≡_, refl, sym, _∙_}
 use lib.ListN.{length, length-map, take}
 use Rattle.rules.specs.Lists.{flat}
-use Rattle.rules.specs.Types.{axesOf, dimsOf}
+use Rattle.types.specs.Types.{axesOf, dimsOf}
 use Rattle.axes.specs.Marks.{marksWith}
 use Rattle.axes.proofs.Going.{Going, begin, onward, finish}
 use Rattle.axes.proofs.Naming.{with-append}

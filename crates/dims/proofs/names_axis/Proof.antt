@@ -6,7 +6,7 @@ use mathlib.Core.Path.{sym, _∙_}
 use lib.ListN.{length-map, take}
 use Rattle.rules.specs.Lists.{flat}
 use Rattle.rules.specs.PlanFile.{some}
-use Rattle.rules.specs.Types.{axesOf, dimsOf}
+use Rattle.types.specs.Types.{axesOf, dimsOf}
 use Rattle.axes.proofs.Going.{Going, begin, ahead, onward, finish}
 use Rattle.dims.proofs.Dims.{dims-length, list-at, some-here, some-later}
 use Rattle.dims.proofs.names_axis.Statement.{statement}

@@ -7,7 +7,7 @@ use borrow.Author.Tests.{not-true, not-false}
 use lib.ListN.{length-map, take}
 use Rattle.rules.specs.Lists.{flat}
 use Rattle.rules.specs.PlanFile.{allBelow}
-use Rattle.rules.specs.Types.{axesOf, dimsOf}
+use Rattle.types.specs.Types.{axesOf, dimsOf}
 use Rattle.axes.proofs.Going.{Going, begin, ahead, onward, finish}
 use Rattle.dims.proofs.Dims.{dims-length, list-at, below-append}
 use Rattle.dims.proofs.names_below.Statement.{statement}

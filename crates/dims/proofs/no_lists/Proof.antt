@@ -1,7 +1,7 @@
 use borrow.Author.Needs.{needs}
 use mathlib.Core.Path.{_∙_}
 use mathlib.Core.List.{[]}
-use Rattle.rules.specs.Types.{shardingFrom}
+use Rattle.types.specs.Types.{shardingFrom}
 use Rattle.dims.proofs.no_lists.Statement.{statement}
 use Rattle.dims.proofs.no_lists.Tie as tie
 

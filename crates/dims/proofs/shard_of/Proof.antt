@@ -6,7 +6,7 @@ use mathlib.Core.Path.{_≡_, refl, sym}
 use lib.ListN.{length-map, take, drop}
 use lib.Seq.{getD-take, length-take-le}
 use Rattle.rules.specs.Mesh.{span as spanOf}
-use Rattle.rules.specs.Types.{axesOf, dimsOf, meshOf, sizesOf}
+use Rattle.types.specs.Types.{axesOf, dimsOf, meshOf, sizesOf}
 use Rattle.dims.proofs.Pairs.{Making, making, makes, all-made, past-stays}
 use Rattle.dims.proofs.Dims.{dims-length, list-at, span-least}
 use Rattle.dims.proofs.shard_of.Statement.{statement}

@@ -8,14 +8,14 @@ use lib.Seq.{take-all}
 use Prim.Native.Nat.{_+_, _*_}
 use Rattle.rules.specs.Lists.{flat}
 use Rattle.rules.specs.Mesh.{span as spanOf}
-use Rattle.rules.specs.Types.{axesOf, dimsOf, meshOf}
+use Rattle.types.specs.Types.{axesOf, dimsOf, meshOf}
 use Rattle.dims.proofs.Dims.{dims-length, list-at, span-more, span-most, flat-front}
 use Rattle.dims.proofs.span_dims.Statement.{statement}
 use Rattle.dims.proofs.span_dims.Tie as tie
 use Rattle.dims.proofs.span_dims.Reads as reads
 use Rattle.dims.proofs.span_dims.Lts as lts
 use Rattle.axes.proofs.span.Reads as span-reads
-use Rattle.rules.proofs.DimLists.at.Reads as at-reads
+use Rattle.types.proofs.DimLists.at.Reads as at-reads
 
 abbrev Inv-loop : tie.InvT-loop
 Inv-loop lists rank mesh product₀ d₀ product d = (length (take rank (dimsOf lists)) ≡ rank) × (product ≡ spanOf (meshOf mesh) (flat (take d (take rank (dimsOf lists)))))

@@ -6,7 +6,7 @@ use mathlib.Core.Path.{sym, _∙_}
 use native.Mathlib.Nat.{mul-one, mul-assoc}
 use lib.ListN.{length-map}
 use lib.Seq.{getD-take, length-take-le}
-use Rattle.rules.specs.Types.{sizesOf}
+use Rattle.types.specs.Types.{sizesOf}
 use Rattle.rules.specs.Lists.{product as productOf}
 use Rattle.axes.proofs.Going.{Going, onward, finish}
 use Rattle.dims.proofs.Dims.{grown, small}

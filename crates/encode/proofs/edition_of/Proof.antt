@@ -1,7 +1,7 @@
 use borrow.Author.Needs.{needs}
 use denote.Ref.{now}
 use mathlib.Core.Path.{sym, _∙_}
-use Rattle.rules.specs.Types.{axesOf}
+use Rattle.types.specs.Types.{axesOf}
 use Rattle.encode.proofs.Files.{edition-third, edition-second, edition-first}
 use Rattle.encode.proofs.edition_of.Statement.{statement}
 use Rattle.encode.proofs.edition_of.Tie as tie

@@ -2,7 +2,7 @@ use borrow.Author.Needs.{needs}
 use native.Mathlib.Omega.{arith}
 use denote.Ref.{now}
 use lib.ListN.{length}
-use Rattle.rules.specs.Types.{axesOf}
+use Rattle.types.specs.Types.{axesOf}
 use Rattle.encode.proofs.Files.{edition-few, edition-is, front-few, first-is, total-is, file-put}
 use Rattle.encode.proofs.put_file.Statement.{statement}
 use Rattle.encode.proofs.put_file.Tie as tie

@@ -1,7 +1,7 @@
 use borrow.Author.Needs.{needs}
 use native.Mathlib.Omega.{arith}
 use Prim.Native.Nat.{_-_}
-use Rattle.rules.specs.Types.{axesOf}
+use Rattle.types.specs.Types.{axesOf}
 use Rattle.encode.proofs.Puts.{Axes, axes-start, axes-step, axes-done, put-length}
 use Rattle.encode.proofs.put_list.Statement.{statement}
 use Rattle.encode.proofs.put_list.Tie as tie

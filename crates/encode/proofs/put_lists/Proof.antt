@@ -2,7 +2,7 @@ use borrow.Author.Needs.{needs}
 use native.Mathlib.Omega.{arith}
 use Prim.Native.Nat.{_-_}
 use lib.ListN.{take, length-map}
-use Rattle.rules.specs.Types.{dimsOf}
+use Rattle.types.specs.Types.{dimsOf}
 use Rattle.dims.proofs.Dims.{dims-length, list-at}
 use Rattle.encode.proofs.Puts.{Lists, lists-start, lists-step, lists-done, put-length}
 use Rattle.encode.proofs.Given.{dims-short, lists-given}

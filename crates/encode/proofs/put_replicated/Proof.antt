@@ -1,6 +1,6 @@
 use borrow.Author.Needs.{needs}
 use native.Mathlib.Omega.{arith}
-use Rattle.rules.specs.Types.{axesOf}
+use Rattle.types.specs.Types.{axesOf}
 use Rattle.encode.proofs.Puts.{put-none}
 use Rattle.encode.proofs.Given.{replicated-put, replicated-none}
 use Rattle.encode.proofs.put_replicated.Statement.{statement}

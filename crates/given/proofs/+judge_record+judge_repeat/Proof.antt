@@ -4,7 +4,7 @@ use borrow.Fn.PlainCycle.{Measures, is, falls, and}
 use native.Mathlib.Omega.{arith}
 use Prim.Native.Nat.{ℕ, _<_, _+_, _-_, _*_}
 use mathlib.Core.Path.{refl, sym, ap, _∙_}
-use Rattle.rules.specs.Types.{shardingOf, meshOf, sizesOf}
+use Rattle.types.specs.Types.{shardingOf, meshOf, sizesOf}
 use Rattle.reader.proofs.Answers.{read-on, read-stopped, retold}
 use Rattle.reader.proofs.Next.refusal.Reads as Next-refusal-reads
 use Rattle.blocks.proofs.Heads.{head-facts, head-on, head-stopped}

@@ -2,7 +2,7 @@ use borrow.Author.Needs.{needs}
 use native.Mathlib.Omega.{arith}
 use Prim.Native.Nat.{_-_}
 use mathlib.Core.Path.{sym, _∙_}
-use Rattle.rules.specs.Types.{shardingOf, meshOf, sizesOf}
+use Rattle.types.specs.Types.{shardingOf, meshOf, sizesOf}
 use Rattle.reader.proofs.Answers.{read-on, read-stopped}
 use Rattle.records.specs.Forms.{stepsGiven}
 use Rattle.encode.proofs.Counting.{given-length}

@@ -1,6 +1,6 @@
 use borrow.Author.Needs.{needs}
 use native.Mathlib.Omega.{arith}
-use Rattle.rules.specs.Types.{shardingOf, meshOf, sizesOf}
+use Rattle.types.specs.Types.{shardingOf, meshOf, sizesOf}
 use Rattle.reader.proofs.Answers.{is-told, retold}
 use Rattle.start.proofs.Verdicts.{passed, failed}
 use Rattle.taking.proofs.Takes.{fine, stopped}

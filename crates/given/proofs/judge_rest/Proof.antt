@@ -1,7 +1,7 @@
 use borrow.Author.Needs.{needs}
 use native.Mathlib.Omega.{arith}
 use mathlib.Core.Path.{sym, _∙_}
-use Rattle.rules.specs.Types.{meshOf, sizesOf}
+use Rattle.types.specs.Types.{meshOf, sizesOf}
 use Rattle.start.proofs.Verdicts.{stops, passed}
 use Rattle.given.proofs.Whole.{is-sharding, too-many-records, records-decide}
 use Rattle.given.proofs.judge_rest.Statement.{statement}

@@ -1,5 +1,5 @@
 use borrow.Author.Needs.{needs}
-use Rattle.rules.specs.Types.{meshOf, sizesOf}
+use Rattle.types.specs.Types.{meshOf, sizesOf}
 use Rattle.start.proofs.Verdicts.{passed}
 use Rattle.given.proofs.Counts.{dims-stop, others-stop, start-decides}
 use Rattle.given.proofs.judge_sharding.Statement.{statement}

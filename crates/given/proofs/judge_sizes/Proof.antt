@@ -6,7 +6,7 @@ use native.Mathlib.Omega.{arith}
 use denote.Ref.{now}
 use lib.ListN.{length, getD}
 use Rattle.rules.specs.Limits.{mostWords}
-use Rattle.rules.specs.Refusals.{numberOf}
+use Rattle.types.specs.Answers.{numberOf}
 use Rattle.given.proofs.Sizes.{Sizing, size-zero, size-over, size-passes, sizes-pass}
 use Rattle.given.proofs.judge_sizes.Statement.{statement}
 use Rattle.given.proofs.judge_sizes.Tie as tie

@@ -3,7 +3,7 @@ use native.Mathlib.Omega.{arith}
 use mathlib.Core.Path.{sym}
 use denote.Ref.{now}
 use lib.ListN.{List·getD-eq-default}
-use Rattle.rules.proofs.Lists.{any-default}
+use Rattle.laws.proofs.Lists.{any-default}
 use Rattle.given.proofs.size_or_one.Statement.{statement}
 use Rattle.given.proofs.size_or_one.Tie as tie
 

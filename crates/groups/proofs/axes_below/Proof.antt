@@ -5,8 +5,8 @@ use mathlib.Core.List.{List, [], _∷_, _++_}
 use native.Mathlib.Omega.{arith}
 use lib.ListN.{length}
 use Rattle.rules.specs.Lists.{tab}
-use Rattle.rules.specs.Types.{axesOf}
-use Rattle.rules.proofs.Lists.{length-tab}
+use Rattle.types.specs.Types.{axesOf}
+use Rattle.laws.proofs.Lists.{length-tab}
 use Rattle.groups.proofs.axes_below.Statement.{statement}
 use Rattle.groups.proofs.axes_below.Tie as tie
 

@@ -2,7 +2,7 @@ use borrow.Author.Needs.{needs}
 use mathlib.Core.Path.{ap, _∙_}
 use native.Mathlib.Omega.{arith}
 use lib.ListN.{length}
-use Rattle.rules.specs.Types.{axesOf}
+use Rattle.types.specs.Types.{axesOf}
 use Rattle.groups.proofs.Ordering.{remaining-length, order-length, order-made}
 use Rattle.groups.proofs.axis_order.Statement.{statement}
 use Rattle.groups.proofs.axis_order.Tie as tie

@@ -5,7 +5,7 @@ use mathlib.Core.List.{List, [], _∷_, _++_, append-nil}
 use native.Mathlib.Omega.{arith}
 use lib.ListN.{length, drop, length-append, drop-of-length-le}
 use Rattle.rules.specs.Lists.{pick, keep, without}
-use Rattle.rules.specs.Types.{axesOf}
+use Rattle.types.specs.Types.{axesOf}
 use Rattle.axes.proofs.Going.{drop-at}
 use Rattle.groups.proofs.Lists.{keeps}
 use Rattle.groups.proofs.extended.Statement.{statement}

@@ -6,7 +6,7 @@ use native.Mathlib.Omega.{arith}
 use denote.Ref.{now}
 use lib.ListN.{length, getD, take}
 use lib.Seq.{take-all, length-take-le}
-use Rattle.rules.specs.Types.{axesOf}
+use Rattle.types.specs.Types.{axesOf}
 use Rattle.groups.proofs.Lists.{take-at}
 use Rattle.groups.proofs.list_of.Statement.{statement}
 use Rattle.groups.proofs.list_of.Tie as tie

@@ -7,7 +7,7 @@ use denote.Ref.{now}
 use lib.ListN.{getD, drop}
 use Rattle.rules.specs.Lists.{tab}
 use Rattle.rules.specs.Limits.{mostDevices}
-use Rattle.rules.proofs.Fronts.{Filled, fill-word}
+use Rattle.laws.proofs.Fronts.{Filled, fill-word}
 use Rattle.groups.specs.Ordering.{repeated}
 use Rattle.groups.proofs.Writing.{repeating, repeated-next}
 use Rattle.groups.proofs.repeat_devices.Statement.{statement}

@@ -3,7 +3,7 @@ use mathlib.Core.Path.{_∙_}
 use native.Mathlib.Omega.{arith}
 use lib.ListN.{set, length-set}
 use denote.Ref.{now}
-use Rattle.rules.specs.Types.{axesOf}
+use Rattle.types.specs.Types.{axesOf}
 use Rattle.mesh.proofs.Sizes.{fit-sizes}
 use Rattle.groups.proofs.Writing.{Writing, Turn, writing, turn, all-written}
 use Rattle.groups.proofs.write_devices.Statement.{statement}

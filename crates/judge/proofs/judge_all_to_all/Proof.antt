@@ -8,10 +8,10 @@ use lib.Dec.{T}
 use lib.ListN.{length-map}
 use lib.Seq.{length-take-le}
 use Rattle.rules.specs.PlanFile.{allBelow, gatherOff, sliceOn}
-use Rattle.rules.specs.Types.{axesOf, shardingOf, meshOf, sizesOf}
+use Rattle.types.specs.Types.{axesOf, shardingOf, meshOf, sizesOf}
 use Rattle.dims.proofs.Dims.{dims-length}
-use Rattle.rules.proofs.Judging.{twoDims-facts}
-use Rattle.rules.proofs.Steps.{only-at}
+use Rattle.laws.proofs.Judging.{twoDims-facts}
+use Rattle.laws.proofs.Steps.{only-at}
 use Rattle.judge.proofs.Steps.{no-dims, gather-stops, gather-passes, target-room}
 use Rattle.judge.proofs.judge_all_to_all.Statement.{statement}
 use Rattle.judge.proofs.judge_all_to_all.Tie as tie

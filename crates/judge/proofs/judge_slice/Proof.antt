@@ -9,7 +9,7 @@ use lib.Seq.{length-take-le}
 use Rattle.rules.specs.Lists.{flat}
 use Rattle.rules.specs.Sharding.{named}
 use Rattle.rules.specs.PlanFile.{judgeAxes, allBelow}
-use Rattle.rules.specs.Types.{dimsOf, shardingOf, meshOf, sizesOf}
+use Rattle.types.specs.Types.{dimsOf, shardingOf, meshOf, sizesOf}
 use Rattle.axes.proofs.Naming.{length-with}
 use Rattle.start.specs.Start.{meaning}
 use Rattle.judge.proofs.Rooms.{fresh-room}

@@ -3,8 +3,8 @@ use native.Mathlib.Omega.{arith}
 use mathlib.Core.Path.{refl, sym, ap, _∙_}
 use lib.ListN.{length-map}
 use lib.Seq.{length-take-le}
-use Rattle.rules.specs.Types.{stepOf, shardingOf, meshOf, sizesOf}
-use Rattle.rules.proofs.Judging.{never}
+use Rattle.types.specs.Types.{stepOf, shardingOf, meshOf, sizesOf}
+use Rattle.laws.proofs.Judging.{never}
 use Rattle.start.specs.Start.{meaning}
 use Rattle.start.proofs.Verdicts.{passed}
 use Rattle.judge.proofs.Steps.{named-stops, named-passes, refused-beside}

@@ -4,7 +4,7 @@ use mathlib.Core.List.{List, _++_}
 use mathlib.Core.Path.{sym, ap, _∙_}
 use denote.Ref.{now}
 use Rattle.rules.specs.Lists.{flat}
-use Rattle.rules.specs.Types.{shardingOf}
+use Rattle.types.specs.Types.{shardingOf}
 use Rattle.axes.specs.Marks.{marksWith}
 use Rattle.axes.proofs.Naming.{with-append}
 use Rattle.judge.proofs.mark_named.Statement.{statement}

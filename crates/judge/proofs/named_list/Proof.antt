@@ -1,7 +1,7 @@
 use borrow.Author.Needs.{needs}
 use mathlib.Core.Path.{sym, _∙_}
 use borrow.Author.Tests.{not-true, not-false}
-use Rattle.rules.specs.Types.{axesOf}
+use Rattle.types.specs.Types.{axesOf}
 use Rattle.judge.proofs.Steps.{some-none, some-one}
 use Rattle.judge.proofs.named_list.Statement.{statement}
 use Rattle.judge.proofs.named_list.Tie as tie

@@ -2,7 +2,7 @@ use borrow.Author.Needs.{needs}
 use native.Mathlib.Omega.{arith}
 use mathlib.Core.Path.{sym, _∙_}
 use borrow.Author.Tests.{not-true, not-false}
-use Rattle.rules.specs.Types.{dimsOf, meshOf}
+use Rattle.types.specs.Types.{dimsOf, meshOf}
 use Rattle.judge.proofs.Steps.{shard-divides, not-divisible, slices}
 use Rattle.judge.proofs.slice_on.Statement.{statement}
 use Rattle.judge.proofs.slice_on.Tie as tie

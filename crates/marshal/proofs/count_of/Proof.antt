@@ -3,7 +3,7 @@ use Prim.Native.Nat.{ℕ}
 use mathlib.Core.Path.{ap, _∙_}
 use mathlib.Core.List.{List}
 use lib.ListN.{length-map, length}
-use Rattle.rules.proofs.Types.{axes-length}
+use Rattle.types.proofs.Types.{axes-length}
 use Rattle.marshal.proofs.count_of.Statement.{statement}
 use Rattle.marshal.proofs.count_of.Tie as tie
 

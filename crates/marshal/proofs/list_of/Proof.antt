@@ -5,7 +5,7 @@ use mathlib.Core.Path.{sym, _∙_}
 use mathlib.Core.List.{[]}
 use lib.Seq.{getD-take}
 use Rattle.rules.specs.Limits.{mostDims}
-use Rattle.rules.specs.Types.{dimsOf, shardingOf}
+use Rattle.types.specs.Types.{dimsOf, shardingOf}
 use Rattle.marshal.proofs.Structs.{list-unreduced, list-replicated, list-dim}
 use Rattle.marshal.proofs.list_of.Statement.{statement}
 use Rattle.marshal.proofs.list_of.Tie as tie

@@ -5,8 +5,8 @@ use mathlib.Core.Path.{_≡_, ap, _∙_}
 use lib.ListN.{length, getD}
 use Rattle.rules.specs.Lists.{tab}
 use Rattle.rules.specs.Limits.{mostAxes}
-use Rattle.rules.specs.Types.{axesOf}
-use Rattle.rules.proofs.Fronts.{Filled, fill-start, fill-word, fill-end}
+use Rattle.types.specs.Types.{axesOf}
+use Rattle.laws.proofs.Fronts.{Filled, fill-start, fill-word, fill-end}
 use Rattle.marshal.proofs.put_axes.Statement.{statement}
 use Rattle.marshal.proofs.put_axes.Tie as tie
 

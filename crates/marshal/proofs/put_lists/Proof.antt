@@ -6,8 +6,8 @@ use mathlib.Core.List.{_++_}
 use lib.ListN.{drop, replicate, length}
 use Rattle.rules.specs.Lists.{tab}
 use Rattle.rules.specs.Limits.{mostAxes, mostDims}
-use Rattle.rules.specs.Types.{axesOf, shardingOf}
-use Rattle.rules.proofs.Fronts.{Filled, fill-start, fill-part, fill-end, part-length, next-part}
+use Rattle.types.specs.Types.{axesOf, shardingOf}
+use Rattle.laws.proofs.Fronts.{Filled, fill-start, fill-part, fill-end, part-length, next-part}
 use Rattle.marshal.specs.Structs.{lists, places, axisIn}
 use Rattle.marshal.proofs.Structs.{six-places}
 use Rattle.marshal.proofs.put_lists.Statement.{statement}

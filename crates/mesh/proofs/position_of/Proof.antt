@@ -6,8 +6,8 @@ use denote.Ref.{now}
 use lib.ListN.{length, length-map}
 use Rattle.rules.specs.Mesh.{coords}
 use Rattle.rules.specs.Limits.{mostAxes}
-use Rattle.rules.specs.Types.{axesOf}
-use Rattle.rules.proofs.Types.{axes-length}
+use Rattle.types.specs.Types.{axesOf}
+use Rattle.types.proofs.Types.{axes-length}
 use Rattle.mesh.proofs.Positions.{PositionAt, position-step, position-done}
 use Rattle.mesh.proofs.position_of.Statement.{statement}
 use Rattle.mesh.proofs.position_of.Tie as tie

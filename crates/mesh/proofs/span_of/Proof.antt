@@ -7,8 +7,8 @@ use lib.ListN.{length, drop}
 use lib.Seq.{drop-length}
 use denote.Ref.{now}
 use Rattle.rules.specs.Mesh.{span}
-use Rattle.rules.specs.Types.{axesOf}
-use Rattle.rules.proofs.Lists.{drop-before}
+use Rattle.types.specs.Types.{axesOf}
+use Rattle.laws.proofs.Lists.{drop-before}
 use Rattle.mesh.proofs.Sizes.{span-less, group-pos}
 use Rattle.mesh.proofs.span_of.Statement.{statement}
 use Rattle.mesh.proofs.span_of.Tie as tie

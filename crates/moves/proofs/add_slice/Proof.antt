@@ -8,8 +8,8 @@ use lib.Seq.{drop-length}
 use denote.Ref.{now}
 use Rattle.rules.specs.Mesh.{span}
 use Rattle.rules.specs.Limits.{mostWords}
-use Rattle.rules.specs.Types.{axesOf}
-use Rattle.rules.proofs.Lists.{drop-before, at-in}
+use Rattle.types.specs.Types.{axesOf}
+use Rattle.laws.proofs.Lists.{drop-before, at-in}
 use Rattle.mesh.proofs.Sizes.{span-less, group-pos}
 use Rattle.moves.specs.Moves.{withSlice, mostAdded}
 use Rattle.moves.proofs.Dims.{slice-step, slice-few}

@@ -3,7 +3,7 @@ use Prim.Native.Nat.{_+_, _-_}
 use mathlib.Core.Path.{_≡_, ap, _∙_}
 use lib.ListN.{length, getD}
 use denote.Ref.{now}
-use Rattle.rules.proofs.Fronts.{Filled, fill-start, fill-word, fill-end, front-behind}
+use Rattle.laws.proofs.Fronts.{Filled, fill-start, fill-word, fill-end, front-behind}
 use Rattle.moves.proofs.Dims.{from-tab}
 use Rattle.moves.proofs.add_strides.Statement.{statement}
 use Rattle.moves.proofs.add_strides.Tie as tie

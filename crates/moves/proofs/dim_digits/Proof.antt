@@ -3,7 +3,7 @@ use Prim.Native.Nat.{_+_, _*_, _-_}
 use mathlib.Core.Path.{_≡_, sym, ap, _∙_}
 use lib.ListN.{length}
 use denote.Ref.{now}
-use Rattle.rules.specs.Types.{axesOf}
+use Rattle.types.specs.Types.{axesOf}
 use Rattle.strided.specs.Strided.{counted}
 use Rattle.strided.proofs.Joins.{digit-tail}
 use Rattle.moves.proofs.Dims.{DimFacts, dim-facts}

@@ -6,8 +6,8 @@ use mathlib.Core.Path.{refl, ap, _∙_}
 use lib.ListN.{length, take, replicate}
 use denote.Ref.{now}
 use Rattle.rules.specs.Limits.{mostAxes}
-use Rattle.rules.proofs.Lists.{take-replicate}
-use Rattle.rules.proofs.Fronts.{lent-length}
+use Rattle.laws.proofs.Lists.{take-replicate}
+use Rattle.laws.proofs.Fronts.{lent-length}
 use Rattle.moves.proofs.move_into.Statement.{statement}
 use Rattle.moves.proofs.move_into.Tie as tie
 

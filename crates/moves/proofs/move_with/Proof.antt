@@ -7,7 +7,7 @@ use lib.ListN.{length, take, drop, length-drop}
 use denote.Ref.{now}
 use borrow.Rule.Slice.PartMut.{same-len-mid}
 use Rattle.rules.specs.Lists.{product}
-use Rattle.rules.proofs.Fronts.{tail-all, lent-length, lent-put}
+use Rattle.laws.proofs.Fronts.{tail-all, lent-length, lent-put}
 use Rattle.strided.specs.Strided.{Copy}
 use Rattle.moves.proofs.Whole.{mesh-sizes, copy-asked, copy-leaves}
 use Rattle.moves.proofs.move_with.Statement.{statement}

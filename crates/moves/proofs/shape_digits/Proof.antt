@@ -6,8 +6,8 @@ use mathlib.Core.List.{[], _∷_}
 use lib.ListN.{length, getD, drop}
 use lib.Seq.{getD-take}
 use denote.Ref.{now}
-use Rattle.rules.specs.Types.{axesOf, dimsOf}
-use Rattle.rules.proofs.Lists.{drop-before}
+use Rattle.types.specs.Types.{axesOf, dimsOf}
+use Rattle.laws.proofs.Lists.{drop-before}
 use Rattle.moves.specs.Moves.{lists, Dimension, DimensionsAt}
 use Rattle.moves.proofs.Dims.{dims-start, dims-ask, dims-step, dim-facts}
 use Rattle.moves.proofs.shape_digits.Statement.{statement}

@@ -1,7 +1,7 @@
 use borrow.Author.Needs.{needs}
 use mathlib.Core.Path.{sym, _∙_}
 use borrow.Author.Tests.{not-true, not-false}
-use Rattle.rules.specs.Types.{shardingOf, meshOf, sizesOf}
+use Rattle.types.specs.Types.{shardingOf, meshOf, sizesOf}
 use Rattle.start.proofs.Verdicts.{stops, goes-on}
 use Rattle.opening.specs.Opening.{judgeOpening}
 use Rattle.opening.proofs.judge_opening.Statement.{statement}

@@ -4,7 +4,7 @@ use borrow.Author.Tests.{ne-eqb}
 use Prim.Native.Nat.{ℕ}
 use mathlib.Core.Bool.{not}
 use lib.Dec.{eqb}
-use Rattle.rules.specs.Types.{axesOf}
+use Rattle.types.specs.Types.{axesOf}
 use Rattle.opening.proofs.Opens.{some-counted}
 use Rattle.opening.proofs.one_meaning.Statement.{statement}
 use Rattle.opening.proofs.one_meaning.Tie as tie

@@ -3,7 +3,7 @@ use Prim.Native.Nat.{_-_}
 use mathlib.Core.Path.{refl}
 use lib.ListN.{length, getD}
 use denote.Ref.{now}
-use Rattle.rules.proofs.Fronts.{Filled, fill-start, fill-word, fill-all}
+use Rattle.laws.proofs.Fronts.{Filled, fill-start, fill-word, fill-all}
 use Rattle.order.proofs.copy_shard.Statement.{statement}
 use Rattle.order.proofs.copy_shard.Tie as tie
 

@@ -5,7 +5,7 @@ use mathlib.Core.Path.{_≡_, ap, _∙_}
 use mathlib.Core.List.{List}
 use lib.ListN.{length, getD}
 use denote.Ref.{now}
-use Rattle.rules.proofs.Fronts.{Filled, fill-start, fill-word, fill-end, front-behind}
+use Rattle.laws.proofs.Fronts.{Filled, fill-start, fill-word, fill-end, front-behind}
 use Rattle.order.proofs.Loops.{looked-up}
 use Rattle.order.proofs.look_up.Statement.{statement}
 use Rattle.order.proofs.look_up.Tie as tie

@@ -7,7 +7,7 @@ use mathlib.Core.List.{_++_}
 use lib.ListN.{length, getD, drop}
 use denote.Ref.{now}
 use Rattle.rules.specs.Lists.{tab}
-use Rattle.rules.proofs.Fronts.{Filled, fill-start, fill-part, part-length, next-part, part-in}
+use Rattle.laws.proofs.Fronts.{Filled, fill-start, fill-part, part-length, next-part, part-in}
 use Rattle.order.specs.Order.{byPlace}
 use Rattle.order.proofs.Loops.{shard-words}
 use Rattle.order.proofs.place_shards.Statement.{statement}

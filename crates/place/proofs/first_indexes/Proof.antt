@@ -7,7 +7,7 @@ use mathlib.Core.Path.{refl, sym}
 use lib.ListN.{take, length-map}
 use lib.Seq.{getD-take, length-take-le}
 use Rattle.rules.specs.Mesh.{position, coords}
-use Rattle.rules.specs.Types.{dimsOf, sizesOf}
+use Rattle.types.specs.Types.{dimsOf, sizesOf}
 use Rattle.dims.proofs.Pairs.{Making, making, makes, all-made}
 use Rattle.dims.proofs.Dims.{dims-length, list-at}
 use Rattle.place.proofs.first_indexes.Statement.{statement}

@@ -5,9 +5,9 @@ use mathlib.Core.Path.{_≡_, sym, ap, _∙_}
 use mathlib.Core.List.{List}
 use lib.ListN.{length, take, length-map}
 use lib.Seq.{length-take-le}
-use Rattle.rules.specs.Types.{fourPlaces}
-use Rattle.rules.specs.Calls.{placedOf}
-use Rattle.rules.specs.declared.PlaceOutcome.the-variants as place
+use Rattle.types.specs.Types.{fourPlaces}
+use Rattle.types.specs.Answers.{placedOf}
+use Rattle.types.specs.declared.PlaceOutcome.the-variants as place
 use Rattle.place.proofs.Places.{devices-few, placing, place-stops, no-device, place-found}
 use Rattle.place.proofs.place.Statement.{statement}
 use Rattle.place.proofs.place.Tie as tie

@@ -12,7 +12,7 @@ use Rattle.rules.specs.Lists.{tab}
 use Rattle.rules.specs.Limits.{mostDevices}
 use Rattle.rules.specs.Mesh.{placeIn}
 use Rattle.rules.specs.PlanFile.{u16At}
-use Rattle.rules.proofs.Fronts.{lent-length, lent-taken}
+use Rattle.laws.proofs.Fronts.{lent-length, lent-taken}
 use Rattle.place.proofs.Places.{place-plain, place-carried}
 use Rattle.place.proofs.place_of.Statement.{statement}
 use Rattle.place.proofs.place_of.Tie as tie

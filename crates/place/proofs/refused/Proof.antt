@@ -1,9 +1,9 @@
 use borrow.Author.Needs.{needs}
 use mathlib.Core.Path.{sym}
 use mathlib.Core.List.{[]}
-use Rattle.rules.specs.Types.{fourPlaces}
-use Rattle.rules.specs.declared.PlaceOutcome.the-variants as place
-use Rattle.rules.proofs.Refusals.{refusal-told}
+use Rattle.types.specs.Types.{fourPlaces}
+use Rattle.types.specs.declared.PlaceOutcome.the-variants as place
+use Rattle.types.proofs.Refusals.{refusal-told}
 use Rattle.place.proofs.refused.Statement.{statement}
 use Rattle.place.proofs.refused.Tie as tie
 

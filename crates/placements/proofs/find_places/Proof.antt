@@ -13,7 +13,7 @@ use Rattle.rules.specs.Lists.{tab}
 use Rattle.rules.specs.Limits.{mostDevices}
 use Rattle.rules.specs.Mesh.{plainOrder, Rearrangement}
 use Rattle.rules.specs.PlanFile.{u16At, edition, carriesOrder}
-use Rattle.rules.proofs.Fronts.{lent-length, lent-taken}
+use Rattle.laws.proofs.Fronts.{lent-length, lent-taken}
 use Rattle.reader.specs.Reading.{orderOf, orderIn}
 use Rattle.order.specs.Order.{placesOf}
 use Rattle.placements.proofs.Firsts.{places-plain}

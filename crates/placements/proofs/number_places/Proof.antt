@@ -3,7 +3,7 @@ use Prim.Native.Nat.{_-_, _≤_}
 use mathlib.Core.Path.{refl}
 use lib.ListN.{length}
 use Rattle.rules.specs.Limits.{mostDevices}
-use Rattle.rules.proofs.Fronts.{Filled, fill-start, fill-word, fill-end}
+use Rattle.laws.proofs.Fronts.{Filled, fill-start, fill-word, fill-end}
 use Rattle.placements.proofs.number_places.Statement.{statement}
 use Rattle.placements.proofs.number_places.Tie as tie
 

@@ -11,9 +11,9 @@ use lib.Seq.{length-take-le}
 use denote.Ref.{now}
 use Rattle.rules.specs.Limits.{mostDevices}
 use Rattle.rules.specs.Mesh.{Rearrangement}
-use Rattle.rules.specs.Types.{meshOf, sizesOf}
+use Rattle.types.specs.Types.{meshOf, sizesOf}
 use Rattle.order.specs.Order.{placesOf}
-use Rattle.rules.proofs.Fronts.{lent-length, lent-taken}
+use Rattle.laws.proofs.Fronts.{lent-length, lent-taken}
 use Rattle.reader.specs.Reading.{orderIn}
 use Rattle.plan.proofs.States.{state-stopped}
 use Rattle.place.proofs.Places.{devices-few}

@@ -7,7 +7,7 @@ use mathlib.Core.List.{List, _++_, map}
 use lib.ListN.{length, getD, drop}
 use denote.Ref.{now}
 use Rattle.rules.specs.Lists.{tab, flat}
-use Rattle.rules.proofs.Fronts.{Filled, fill-start, fill-part, part-length, next-part, part-in}
+use Rattle.laws.proofs.Fronts.{Filled, fill-start, fill-part, part-length, next-part, part-in}
 use Rattle.placements.specs.Placing.{firstsAt}
 use Rattle.placements.proofs.Firsts.{parts-tab, parts-whole, firsts-even}
 use Rattle.placements.proofs.put_firsts.Statement.{statement}

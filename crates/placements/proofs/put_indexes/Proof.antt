@@ -5,8 +5,8 @@ use mathlib.Core.Path.{_≡_, refl, sym, ap, _∙_}
 use lib.ListN.{length, getD, take, length-map}
 use lib.Seq.{getD-take, length-take-le}
 use denote.Ref.{now}
-use Rattle.rules.specs.Types.{sizesOf}
-use Rattle.rules.proofs.Fronts.{Filled, fill-start, fill-word, fill-all}
+use Rattle.types.specs.Types.{sizesOf}
+use Rattle.laws.proofs.Fronts.{Filled, fill-start, fill-word, fill-all}
 use Rattle.placements.proofs.put_indexes.Statement.{statement}
 use Rattle.placements.proofs.put_indexes.Tie as tie
 

@@ -1,7 +1,7 @@
 use borrow.Author.Needs.{needs}
 use Prim.Native.Nat.{_-_}
 use mathlib.Core.Path.{sym, ap, _∙_}
-use Rattle.rules.specs.Calls.{checkedOf}
+use Rattle.types.specs.Answers.{checkedOf}
 use Rattle.plan.proofs.Wholes.{plan-held, whole-stopped, check-stops, bounded, check-passes}
 use Rattle.plan.proofs.check.Statement.{statement}
 use Rattle.plan.proofs.check.Tie as tie

@@ -1,6 +1,6 @@
 use borrow.Author.Needs.{needs}
 use mathlib.Core.Path.{sym, _∙_}
-use Rattle.rules.proofs.Judging.{never}
+use Rattle.laws.proofs.Judging.{never}
 use Rattle.reader.proofs.Answers.{read-on, read-stopped}
 use Rattle.plan.proofs.Wholes.{open-on, open-stopped, ready, front-stops, walk-stops, bytes-left, whole-refused, whole-told}
 use Rattle.plan.proofs.judge_keeping.Statement.{statement}

@@ -2,8 +2,8 @@ use borrow.Author.Needs.{needs}
 use Prim.Native.Nat.{ℕ, _*_, _-_}
 use mathlib.Core.Path.{ap, _∙_}
 use mathlib.Core.List.{List}
-use Rattle.rules.specs.Types.{fourPlaces}
-use Rattle.rules.specs.declared.CheckOutcome.the-variants as check
+use Rattle.types.specs.Types.{fourPlaces}
+use Rattle.types.specs.declared.CheckOutcome.the-variants as check
 use Rattle.plan.specs.declared.Whole.{Whole}
 use Rattle.plan.proofs.passed.Statement.{statement}
 use Rattle.plan.proofs.passed.Tie as tie

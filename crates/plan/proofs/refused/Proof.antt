@@ -1,9 +1,9 @@
 use borrow.Author.Needs.{needs}
 use mathlib.Core.Path.{sym}
 use mathlib.Core.List.{[]}
-use Rattle.rules.specs.Types.{fourPlaces}
-use Rattle.rules.specs.declared.CheckOutcome.the-variants as check
-use Rattle.rules.proofs.Refusals.{refusal-told}
+use Rattle.types.specs.Types.{fourPlaces}
+use Rattle.types.specs.declared.CheckOutcome.the-variants as check
+use Rattle.types.proofs.Refusals.{refusal-told}
 use Rattle.plan.proofs.refused.Statement.{statement}
 use Rattle.plan.proofs.refused.Tie as tie
 

@@ -2,7 +2,7 @@ use Prim.Native.Nat.{_-_}
 use borrow.Author.Needs.{needs}
 use mathlib.Core.Path.{sym, ap, _∙_}
 use native.Mathlib.Omega.{arith}
-use Rattle.rules.specs.Types.{shardingOf, meshOf, sizesOf}
+use Rattle.types.specs.Types.{shardingOf, meshOf, sizesOf}
 use Rattle.reader.proofs.Answers.{read-on, read-stopped}
 use Rattle.blocks.proofs.Plain.{summary-stops}
 use Rattle.plan.proofs.Walks.{Walking, walking, halted, arrived, runs-few, too-many, onward}

@@ -1,7 +1,7 @@
 use borrow.Author.Needs.{needs}
 use native.Mathlib.Omega.{arith}
 use Prim.Native.Nat.{_-_}
-use Rattle.rules.specs.Types.{axesOf}
+use Rattle.types.specs.Types.{axesOf}
 use Rattle.planner.proofs.Tails.{Common, common-none, goal-ends, start-ends, differ, agree}
 use Rattle.planner.proofs.common.Statement.{statement}
 use Rattle.planner.proofs.common.Tie as tie

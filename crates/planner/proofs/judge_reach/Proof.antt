@@ -1,7 +1,7 @@
 use borrow.Author.Needs.{needs}
 use borrow.Author.Tests.{not-true, not-false}
 use mathlib.Core.Path.{sym, _∙_}
-use Rattle.rules.specs.Types.{shardingOf}
+use Rattle.types.specs.Types.{shardingOf}
 use Rattle.planner.proofs.Routes.{lacks-axis, other-list, in-reach}
 use Rattle.planner.proofs.judge_reach.Statement.{statement}
 use Rattle.planner.proofs.judge_reach.Tie as tie

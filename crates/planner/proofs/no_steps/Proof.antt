@@ -1,9 +1,9 @@
 use borrow.Author.Needs.{needs}
 use mathlib.Core.Path.{_≡_, ap, _∙_}
 use mathlib.Core.List.{[], _∷_}
-use Rattle.rules.specs.Types.{listFrom, listsFrom}
-use Rattle.rules.specs.declared.Kind.the-variants.{Unknown}
-use Rattle.rules.specs.declared.Step.{Step}
+use Rattle.types.specs.Types.{listFrom, listsFrom}
+use Rattle.types.specs.declared.Kind.the-variants.{Unknown}
+use Rattle.types.specs.declared.Step.{Step}
 use Rattle.records.specs.PlanAnswer.{noStep, stepsFrom}
 use Rattle.planner.proofs.no_steps.Statement.{statement}
 use Rattle.planner.proofs.no_steps.Tie as tie

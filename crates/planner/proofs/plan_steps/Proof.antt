@@ -5,7 +5,7 @@ use mathlib.Core.Bool.{not}
 use lib.Dec.{eqb}
 use lib.ListN.{take}
 use Rattle.rules.specs.Collectives.{allSlice, allGather, allReduce}
-use Rattle.rules.specs.Types.{axesOf, dimsOf, shardingOf}
+use Rattle.types.specs.Types.{axesOf, dimsOf, shardingOf}
 use Rattle.records.specs.Planning.{toReduce, toGather, toSlice}
 use Rattle.records.specs.PlanAnswer.{stepsFrom}
 use Rattle.planner.proofs.Tails.{goal-rests}

@@ -1,7 +1,7 @@
 use borrow.Author.Needs.{needs}
 use mathlib.Core.Path.{ap, _∙_}
-use Rattle.rules.specs.Types.{listFrom, listsFrom}
-use Rattle.rules.specs.declared.Kind.the-variants.{AllReduce}
+use Rattle.types.specs.Types.{listFrom, listsFrom}
+use Rattle.types.specs.declared.Kind.the-variants.{AllReduce}
 use Rattle.planner.proofs.reduce_of.Statement.{statement}
 use Rattle.planner.proofs.reduce_of.Tie as tie
 

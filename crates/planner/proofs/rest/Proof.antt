@@ -2,8 +2,8 @@ use borrow.Author.Needs.{needs}
 use native.Mathlib.Omega.{arith}
 use Prim.Native.Nat.{_-_}
 use lib.ListN.{length-map}
-use Rattle.rules.specs.Types.{axesOf}
-use Rattle.rules.proofs.Types.{axes-length}
+use Rattle.types.specs.Types.{axesOf}
+use Rattle.types.proofs.Types.{axes-length}
 use Rattle.planner.proofs.Tails.{Rest, rest-none, rest-more, rest-room, rest-all}
 use Rattle.planner.proofs.rest.Statement.{statement}
 use Rattle.planner.proofs.rest.Tie as tie

@@ -4,7 +4,7 @@ use Prim.Native.Nat.{ℕ, _-_}
 use mathlib.Core.List.{[]}
 use mathlib.Core.Path.{_≡_, refl, ap, _∙_}
 use lib.ListN.{length-map, take, drop}
-use Rattle.rules.specs.Types.{axesOf, dimsOf}
+use Rattle.types.specs.Types.{axesOf, dimsOf}
 use Rattle.dims.proofs.Pairs.{Making, making, makes, all-made, past-stays}
 use Rattle.dims.proofs.Dims.{dims-length, list-at}
 use Rattle.records.specs.Planning.{restOfStart}

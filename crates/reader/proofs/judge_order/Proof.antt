@@ -11,7 +11,7 @@ use denote.Ref.{now}
 use Rattle.rules.specs.Lists.{tab}
 use Rattle.rules.specs.Limits.{mostDevices}
 use Rattle.rules.specs.PlanFile.{u16At, orderAllowed}
-use Rattle.rules.proofs.Fronts.{lent-length, lent-taken}
+use Rattle.laws.proofs.Fronts.{lent-length, lent-taken}
 use Rattle.reader.proofs.Ordering.{no-order, order-past, order-wrong, order-whole}
 use Rattle.reader.proofs.judge_order.Statement.{statement}
 use Rattle.reader.proofs.judge_order.Tie as tie

@@ -3,8 +3,8 @@ use borrow.Author.Needs.{needs}
 use mathlib.Core.Path.{sym, ap, _∙_}
 use native.Mathlib.Omega.{arith}
 use lib.ListN.{length}
-use Rattle.rules.specs.Types.{axesOf, dimsOf}
-use Rattle.rules.proofs.Types.{map-set}
+use Rattle.types.specs.Types.{axesOf, dimsOf}
+use Rattle.types.proofs.Types.{map-set}
 use Rattle.reader.proofs.Answers.{read-on, read-stopped}
 use Rattle.reader.proofs.Listing.{Listing, begin, next-list, list-refused, lists-whole}
 use Rattle.reader.proofs.read_lists.Statement.{statement}

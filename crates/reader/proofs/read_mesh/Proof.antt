@@ -8,7 +8,7 @@ use denote.Ref.{now}
 use Rattle.rules.specs.Limits.{mostDevices}
 use Rattle.rules.specs.Refusals.{accept}
 use Rattle.rules.specs.PlanFile.{sizesAt, carriesOrder, orderAt}
-use Rattle.rules.proofs.Accepted.{section-facts}
+use Rattle.laws.proofs.Accepted.{section-facts}
 use Rattle.reader.proofs.Answers.{read-on, read-stopped, is-told, retold}
 use Rattle.reader.proofs.Heading.{headed}
 use Rattle.reader.proofs.Ordering.{sizes-stop, order-stops, mesh-read}

@@ -3,7 +3,7 @@ use native.Mathlib.Omega.{arith}
 use Prim.Native.Nat.{_+_, _*_, _-_}
 use lib.ListN.{length}
 use Rattle.rules.specs.PlanFile.{u16At}
-use Rattle.rules.proofs.Fronts.{Filled, fill-start, fill-word, fill-end}
+use Rattle.laws.proofs.Fronts.{Filled, fill-start, fill-word, fill-end}
 use Rattle.reader.proofs.read_order.Statement.{statement}
 use Rattle.reader.proofs.read_order.Tie as tie
 

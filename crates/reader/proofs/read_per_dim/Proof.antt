@@ -1,7 +1,7 @@
 use borrow.Author.Needs.{needs}
 use lib.ListN.{take}
 use denote.Ref.{now}
-use Rattle.rules.specs.Types.{dimsOf}
+use Rattle.types.specs.Types.{dimsOf}
 use Rattle.reader.proofs.Answers.{read-on, read-stopped, is-told, retold}
 use Rattle.reader.proofs.Stepping.{per-dim-refused, per-dim-whole}
 use Rattle.reader.proofs.read_per_dim.Statement.{statement}

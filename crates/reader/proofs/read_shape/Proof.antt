@@ -7,7 +7,7 @@ use denote.Ref.{now}
 use Rattle.rules.specs.Limits.{mostWords}
 use Rattle.rules.specs.Refusals.{accept}
 use Rattle.rules.specs.PlanFile.{sizesAt, carriesOrder}
-use Rattle.rules.proofs.Accepted.{mesh-and-table-facts}
+use Rattle.laws.proofs.Accepted.{mesh-and-table-facts}
 use Rattle.reader.specs.Reading.{meshAt}
 use Rattle.reader.proofs.Answers.{read-on, read-stopped}
 use Rattle.reader.proofs.Heading.{headed}

@@ -4,7 +4,7 @@ use lib.ListN.{take}
 use denote.Ref.{now}
 use Rattle.rules.specs.Refusals.{accept}
 use Rattle.rules.specs.PlanFile.{listAt, listsAt, carriesReplicated, replicatedAt}
-use Rattle.rules.specs.Types.{axesOf, dimsOf}
+use Rattle.types.specs.Types.{axesOf, dimsOf}
 use Rattle.reader.specs.Reading.{listRead}
 use Rattle.reader.proofs.Answers.{read-on, read-stopped, is-told, retold}
 use Rattle.reader.proofs.Listing.{sharding-misplaced, dims-refused, unreduced-refused, replicated-refused, sharding-whole}

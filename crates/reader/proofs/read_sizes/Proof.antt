@@ -4,7 +4,7 @@ use mathlib.Core.Path.{refl}
 use native.Mathlib.Omega.{arith}
 use native.Mathlib.Nat.{mul-le-mul}
 use Rattle.rules.specs.Limits.{mostWords}
-use Rattle.rules.specs.Refusals.{numberOf}
+use Rattle.types.specs.Answers.{numberOf}
 use Rattle.reader.proofs.Answers.{is-told, retold}
 use Rattle.reader.proofs.Sizing.{Sizing, start, wrong-offset, no-room, at-zero, at-over, step, at-end}
 use Rattle.reader.proofs.read_sizes.Statement.{statement}

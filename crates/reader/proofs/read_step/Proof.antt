@@ -4,6 +4,7 @@ use mathlib.Core.Path.{_≡_, _∙_}
 use native.Mathlib.Omega.{arith}
 use denote.Ref.{now}
 use Rattle.rules.specs.PlanFile.{listsOf, stepAt}
+use Rattle.types.specs.Types.{kindMeaning}
 use Rattle.reader.proofs.Answers.{retold}
 use Rattle.reader.proofs.Listing.{ByteIs, byte-is, byte-end}
 use Rattle.reader.proofs.Stepping.{no-kind, by-kind, unknown}
@@ -19,7 +20,7 @@ byte-here c = byte-is _ _ (c .before .before .byte-at .ensures) (c .first .given
 kind-is : (c : tie.After-kind-of)
     → let a = c .before .before .before .before .before .before .args in
     stepAt (a .n) (a .rank) (a .k) (now (a .file)) (a .at)
-    ≡ listsOf (a .n) (a .rank) (a .k) (now (a .file)) (a .at + 1) (c .kind-of .result)
+    ≡ listsOf (a .n) (a .rank) (a .k) (now (a .file)) (a .at + 1) (kindMeaning (c .kind-of .result))
 kind-is c = by-kind _ _ _ _ _ (byte-here (c .before .before)) (c .kind-of .ensures)
 
 enum-told : tie.Need-enum-told
@@ -50,6 +51,9 @@ read-step-spec =
     (λ c. omega (arith, byte-here (c .before .before .before .before)))
     (λ c κs. search needs)
     (λ c. search needs)
+    (λ c. omega (arith, byte-here (c .before .before .before .before)))
+    (λ c κs. (omega arith, omega arith, rw (c .enum-told6 .given .1) tt))
+    (λ c. search needs)
     (λ c κs. search needs)
     (λ c. let p = c .before .before .before in
     retold (c .read-per-dim .ensures (p .before .before .before .before .before .before .args .k)) (kind-is p))
@@ -62,6 +66,8 @@ read-step-spec =
     let a = p .before .before .before .before .before .before .args in
     retold (c .read-all-to-all .ensures (a .rank) (a .k)) (rw (c .before .enum-told5 .given .1) at (kind-is p)))
     (λ c. let p = c .before .before .before in
+    retold (c .read-per-dim3 .ensures (p .before .before .before .before .before .before .args .k)) (kind-is p))
+    (λ c. let p = c .before .before .before in
     let a = p .before .before .before .before .before .before .args in
-    let judged = kind-is p ∙ unknown (a .n) (a .rank) (a .k) (now (a .file)) (a .at + 1) (c .before .enum-told6 .given .1) in
+    let judged = kind-is p ∙ unknown (a .n) (a .rank) (a .k) (now (a .file)) (a .at + 1) (c .before .enum-told7 .given .1) in
     retold (c .refused2 .ensures (a .rank)) judged))

@@ -6,10 +6,10 @@ use lib.ListN.{length, take, replicate}
 use denote.Ref.{now}
 use Rattle.rules.specs.Lists.{pick}
 use Rattle.rules.specs.PlanFile.{room}
-use Rattle.rules.specs.Calls.{runMeaning}
-use Rattle.rules.specs.declared.RunOutcome.{RunOutcome}
-use Rattle.rules.specs.declared.RunOutcome.the-variants.{Finished}
-use Rattle.rules.proofs.Promises.{run-promise}
+use Rattle.types.specs.Answers.{runMeaning}
+use Rattle.types.specs.declared.RunOutcome.{RunOutcome}
+use Rattle.types.specs.declared.RunOutcome.the-variants.{Finished}
+use Rattle.types.proofs.Promises.{run-promise}
 use Rattle.plan.proofs.Wholes.{plan-held, whole-stopped, bounded}
 use Rattle.run.proofs.Returns.{stops-file, stops-work, stops-spare, finishes, last-size, last-fits}
 use Rattle.run.proofs.Zeros.{cleared-behind}

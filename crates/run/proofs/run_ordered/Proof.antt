@@ -5,7 +5,7 @@ use mathlib.Core.List.{List}
 use mathlib.Core.Path.{_≡_}
 use lib.ListN.{length, replicate, length-replicate}
 use Rattle.rules.specs.Limits.{mostDevices}
-use Rattle.rules.proofs.Fronts.{lent-length}
+use Rattle.laws.proofs.Fronts.{lent-length}
 use Rattle.plan.proofs.Wholes.{bounded}
 use Rattle.run.proofs.run_ordered.Statement.{statement}
 use Rattle.run.proofs.run_ordered.Tie as tie

@@ -5,7 +5,7 @@ use mathlib.Core.List.{List, _++_}
 use lib.ListN.{length, getD, set, drop, length-set}
 use denote.Ref.{now}
 use Rattle.rules.specs.Lists.{tab}
-use Rattle.rules.proofs.Fronts.{front-step, front-behind, front-full, whole-tab}
+use Rattle.laws.proofs.Fronts.{front-step, front-behind, front-full, whole-tab}
 use Rattle.run.proofs.Zeros.{tab-same}
 use Rattle.run.proofs.take_home.Statement.{statement}
 use Rattle.run.proofs.take_home.Tie as tie

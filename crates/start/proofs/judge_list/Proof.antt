@@ -1,6 +1,6 @@
 use borrow.Author.Needs.{needs}
 use Prim.Native.Nat.{_-_}
-use Rattle.rules.specs.Types.{axesOf}
+use Rattle.types.specs.Types.{axesOf}
 use Rattle.start.proofs.Turn.{Turning, turning, turn-stops, turn-passes, turn-ends}
 use Rattle.start.proofs.judge_list.Statement.{statement}
 use Rattle.start.proofs.judge_list.Tie as tie

@@ -2,7 +2,7 @@ use borrow.Author.Needs.{needs}
 use native.Mathlib.Omega.{arith}
 use mathlib.Core.Bool.{true}
 use mathlib.Core.Path.{sym, _∙_}
-use Rattle.rules.specs.Types.{axesOf}
+use Rattle.types.specs.Types.{axesOf}
 use Rattle.start.proofs.Verdicts.{stops, goes-on}
 use Rattle.start.proofs.Turn.{after-passed}
 use Rattle.start.proofs.judge_rising.Statement.{statement}

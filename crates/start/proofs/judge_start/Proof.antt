@@ -10,7 +10,7 @@ use Rattle.rules.specs.Limits.{mostAxes}
 use Rattle.rules.specs.Sharding.{divisible}
 use Rattle.rules.specs.Refusals.{_>>_, need}
 use Rattle.rules.specs.PlanFile.{judgeStart}
-use Rattle.rules.specs.Types.{shardingOf, meshOf, sizesOf}
+use Rattle.types.specs.Types.{shardingOf, meshOf, sizesOf}
 use Rattle.axes.specs.Marks.{marked}
 use Rattle.start.specs.Start.{meaning, judgeRising}
 use Rattle.start.proofs.Verdicts.{stops, goes-on}

@@ -2,7 +2,7 @@ use borrow.Author.Needs.{needs}
 use mathlib.Core.Path.{refl, sym, ap}
 use Rattle.rules.specs.Spread.{addWords}
 use Rattle.rules.specs.Collectives.{allReduce}
-use Rattle.step.proofs.Kernels.{one-word, nowhere, move-requires, moved-so, reduce-requires, reduced-so, at-source, at-target}
+use Rattle.step.proofs.Kernels.{one-word, nowhere, move-requires, moved-so, reduce-requires, reduced-so, scatter-requires, scattered-so, at-source, at-target}
 use Rattle.step.proofs.step_from.Statement.{statement}
 use Rattle.step.proofs.step_from.Tie as tie
 
@@ -37,9 +37,12 @@ step-from-spec =
     let q = at-target (s .args .step) (s .pre) e _ z _ (c .before .before .with2 .ensures) in
     move-requires (s .args .step) (s .pre) e tt _ _ p q)
     (λ c. search needs)
+    (λ c κs. let s = c .before .before .before .before .before .before .before .before .before .before .before in
+    scatter-requires (s .args .step) (s .pre) (c .before .before .enum-told5 .given .1) refl)
+    (λ c. search needs)
     (λ c κs. search needs)
     (λ c κs. let s = c .before .before .before .before .before .before .before .before .before .before .before .before in
-    reduce-requires (s .args .step) (s .pre) (c .before .before .before .enum-told5 .given .1) _ (ap allReduce (sym (c .empty2 .ensures))))
+    reduce-requires (s .args .step) (s .pre) (c .before .before .before .enum-told6 .given .1) _ (ap allReduce (sym (c .empty2 .ensures))))
     (λ c. search needs)
     (λ c. search needs)
     (λ c. let s = c .before .before .before .before .before .before .before .before .before .before .before .before .before .before in
@@ -66,5 +69,9 @@ step-from-spec =
     moved-so (s .args .step) (s .pre) e tt _ _ p q addWords one-word 0 refl _ _ _ (c .before .before .move-into3 .ensures))
     (λ c. search needs)
     (λ c. search needs)
+    (λ c. let s = c .before .before .before .before .before .before .before .before .before .before .before .before .before .before .before .before in
+    scattered-so (s .args .step) (s .pre) (c .before .before .before .before .before .before .before .enum-told5 .given .1) refl addWords 0 _ _ _ _ (c .before .before .before .before .scatter .ensures))
+    (λ c. search needs)
+    (λ c. search needs)
     (λ c. let s = c .before .before .before .before .before .before .before .before .before .before .before .before .before .before .before .before .before in
-    reduced-so (s .args .step) (s .pre) (c .before .before .before .before .before .before .before .before .enum-told5 .given .1) _ (ap allReduce (sym (c .before .before .before .before .before .empty2 .ensures))) addWords 0 refl _ _ _ _ (c .before .before .before .before .reduce-here2 .ensures)))
+    reduced-so (s .args .step) (s .pre) (c .before .before .before .before .before .before .before .before .enum-told6 .given .1) _ (ap allReduce (sym (c .before .before .before .before .before .empty2 .ensures))) addWords 0 refl _ _ _ _ (c .before .before .before .before .reduce-here2 .ensures)))

@@ -6,7 +6,7 @@ use lib.ListN.{length, getD, take, drop, length-drop}
 use denote.Ref.{now}
 use borrow.Fn.Kinds.{In}
 use borrow.Fn.PlainCycle.{Measures, is, falls, and}
-use Rattle.rules.proofs.Fronts.{Filled, fill-start, fill-part, fill-end, part-length, next-part, tail-all}
+use Rattle.laws.proofs.Fronts.{Filled, fill-start, fill-part, fill-end, part-length, next-part, tail-all}
 use Rattle.strided.specs.Strided.{Copy, offset, copied}
 use Rattle.strided.proofs.Laws.{Turn, one-digit, two-digits, words-are, turn, turn-places, row-in, row-is, rows-in, rows-are}
 use Rattle.strided.proofs.copy_strided.Reads as reads

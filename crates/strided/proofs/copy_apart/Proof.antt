@@ -4,7 +4,7 @@ use mathlib.Core.Path.{refl}
 use lib.ListN.{length, getD}
 use denote.Ref.{now}
 use Rattle.strided.specs.Strided.{row}
-use Rattle.rules.proofs.Fronts.{Filled, fill-start, fill-word, fill-end}
+use Rattle.laws.proofs.Fronts.{Filled, fill-start, fill-word, fill-end}
 use Rattle.strided.proofs.copy_apart.Statement.{statement}
 use Rattle.strided.proofs.copy_apart.Tie as tie
 

@@ -4,7 +4,7 @@ use Prim.Native.Nat.{_<_, _+_, _-_}
 use mathlib.Core.Path.{_≡_, _∙_}
 use lib.ListN.{take, drop, length-drop}
 use denote.Ref.{now}
-use Rattle.rules.proofs.Fronts.{tail-all}
+use Rattle.laws.proofs.Fronts.{tail-all}
 use Rattle.strided.specs.Strided.{digitRoom}
 use Rattle.strided.proofs.Joins.{joining-of, copy-alike, copied-alike}
 use Rattle.strided.proofs.copy_digits.Statement.{statement}

@@ -4,9 +4,9 @@ use Prim.Native.Nat.{_≤_, _<_, _*_, _-_, _+_, _/_, _%_}
 use mathlib.Core.Path.{_≡_, _∙_}
 use lib.ListN.{length, getD}
 use denote.Ref.{now}
-use Rattle.rules.proofs.Fronts.{next-part, part-in}
+use Rattle.laws.proofs.Fronts.{next-part, part-in}
 use Rattle.strided.specs.Strided.{rows}
-use Rattle.rules.proofs.Fronts.{Filled, fill-start, fill-part, fill-end, part-length}
+use Rattle.laws.proofs.Fronts.{Filled, fill-start, fill-part, fill-end, part-length}
 use Rattle.strided.proofs.Laws.{row-words}
 use Rattle.strided.proofs.copy_long.Statement.{statement}
 use Rattle.strided.proofs.copy_long.Tie as tie

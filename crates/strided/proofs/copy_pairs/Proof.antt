@@ -3,7 +3,7 @@ use Prim.Native.Nat.{_≤_, _<_, _*_, _-_, _+_, _/_, _%_}
 use mathlib.Core.Path.{_≡_}
 use lib.ListN.{length, getD, length-set}
 use denote.Ref.{now}
-use Rattle.rules.proofs.Fronts.{Filled, fill-start, fill-word, fill-end}
+use Rattle.laws.proofs.Fronts.{Filled, fill-start, fill-word, fill-end}
 use Rattle.strided.specs.Strided.{rows}
 use Rattle.strided.proofs.Laws.{pair-first, pair-second}
 use Rattle.strided.proofs.copy_pairs.Statement.{statement}

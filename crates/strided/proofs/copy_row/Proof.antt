@@ -4,7 +4,7 @@ use Prim.Native.Nat.{_≤_, _-_, _+_}
 use mathlib.Core.Path.{_≡_, _∙_}
 use lib.ListN.{length}
 use denote.Ref.{now}
-use Rattle.rules.proofs.Fronts.{part-cut}
+use Rattle.laws.proofs.Fronts.{part-cut}
 use Rattle.strided.proofs.Laws.{run-in, run-is}
 use Rattle.strided.proofs.copy_row.Statement.{statement}
 use Rattle.strided.proofs.copy_row.Tie as tie

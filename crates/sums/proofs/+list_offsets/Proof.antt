@@ -6,7 +6,7 @@ use lib.ListN.{length, getD, take, drop, length-set}
 use denote.Ref.{now}
 use borrow.Fn.Kinds.{In}
 use borrow.Fn.PlainCycle.{Measures, is, falls, and}
-use Rattle.rules.proofs.Fronts.{Filled, fill-start, fill-part, fill-end, part-length, next-part, tail-all}
+use Rattle.laws.proofs.Fronts.{Filled, fill-start, fill-part, fill-end, part-length, next-part, tail-all}
 use Rattle.strided.specs.Strided.{mostPlaces, offset}
 use Rattle.strided.proofs.Laws.{Turn, one-digit, words-are, turn, turn-places}
 use Rattle.sums.proofs.Listing.{no-digits, one-place}

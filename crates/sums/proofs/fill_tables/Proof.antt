@@ -4,7 +4,7 @@ use mathlib.Core.List.{[]}
 use lib.ListN.{take}
 use denote.Ref.{now}
 use Rattle.rules.specs.Lists.{tab}
-use Rattle.rules.specs.Types.{axesOf}
+use Rattle.types.specs.Types.{axesOf}
 use Rattle.strided.specs.Strided.{offset}
 use Rattle.digits.specs.Digits.{meshStrides, cleared, axisDigits}
 use Rattle.sums.specs.Sums.{firstWords, shiftWords}

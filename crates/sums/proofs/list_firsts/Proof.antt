@@ -10,7 +10,7 @@ use Rattle.strided.specs.Strided.{offset}
 use Rattle.strided.proofs.Joins.{digit-tail}
 use Rattle.digits.specs.Digits.{meshDigits}
 use Rattle.sums.specs.Sums.{axisRoom}
-use Rattle.rules.proofs.Fronts.{tail-all}
+use Rattle.laws.proofs.Fronts.{tail-all}
 use Rattle.sums.proofs.Tables.{mesh-offsets, from-zero}
 use Rattle.sums.proofs.list_firsts.Statement.{statement}
 use Rattle.sums.proofs.list_firsts.Tie as tie

@@ -10,14 +10,14 @@ use denote.Ref.{now}
 use Rattle.rules.specs.Lists.{tab}
 use Rattle.rules.specs.Mesh.{span}
 use Rattle.rules.specs.Limits.{mostAxes}
-use Rattle.rules.specs.Types.{axesOf}
-use Rattle.rules.proofs.Lists.{length-tab}
-use Rattle.rules.proofs.Types.{axes-length}
+use Rattle.types.specs.Types.{axesOf}
+use Rattle.laws.proofs.Lists.{length-tab}
+use Rattle.types.proofs.Types.{axes-length}
 use Rattle.strided.specs.Strided.{offset}
 use Rattle.strided.proofs.Joins.{digit-tail}
 use Rattle.digits.specs.Digits.{axisDigits}
 use Rattle.sums.specs.Sums.{axisRoom}
-use Rattle.rules.proofs.Fronts.{tail-all, lent-taken}
+use Rattle.laws.proofs.Fronts.{tail-all, lent-taken}
 use Rattle.sums.proofs.Tables.{axes-offsets, from-zero}
 use Rattle.sums.proofs.list_shifts.Statement.{statement}
 use Rattle.sums.proofs.list_shifts.Tie as tie

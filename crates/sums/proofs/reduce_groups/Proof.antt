@@ -4,7 +4,7 @@ use mathlib.Core.Path.{_≡_, refl, _∙_}
 use mathlib.Core.Logic.{⊎-elim}
 use lib.ListN.{length, getD}
 use denote.Ref.{now}
-use Rattle.rules.proofs.Fronts.{part-in}
+use Rattle.laws.proofs.Fronts.{part-in}
 use Rattle.rules.specs.Spread.{addWords}
 use Rattle.sums.proofs.Sharing.{Upto, upto-start, upto-group, upto-skip, upto-end}
 use Rattle.sums.proofs.reduce_groups.Statement.{statement}

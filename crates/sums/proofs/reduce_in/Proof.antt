@@ -6,8 +6,8 @@ use mathlib.Core.List.{_++_}
 use lib.ListN.{drop}
 use denote.Ref.{now}
 use Rattle.rules.specs.Lists.{product}
-use Rattle.rules.specs.Types.{axesOf}
-use Rattle.rules.proofs.Fronts.{lent-length}
+use Rattle.types.specs.Types.{axesOf}
+use Rattle.laws.proofs.Fronts.{lent-length}
 use Rattle.rules.specs.Spread.{addWords}
 use Rattle.mesh.proofs.Sizes.{fit-sizes}
 use Rattle.sums.proofs.Tables.{reduced-is}

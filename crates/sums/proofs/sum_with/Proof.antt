@@ -3,7 +3,7 @@ use native.Mathlib.Omega.{arith}
 use native.Mathlib.Nat.{sub-zero}
 use lib.ListN.{length}
 use denote.Ref.{now}
-use Rattle.rules.specs.Types.{axesOf}
+use Rattle.types.specs.Types.{axesOf}
 use Rattle.sums.proofs.Tables.{groups-are, firsts-length, group-few}
 use Rattle.sums.proofs.sum_with.Statement.{statement}
 use Rattle.sums.proofs.sum_with.Tie as tie

@@ -7,11 +7,11 @@ use lib.ListN.{length, length-take, length-append, take}
 use Rattle.rules.specs.Lists.{flat, product}
 use Rattle.rules.specs.Mesh.{span}
 use Rattle.rules.specs.Sharding.{shardSizes}
-use Rattle.rules.specs.Types.{axesOf, dimsOf, meshOf, sizesOf}
-use Rattle.rules.proofs.Sizes.{cut-divisible, cut-product}
+use Rattle.types.specs.Types.{axesOf, dimsOf, meshOf, sizesOf}
+use Rattle.laws.proofs.Sizes.{cut-divisible, cut-product}
 use Rattle.dims.proofs.Dims.{span-least}
-use Rattle.rules.proofs.Lists.{few-distinct}
-use Rattle.rules.proofs.Steps.{varies}
+use Rattle.laws.proofs.Lists.{few-distinct}
+use Rattle.laws.proofs.Steps.{varies}
 use Rattle.taking.proofs.shard_words.Statement.{statement}
 use Rattle.taking.proofs.shard_words.Tie as tie
 

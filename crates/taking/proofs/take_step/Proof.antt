@@ -2,7 +2,7 @@ use borrow.Author.Needs.{needs}
 use native.Mathlib.Omega.{arith}
 use lib.ListN.{length-map}
 use lib.Seq.{length-take-le}
-use Rattle.rules.specs.Types.{meshOf, sizesOf}
+use Rattle.types.specs.Types.{meshOf, sizesOf}
 use Rattle.reader.proofs.Answers.{read-on, read-stopped, is-told, retold}
 use Rattle.taking.proofs.Takes.{fine, stopped, bytes-stop, judgement-stops, step-taken}
 use Rattle.taking.proofs.take_step.Statement.{statement}

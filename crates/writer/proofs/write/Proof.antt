@@ -6,8 +6,8 @@ use Prim.Native.Nat.{ℕ, _≤_}
 use lib.ListN.{length}
 use denote.Ref.{now}
 use Rattle.rules.specs.Limits.{mostBytes}
-use Rattle.rules.specs.Refusals.{refusedAs}
-use Rattle.rules.specs.declared.Refusal.{Refusal}
+use Rattle.types.specs.Answers.{refusedAs}
+use Rattle.types.specs.declared.Refusal.{Refusal}
 use Rattle.records.specs.Writing.{judgeRecords, writeOf, writeLeaves}
 use Rattle.records.specs.Forms.{recordsGiven}
 use Rattle.records.specs.Promises.{writeMeaning, WritePromise}

@@ -4,7 +4,7 @@ use mathlib.Core.Path.{refl, ap, _∙_}
 use Prim.Native.Nat.{ℕ}
 use lib.ListN.{take}
 use Rattle.rules.specs.Limits.{mostDims}
-use Rattle.rules.proofs.Lists.{take-replicate}
+use Rattle.laws.proofs.Lists.{take-replicate}
 use Rattle.reader.proofs.ShardingRead.refused.Statement.{statement}
 use Rattle.reader.proofs.ShardingRead.refused.Tie as tie
 

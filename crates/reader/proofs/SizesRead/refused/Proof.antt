@@ -1,6 +1,6 @@
 use mathlib.Core.Path.{refl, sym}
 use Rattle.rules.specs.Limits.{mostAxes}
-use Rattle.rules.proofs.Lists.{take-replicate}
+use Rattle.laws.proofs.Lists.{take-replicate}
 use Rattle.reader.proofs.Sizing.{product-ones}
 use Rattle.reader.proofs.SizesRead.refused.Statement.{statement}
 use Rattle.reader.proofs.SizesRead.refused.Tie as tie

@@ -1,0 +1,4 @@
+-- What holds of the rules, as statements.
+pub mod Readers
+pub mod Demands
+pub mod Promises

@@ -1,0 +1,64 @@
+-- What the rules promise of themselves; proofs/Promises.antt proves it. Assumes nothing.
+use Prim.Native.Nat.{ℕ}
+use Rattle.rules.specs.Lists.{All}
+use Rattle.laws.specs.Readers.{ReadersCompared, EarlierLimits, EarlierEditions, EarlierSteps}
+use Rattle.laws.specs.Demands.{
+  WholePlan,
+  Spreadable,
+  Startable,
+  RoomLimit,
+  ReplicatedStays,
+  StepsCounted,
+  BlocksComeBack,
+  RoomInOnePass,
+  RefusalNumbers,
+  Locality,
+  GroupByPosition,
+  SumOfWords,
+}
+use Rattle.rules.specs.Ledger.{Holds, ledger, beside as besideIt}
+use Rattle.rules.specs.WorkedRefusals.{refusals}
+use Rattle.rules.specs.WorkedGroups.{InGroups}
+use Rattle.rules.specs.WorkedLimits.{limits, Earlier}
+use Rattle.rules.specs.WorkedEditions.{editions, FirstEdition, Unequal, NoSharding}
+use Rattle.rules.specs.WorkedOrders.{orders, SecondEdition}
+use Rattle.rules.specs.WorkedRepeats.{repeats, RepeatsRead}
+use Rattle.rules.specs.WorkedScatters.{scatters, ScattersRead}
+
+-- Demand 3 for every plan that passes, and that it speaks of something; the room's limit; that the replicated list stays; what repeats come to; the
+-- numbers of refusals; what readers that take less answer; a step's locality; what a group and a sum of words are; the ledger W1 to W10, and cases
+-- beside it; a file or a call for each refusal number; groups, a rearrangement and a spread on the smallest meshes; each limit from both sides; files of
+-- the later editions; files with repeats; files with reduce-scatters.
+pub record RulesPromise : Type 1 where
+  pub whole-plan : WholePlan
+  pub spreadable : Spreadable
+  pub startable : Startable
+  pub room-limit : RoomLimit
+  pub replicated-stays : ReplicatedStays
+  pub steps-counted : StepsCounted
+  pub blocks-come-back : BlocksComeBack
+  pub room-in-one-pass : RoomInOnePass
+  pub refusal-numbers : RefusalNumbers
+  pub readers-compared : ReadersCompared
+  pub earlier-limits : EarlierLimits
+  pub earlier-editions : EarlierEditions
+  pub earlier-steps : (kind : ℕ) → EarlierSteps kind
+  pub locality : Locality
+  pub group-by-position : GroupByPosition
+  pub sum-of-words : SumOfWords
+  pub worked : All Holds ledger
+  pub beside : All Holds besideIt
+  pub refused : All Holds refusals
+  pub in-groups : InGroups
+  pub limited : All Holds limits
+  pub earlier : Earlier
+  pub in-editions : All Holds editions
+  pub first-edition : FirstEdition
+  pub unequal : Unequal
+  pub no-sharding : NoSharding
+  pub ordered : All Holds orders
+  pub second-edition : SecondEdition
+  pub repeated : All Holds repeats
+  pub repeats-read : RepeatsRead
+  pub scattered : All Holds scatters
+  pub scatters-read : ScattersRead
