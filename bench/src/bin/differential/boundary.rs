@@ -46,7 +46,7 @@ fn record(random: &mut Random, step: &StepRecord, rank: usize) -> [u8; RECORD_BY
     let (counts, axes) = lists.split_at_mut(RECORD_LISTS);
     let kind = head[0];
     let is_used = |list| match kind {
-        1 | 2 => list < rank.min(MOST_RANK),
+        1 | 2 | 5 => list < rank.min(MOST_RANK),
         3 | 4 => list == MOST_RANK,
         _ => false,
     };
