@@ -88,9 +88,7 @@ fn spoil_record(random: &mut Random, steps: &mut [StepRecord]) -> Option<()> {
             true => *count = random.pick(&[0, 1, 255]),
             false => *steps = steps.wrapping_add(random.pick(&[1, 255])),
         },
-        _ if random.once_in(2) => {
-            *step = StepRecord::Unknown(random.pick(&[0, 6, 7, 8, 10, 255]))
-        }
+        _ if random.once_in(2) => *step = StepRecord::Unknown(random.pick(&[0, 6, 7, 8, 10, 255])),
         StepRecord::Slice(lists) | StepRecord::Gather(lists) | StepRecord::Scatter(lists) => {
             let list = random.below(lists.len());
             lists[list].resize(random.pick(&[0, MOST_AXES, MOST_AXES + 1, 255]), Axis(1));

@@ -94,6 +94,7 @@ fn main() -> ExitCode {
         small_calls(&mut bench);
         placed_lists(&mut bench);
         one_step_runs(&mut bench);
+        scattered_runs(&mut bench);
         steps_alone(&mut bench);
         whole_runs(&mut bench);
         repeated_runs(&mut bench);
@@ -139,6 +140,8 @@ struct Limits {
     single: Limit,
     whole: Limit,
     reduction: Limit,
+    scatter: Limit,
+    scatter_in_two: Limit,
     order: Limit,
     repeated: Limit,
     placed_list: Limit,
@@ -194,6 +197,8 @@ impl Limits {
             single: Limit::new("step / copy, runs of 1 word", 10.0),
             whole: Limit::new("64 steps / copies, runs of 256 and more", 3.0),
             reduction: Limit::new("reduction / addition of shards", 1.5),
+            scatter: Limit::new("run of a reduce-scatter / plain Rust", 1.5),
+            scatter_in_two: Limit::new("reduce-scatter / all-reduce, all-slice", 1.0),
             order: Limit::new("an order's part / copies in and out", 2.0),
             repeated: Limit::new("step of a block / step of a flat file", 1.2),
             placed_list: Limit::new("list of devices / single placements", 1.0),
@@ -241,7 +246,13 @@ impl Limits {
             &self.whole,
             &self.order,
         ];
-        let beside_others = [&self.reduction, &self.repeated, &self.placed_list];
+        let beside_others = [
+            &self.reduction,
+            &self.scatter,
+            &self.scatter_in_two,
+            &self.repeated,
+            &self.placed_list,
+        ];
         let beside_reference = [
             &self.small_call,
             &self.one_step_run,
@@ -421,6 +432,34 @@ fn add_shards(old: &[u32], new: &mut [u32], group: usize) {
             new.copy_within(first * words..(first + 1) * words, place);
         }
     }
+}
+
+/// A run of one reduce-scatter in plain Rust: the sum of each group's shards in place of its first
+/// shard, each member's piece from there, and the pieces taken home, with zeros behind them.
+fn scatter_shards(work: &mut [u32], spare: &mut [u32], case: &Case) {
+    let (words, group) = (MIDDLE.words, case.group);
+    let (groups, piece) = (MIDDLE.devices / group, words / group);
+    let (sums, others) = work.split_at_mut(groups * words);
+    for (first, sum) in sums.chunks_exact_mut(words).enumerate() {
+        for member in 1..group {
+            let shard = &others[(first + (member - 1) * groups) * words..][..words];
+            for (total, word) in sum.iter_mut().zip(shard) {
+                *total = total.wrapping_add(*word);
+            }
+        }
+        let run = if case.on == "last" { case.run } else { piece };
+        for member in 0..group {
+            let new = &mut spare[(first + member * groups) * piece..][..piece];
+            let rows = sum.chunks_exact(run * group);
+            for (part, row) in new.chunks_exact_mut(run).zip(rows) {
+                part.copy_from_slice(&row[member * run..][..run]);
+            }
+        }
+    }
+    let written = MIDDLE.devices * piece;
+    work[..written].copy_from_slice(&spare[..written]);
+    work[written..].fill(0);
+    spare.fill(0);
 }
 
 /// A plan of one step at the largest state, or as near to it as the step's kind allows.
@@ -842,6 +881,61 @@ fn one_step_run(bench: &mut Bench, case: &Case, addition: Option<f64>) {
         beside: addition,
     };
     row.tell(&mut bench.page);
+}
+
+/// The whole run of a reduce-scatter, beside that of an all-reduce and then an all-slice, and
+/// beside one in plain Rust.
+fn scattered_runs(bench: &mut Bench) {
+    say!(bench.page, "\n### Runs of one reduce-scatter\n");
+    say!(
+        bench.page,
+        "The whole call, as above; beside it that of an all-reduce and then an all-slice"
+    );
+    say!(
+        bench.page,
+        "(two), and the same run in plain Rust, which sums into the first member alone."
+    );
+    columns(&mut bench.page, Some("plain"));
+    let slices = slices_and_gathers().into_iter().map(|(slice, _)| slice);
+    for case in slices.filter(|case| case.group > 1) {
+        scattered_run(bench, &case);
+    }
+}
+
+fn scattered_run(bench: &mut Bench, case: &Case) {
+    let lists = axis_on(usize::from(case.on == "last"));
+    let mut case = case.clone();
+    case.draft.unreduced = axes(&[0]);
+    let one = with_steps(&case, vec![Step::Scatter(lists.clone())]);
+    let two = [Step::Reduce(axes(&[0])), Step::Slice(lists)];
+    let two = with_steps(&case, two.to_vec());
+    let [once, twice] = bench.runs([&one, &two]);
+    let copy = bench.copy(case.room(), case.words);
+    let plain = bench.least(|bench| {
+        bench.time(MIDDLE.room(), |work, spare| {
+            scatter_shards(black_box(work), black_box(spare), &case);
+        })
+    });
+    let label = case.label("scatter");
+    let limits = &mut bench.limits;
+    limits.scatter.see(once.library, plain, &label);
+    if let Some(twice) = twice.library {
+        limits.scatter_in_two.see(once.library, twice, &label);
+    }
+    limits
+        .one_step_run
+        .see(once.library, once.reference, &label);
+    for (kind, times) in [("scatter", once), ("two", twice)] {
+        let row = Row {
+            kind,
+            case: &case,
+            words: case.words,
+            times,
+            copy,
+            beside: Some(plain),
+        };
+        row.tell(&mut bench.page);
+    }
 }
 
 /// What a step costs in a longer run, without what a run does only once.
