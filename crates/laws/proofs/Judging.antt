@@ -10,8 +10,8 @@ use lib.Dec.{T, T-not, eqb, ltb, leb, eqb→eq, eqb-refl, ltb→lt, leb→le}
 use Rattle.rules.specs.Lists.{each, both, mem, ascending, In, Distinct}
 use Rattle.rules.specs.Collectives.{cutTail}
 use Rattle.rules.specs.Refusals.{Judged, accept, refuse, _>>=_, _>>_, needAt}
-use Rattle.rules.specs.PlanFile.{some, allBelow, fresh, same, isTail, increasingFrom, allIn, twoDims, judgeNamed}
-use Rattle.laws.proofs.Lists.{T?, T-and, T→true, nT→false, mem-in, in-mem, not-mem, of-ascending, in-ascending}
+use Rattle.rules.specs.PlanFile.{some, allBelow, fresh, same, isTail, increasingFrom, noneIn, allIn, twoDims, judgeNamed}
+use Rattle.laws.proofs.Lists.{T?, T-and, and-T, T→true, nT→false, mem-in, in-mem, not-mem, mem-not, of-ascending, in-ascending}
 
 -- ---- tests in order
 
@@ -113,6 +113,16 @@ pub allIn-in : (L U : List ℕ) → T (allIn L U) → (a : ℕ) → In a L → I
 unfolding allIn
 allIn-in (b ∷ L) U t a (inl e) = subst (λ z. In z U) (sym e) (mem-in b U (T-and (mem b U) (allIn L U) t .0))
 allIn-in (b ∷ L) U t a (inr i) = allIn-in L U (T-and (mem b U) (allIn L U) t .1) a i
+
+pub noneIn-off : (L U : List ℕ) → T (noneIn L U) → (a : ℕ) → In a L → ¬ In a U
+unfolding noneIn
+noneIn-off (b ∷ L) U t a (inl e) i = not-mem b U (T-and (not (mem b U)) (noneIn L U) t .0) (subst (λ z. In z U) e i)
+noneIn-off (b ∷ L) U t a (inr k) i = noneIn-off L U (T-and (not (mem b U)) (noneIn L U) t .1) a k i
+
+pub off-noneIn : (L U : List ℕ) → ((a : ℕ) → In a L → ¬ In a U) → T (noneIn L U)
+unfolding noneIn
+off-noneIn [] U h = tt
+off-noneIn (b ∷ L) U h = and-T (not (mem b U)) (noneIn L U) (mem-not b U (h b (inl refl))) (off-noneIn L U (λ a i. h a (inr i)))
 
 in-allIn : (L U : List ℕ) → ((a : ℕ) → In a L → In a U) → T (allIn L U)
 unfolding allIn

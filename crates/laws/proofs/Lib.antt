@@ -8,6 +8,7 @@ pub mod Sizes
 pub mod Fronts
 pub mod Sums
 pub mod Sources
+pub mod Factor
 pub mod Spreads
 pub mod Judging
 pub mod Orders

@@ -358,6 +358,23 @@ pub without-other : (a b : ℕ) (U : List ℕ) → a ≢ b → without (b ∷ U)
 unfolding without
 without-other a b U h = keep-yes (λ c. not (mem c (a ∷ []))) b U (mem-not b (a ∷ []) (⊎-elim (λ e. h (sym e)) (λ i. i)))
 
+-- all of U are among those taken out
+pub without-all : (L U : List ℕ) → ((a : ℕ) → In a U → In a L) → without U L ≡ []
+without-all L U h = empty (without U L) (λ a i. not-in-without a L U (h a (of-without a L U i)) i)
+  where
+    empty : (M : List ℕ) → ((a : ℕ) → ¬ In a M) → M ≡ []
+    empty [] n = refl
+    empty (a ∷ M) n = absurd (n a (inl refl))
+
+-- two lists take the same entries out of U
+pub without-alike : (L K U : List ℕ) → ((a : ℕ) → In a U → In a L → In a K) → ((a : ℕ) → In a U → In a K → In a L) → without U L ≡ without U K
+unfolding without
+without-alike L K U f g = keep-same (λ a. not (mem a L)) (λ a. not (mem a K)) U (λ a u. ap not (go a u (T? (mem a L))))
+  where
+    go : (a : ℕ) → In a U → T (mem a L) ⊎ T (not (mem a L)) → mem a L ≡ mem a K
+    go a u (inl t) = T→true (mem a L) t ∙ sym (T→true (mem a K) (in-mem a K (f a u (mem-in a L t))))
+    go a u (inr t) = nT→false (mem a L) (T-not (mem a L) t) ∙ sym (nT→false (mem a K) (λ k. T-not (mem a L) t (in-mem a L (g a u (mem-in a K k)))))
+
 pub without-absent : (L U : List ℕ) → ((a : ℕ) → In a U → ¬ In a L) → without U L ≡ U
 unfolding without
 without-absent L U off = keep-all (λ c. not (mem c L)) U (λ c i. mem-not c L (off c i))

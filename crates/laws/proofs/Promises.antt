@@ -7,8 +7,10 @@ use Rattle.rules.specs.WorkedEditions as later
 use Rattle.rules.specs.WorkedOrders as cabled
 use Rattle.rules.specs.WorkedRepeats as repeated
 use Rattle.rules.specs.WorkedScatters as scattered
+use Rattle.rules.specs.WorkedFactors as factored
 use Rattle.laws.specs.Promises.{RulesPromise}
 use Rattle.laws.proofs.Whole as whole
+use Rattle.laws.proofs.Factor as factor
 use Rattle.laws.proofs.Refusing as refusing
 use Rattle.laws.proofs.Repeats as repeats
 use Rattle.laws.proofs.Accepted as accepted
@@ -20,6 +22,8 @@ use Rattle.laws.proofs.Sums as sums
 pub rules-promise : RulesPromise
 rules-promise = record {
   whole-plan = whole.whole-plan;
+  factor-one = factor.factor-one;
+  times-one = whole.times-one;
   spreadable = whole.spreadable;
   startable = whole.startable;
   room-limit = whole.room-limit;
@@ -51,4 +55,6 @@ rules-promise = record {
   repeats-read = repeated.repeats-read;
   scattered = scattered.scattered;
   scatters-read = scattered.scatters-read;
+  factored = factored.factored;
+  factors-counted = factored.factors-counted;
 }

@@ -4,7 +4,7 @@ use Prim.Native.Nat.{ℕ, zero, suc, _+_, _*_, _≤_}
 use mathlib.Core.Path.{_≡_, refl, sym, subst}
 use mathlib.Core.Logic.{inl, inr, ⊎-elim}
 use mathlib.Core.Bool.{Bool, true, false, not}
-use mathlib.Core.List.{List, [], _∷_}
+use mathlib.Core.List.{List, [], _∷_, _++_}
 use native.Mathlib.Omega.{arith}
 use lib.ListN.{length, getD}
 use lib.Dec.{T, ltb, leb, eqb, ltb→lt, le→leb, lit≤}
@@ -54,6 +54,7 @@ use Rattle.rules.specs.PlanFile.{
   fresh,
   isTail,
   increasingFrom,
+  noneIn,
   allIn,
   twoDims,
   gatherOff,
@@ -278,7 +279,7 @@ module _ (P : ℕ → ℕ → Type 0) where
       kind-judged mesh sizes (allSlice Ss) s = tests k (fresh (named s) (flat Ss)) 23 _ (inside 23 tt) (slice-refuses mesh sizes Ss s)
       kind-judged mesh sizes (allGather Gs) s = gather-refuses Gs s
       kind-judged mesh sizes (allReduce L) s =
-          tests k (increasingFrom 0 L) 26 _ (inside 26 tt) (tests k (allIn L (s .unreduced)) 27 _ (inside 27 tt) (accepts _))
+          tests k (increasingFrom 0 L) 26 _ (inside 26 tt) (tests k (noneIn L (flat (s .dims) ++ s .replicated)) 27 _ (inside 27 tt) (accepts _))
       kind-judged mesh sizes (allToAll source target L) s =
           tests k (twoDims (length (s .dims)) source target) 28 _ (inside 28 tt)
           (bind _ _ (gather-refuses (only (length (s .dims)) source L) s) (λ g. slice-refuses mesh sizes (only (length (s .dims)) target L) g))

@@ -1,12 +1,12 @@
 -- Faithful spreads. An all-slice, an all-gather and an all-to-all keep them for every element type (`slice-faithful`, `gather-faithful`,
--- `all-to-all-faithful`), an all-reduce and a reduce-scatter keep them for words (`reduce-faithful`, `scatter-faithful`), and every table of words has
--- one, whatever the sharding (`spread-exists`). Assumes nothing.
-use Prim.Native.Nat.{ℕ, _%_, _^_, _<_}
+-- `all-to-all-faithful`), an all-reduce makes one of the table times a number (`reduce-scaled`; of unreduced axes, of the table itself: `reduce-faithful`),
+-- a reduce-scatter keeps them for words (`scatter-faithful`), and every table of words has one, whatever the sharding (`spread-exists`). Assumes nothing.
+use Prim.Native.Nat.{ℕ, _*_, _%_, _^_, _<_}
 use mathlib.Core.Path.{_≡_, refl, sym, ap, ap₂, _∙_, subst}
 use mathlib.Core.Logic.{inl, inr, ⊎-map, ⊎-elim}
 use mathlib.Core.Bool.{Bool, true, false}
 use mathlib.Core.List.{List, [], _∷_, _++_, map}
-use native.Mathlib.Nat.{mod-eq-of-lt}
+use native.Mathlib.Nat.{mod-eq-of-lt, one-mul}
 use native.Mathlib.Omega.{arith}
 use lib.ListN.{length}
 use lib.Dec.{eqb, eqb-refl, eqb→eq, lit<}
@@ -14,6 +14,7 @@ use Rattle.rules.specs.Lists.{each, pick, flat, without, ascending, In, Distinc
 use Rattle.rules.specs.Mesh.{span, position, member, members, Agree}
 use Rattle.rules.specs.Sharding.{Sharding, varying, shardSizes, firstIndexes}
 use Rattle.rules.specs.Spread.{StateOf, Faithful, addWords, from}
+use Rattle.rules.specs.Factor.{scaled}
 use Rattle.rules.specs.Collectives.{
   sliced,
   cutTail,
@@ -50,7 +51,10 @@ use Rattle.laws.proofs.Lists.{
   Apart,
   split-joined,
   in-without,
+  of-without,
   not-in-without,
+  without-all,
+  without-alike,
   distinct-without,
   of-ascending,
   distinct-ascending,
@@ -70,6 +74,7 @@ use Rattle.laws.proofs.Shapes.{
   first-owner,
   owner-member,
 }
+use Rattle.laws.proofs.Factor.{mul-mod}
 use Rattle.laws.proofs.Sources.{Ready, WordsIn, in-only, made-single, made-then, made-reduce, step-words}
 use Rattle.laws.proofs.Sums.{
   sumOver,
@@ -77,6 +82,9 @@ use Rattle.laws.proofs.Sums.{
   sumOver-without,
   sumOver-positions,
   sumOver-mod,
+  sumOver-group,
+  sumOver-const,
+  sumOver-scale,
   members-tab,
   members-cong,
   total-members,
@@ -201,38 +209,94 @@ reduce-same {addAll} {mesh} {s} {shape} {w} L F x y i bx by bi g =
     ∙ sym (members-tab (λ z. w z i) mesh L y))
     ∙ sym (made-reduce addAll mesh L w y i)
 
-pub reduce-faithful : {mesh : List ℕ} {s : Sharding} {shape : List ℕ} {table : List ℕ → ℕ} {w : StateOf ℕ} (L : List ℕ)
-    → Distinct L → Distinct (s .unreduced) → ((a : ℕ) → In a L → In a (s .unreduced)) → WordsIn mesh shape w
-    → Faithful addWords mesh s shape table w → Faithful addWords mesh (reduced L s) shape table (made addWords (reducePlaces mesh L) w)
-unfolding reduced sources
-reduce-faithful {mesh} {s} {shape} {table} {w} L dL dU sub words F =
-    let U : List ℕ = s .unreduced in
-    let new : StateOf ℕ = made addWords (reducePlaces mesh L) w in
-    record {
-      same = λ x y i bx by bi g. reduce-same L F x y i bx by bi g;
-      sums = λ x i bx bi.
-          addWords-members (λ y. new y i) mesh (without U L) x bx (distinct-without L U dU)
-          (λ y by g. step-words mesh (allReduce L) shape w tt words y i by bi)
-          ∙ sumOver-mod mesh (without U L) (2 ^ 32) (λ y. new y i) (sumOver mesh L (λ z. w z i)) x
-          (λ y. ap (λ (z : ℕ). z % 2 ^ 32) (made-reduce addWords mesh L w y i) ∙ addWords-mod (map (λ z. w z i) (members mesh L y))
-          ∙ ap (λ (z : ℕ). z % 2 ^ 32) (total-members (λ z. w z i) mesh L y dL))
-          ∙ ap (λ (z : ℕ). z % 2 ^ 32) (sym (sumOver-without mesh L U (λ y. w y i) x sub dL dU))
-          ∙ sym (addWords-members (λ y. w y i) mesh U x bx dU (λ y by g. words y i by bi))
-          ∙ F .sums x i bx bi;
-    }
+-- An all-reduce along axes that split no dimension: the sums are those of before, times the product of the sizes of the axes that were replicated.
+module _ {mesh : List ℕ} {s : Sharding} {shape : List ℕ} {table : List ℕ → ℕ} {w : StateOf ℕ} (L : List ℕ) (dL : Distinct L) (dU : Distinct (s .unreduced))
+    (off : (a : ℕ) → In a L → ¬ In a (flat (s .dims))) (words : WordsIn mesh shape w) (F : Faithful addWords mesh s shape table w) where
+  -- those of its axes that were replicated, and those that were unreduced
+  abbrev R : List ℕ
+  R = without L (varying s)
+
+  abbrev K : List ℕ
+  K = without L R
+
+  in-U : (a : ℕ) → In a K → In a (s .unreduced)
+  in-U a k =
+      ⊎-elim (λ u. ⊎-elim (λ d. absurd (off a (of-without a R L k) d)) (λ u. u) (in-append a (flat (s .dims)) (s .unreduced) u))
+      (λ r. absurd (not-in-without a R L r k)) (in-without a (varying s) L (of-without a R L k))
+
+  in-K : (a : ℕ) → In a (s .unreduced) → In a L → In a K
+  in-K a u i = ⊎-elim (λ r. absurd (not-in-without a (varying s) L (in-right a (flat (s .dims)) (s .unreduced) u) r)) (λ k. k) (in-without a R L i)
+
+  -- along the replicated axes the words are one
+  along : (i : List ℕ) → Below i shape → (y : List ℕ) → Below y mesh → sumOver mesh L (λ z. w z i) y ≡ span mesh R * sumOver mesh K (λ z. w z i) y
+  along i bi y by =
+      let f : List ℕ → ℕ = λ z. w z i in
+      let same : (z : List ℕ) → Below z mesh → sumOver mesh R f z ≡ span mesh R * f z = λ z bz.
+      sumOver-group mesh R f (λ v. f z) z bz (λ v bv e. F .same v z i bv bz bi (λ a u. sym (e a (λ r. not-in-without a (varying s) L u r))))
+      ∙ sumOver-const mesh R (f z) z in
+      sumOver-without mesh R L f y (λ a r. of-without a (varying s) L r) (distinct-without (varying s) L dL) dL
+      ∙ sumOver-group mesh K (sumOver mesh R f) (λ z. span mesh R * f z) y by (λ z bz e. same z bz) ∙ sumOver-scale mesh K (span mesh R) f y
+
+  reduced-sum : (x i : List ℕ) → Below x mesh → Below i shape
+      → addWords (map (λ y. made addWords (reducePlaces mesh L) w y i) (members mesh (without (s .unreduced) L) x))
+      ≡ span mesh R * sumOver mesh (s .unreduced) (λ y. w y i) x % 2 ^ 32
+  unfolding sources
+  reduced-sum x i bx bi =
+      let U : List ℕ = s .unreduced in
+      let f : List ℕ → ℕ = λ y. w y i in
+      let new : StateOf ℕ = made addWords (reducePlaces mesh L) w in
+      let g : ℕ = span mesh R in
+      addWords-members (λ y. new y i) mesh (without U L) x bx (distinct-without L U dU)
+      (λ y by e. step-words mesh (allReduce L) shape w tt words y i by bi)
+      ∙ sumOver-mod mesh (without U L) (2 ^ 32) (λ y. new y i) (sumOver mesh L f) x
+      (λ y. ap (λ (z : ℕ). z % 2 ^ 32) (made-reduce addWords mesh L w y i) ∙ addWords-mod (map (λ z. w z i) (members mesh L y))
+      ∙ ap (λ (z : ℕ). z % 2 ^ 32) (total-members (λ z. w z i) mesh L y dL))
+      ∙ ap (λ (z : ℕ). z % 2 ^ 32) (sumOver-group mesh (without U L) (sumOver mesh L f) (λ y. g * sumOver mesh K f y) x bx (λ y by e. along i bi y by)
+      ∙ sumOver-scale mesh (without U L) g (sumOver mesh K f) x
+      ∙ ap (λ (l : List ℕ). g * sumOver mesh l (sumOver mesh K f) x) (without-alike L K U in-K (λ a u k. of-without a R L k))
+      ∙ ap (λ (z : ℕ). g * z) (sym (sumOver-without mesh K U f x in-U (distinct-without R L dL) dU)))
+
+  -- the sum before it is the table's word
+  before : (x i : List ℕ) → Below x mesh → Below i shape
+      → sumOver mesh (s .unreduced) (λ y. w y i) x % 2 ^ 32 ≡ table (from (firstIndexes mesh (s .dims) shape x) i)
+  before x i bx bi = sym (addWords-members (λ y. w y i) mesh (s .unreduced) x bx dU (λ y by e. words y i by bi)) ∙ F .sums x i bx bi
+
+  pub reduce-scaled : Faithful addWords mesh (reduced L s) shape (scaled (span mesh (without L (varying s))) table) (made addWords (reducePlaces mesh L) w)
+  unfolding reduced scaled
+  reduce-scaled = record {
+    same = λ x y i bx by bi g. reduce-same L F x y i bx by bi g;
+    sums = λ x i bx bi.
+        reduced-sum x i bx bi ∙ sym (mul-mod (span mesh R) (sumOver mesh (s .unreduced) (λ y. w y i) x) (2 ^ 32))
+        ∙ ap (λ (z : ℕ). span mesh R * z % 2 ^ 32) (before x i bx bi);
+  }
+
+  -- of unreduced axes alone, it is a spread of the same table
+  pub reduce-faithful : ((a : ℕ) → In a L → In a (s .unreduced)) → Faithful addWords mesh (reduced L s) shape table (made addWords (reducePlaces mesh L) w)
+  unfolding reduced
+  reduce-faithful sub = record {
+    same = λ x y i bx by bi g. reduce-same L F x y i bx by bi g;
+    sums = λ x i bx bi.
+        reduced-sum x i bx bi
+        ∙ ap (λ (l : List ℕ). span mesh l * sumOver mesh (s .unreduced) (λ y. w y i) x % 2 ^ 32)
+        (without-all (varying s) L (λ a j. in-right a (flat (s .dims)) (s .unreduced) (sub a j)))
+        ∙ ap (λ (z : ℕ). z % 2 ^ 32) (one-mul (sumOver mesh (s .unreduced) (λ y. w y i) x)) ∙ before x i bx bi;
+  }
 
 -- A reduce-scatter is an all-reduce of its axes in increasing order and then an all-slice.
 pub scatter-faithful : {mesh : List ℕ} {s : Sharding} {shape : List ℕ} {table : List ℕ → ℕ} {w : StateOf ℕ} (Ss : List (List ℕ))
-    → length (s .dims) ≡ length Ss → Ready mesh (reduceScatter Ss) shape → ((a : ℕ) → In a (flat Ss) → a < length mesh) → Distinct (s .unreduced)
+    → length (s .dims) ≡ length Ss → Ready mesh (reduceScatter Ss) shape → ((a : ℕ) → In a (flat Ss) → a < length mesh) → Distinct (varying s)
     → ((a : ℕ) → In a (flat Ss) → In a (s .unreduced)) → WordsIn mesh shape w → Faithful addWords mesh s shape table w
     → Faithful addWords mesh (after (reduceScatter Ss) s) (shapeAfter mesh (reduceScatter Ss) shape) table (made addWords (sources mesh (reduceScatter Ss) shape) w)
 unfolding after sources reduced addWords
-scatter-faithful {mesh} {s} {shape} {table} {w} Ss len c below dU sub words F =
+scatter-faithful {mesh} {s} {shape} {table} {w} Ss len c below once sub words F =
     let L : List ℕ = ascending (length mesh) (flat Ss) in
+    let parts : Distinct (flat (s .dims)) × Distinct (s .unreduced) × ((a : ℕ) → In a (flat (s .dims)) → ¬ In a (s .unreduced)) =
+    distinct-split (flat (s .dims)) (s .unreduced) once in
+    let owed : (a : ℕ) → In a L → In a (s .unreduced) = λ a i. sub a (of-ascending (length mesh) (flat Ss) a i) in
     let between : Faithful addWords mesh (reduced (flat Ss) s) shape table (made addWords (reducePlaces mesh L) w) =
     subst (λ (u : List ℕ). Faithful addWords mesh (record { dims = s .dims; unreduced = u; replicated = s .replicated }) shape table (made addWords (reducePlaces mesh L) w))
     (without-ascending (length mesh) (flat Ss) (s .unreduced) below)
-    (reduce-faithful L (distinct-ascending (length mesh) (flat Ss)) dU (λ a i. sub a (of-ascending (length mesh) (flat Ss) a i)) words F) in
+    (reduce-faithful L (distinct-ascending (length mesh) (flat Ss)) (parts .1) (λ a i d. parts .2 a d (owed a i)) words F owed) in
     subst (Faithful addWords mesh (after (reduceScatter Ss) s) (shardSizes mesh shape Ss) table)
     (sym (made-then addWords (λ a. refl) (reducePlaces mesh L) (slicePlace mesh Ss shape) w))
     (slice-faithful (λ a. refl) Ss len c (λ a i. not-in-without a (flat Ss) (s .unreduced) i) between)

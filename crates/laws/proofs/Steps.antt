@@ -30,7 +30,7 @@ use Rattle.rules.specs.Collectives.{
 }
 use Rattle.rules.specs.Limits.{mostDims}
 use Rattle.rules.specs.Refusals.{Judged, accept}
-use Rattle.rules.specs.PlanFile.{some, allBelow, fresh, isTail, increasingFrom, allIn, twoDims, gatherOff, sliceOn, judgeKind, judgeNamed, judgeStep}
+use Rattle.rules.specs.PlanFile.{some, allBelow, fresh, isTail, increasingFrom, noneIn, allIn, twoDims, gatherOff, sliceOn, judgeKind, judgeNamed, judgeStep}
 use Rattle.laws.proofs.Lists.{
   take-replicate,
   length-each,
@@ -52,7 +52,7 @@ use Rattle.laws.proofs.Lists.{
 }
 use Rattle.laws.proofs.Shapes.{Cut, cut-lengths}
 use Rattle.laws.proofs.Sizes.{cut-divisible, cut-joined, cut-grown, cut-is}
-use Rattle.laws.proofs.Judging.{accept-inj, need-inv, then-inv, bind-inv, named-inv, allBelow-lt, fresh-distinct, tails-joined, increasing-distinct, allIn-in, twoDims-facts}
+use Rattle.laws.proofs.Judging.{accept-inj, need-inv, then-inv, bind-inv, named-inv, allBelow-lt, fresh-distinct, tails-joined, increasing-distinct, noneIn-off, allIn-in, twoDims-facts}
 
 -- one list among empty ones
 pub flat-empty : (r : ℕ) → flat {A = ℕ} (replicate r []) ≡ []
@@ -90,7 +90,7 @@ module _ (mesh sizes : List ℕ) where
 
   pub record ReduceFacts (L : List ℕ) (s : Sharding) : Type 0 where
     pub once : Distinct L
-    pub unreduced : (a : ℕ) → In a L → In a (s .unreduced)
+    pub off : (a : ℕ) → In a L → ¬ In a (flat (s .dims))
 
   pub record ToAllFacts (source target : ℕ) (L : List ℕ) (s : Sharding) : Type 0 where
     pub source-lt : source < length (s .dims)
@@ -131,8 +131,9 @@ module _ (mesh sizes : List ℕ) where
   kind-facts k (allReduce L) s r e =
       let m : Judged Sharding = accept (reduced L s) in
       let p : T (increasingFrom 0 L) × (_ ≡ accept r) = need-inv k (increasingFrom 0 L) 26 _ r e in
-      let q : T (allIn L (s .unreduced)) × (m ≡ accept r) = need-inv k (allIn L (s .unreduced)) 27 m r (p .1) in
-      (record { once = increasing-distinct 0 L (p .0); unreduced = allIn-in L (s .unreduced) (q .0) }, accept-inj (q .1))
+      let U : List ℕ = flat (s .dims) ++ s .replicated in
+      let q : T (noneIn L U) × (m ≡ accept r) = need-inv k (noneIn L U) 27 m r (p .1) in
+      (record { once = increasing-distinct 0 L (p .0); off = λ a i j. noneIn-off L U (q .0) a i (in-left a (flat (s .dims)) (s .replicated) j) }, accept-inj (q .1))
   kind-facts k (allToAll source target L) s r e =
       let n : ℕ = length (s .dims) in
       let p : T (twoDims n source target) × (_ ≡ accept r) = need-inv k (twoDims n source target) 28 _ r e in

@@ -5,11 +5,11 @@ use Prim.Native.Nat.{ℕ, zero, suc, _+_, _*_, _/_, _%_, _^_, _<_}
 use mathlib.Core.Path.{_≡_, refl, sym, ap, ap₂, _∙_, subst, fun-ext}
 use mathlib.Core.Logic.{inl, inr, ⊎-elim}
 use mathlib.Core.List.{List, [], _∷_, _++_, map}
-use native.Mathlib.Nat.{add-mod, add-zero, add-suc, zero-mul, suc-mul, mod-lt, mod-mod, mod-eq-of-lt}
+use native.Mathlib.Nat.{add-mod, add-zero, add-suc, mul-zero, mul-add, mul-assoc, zero-mul, suc-mul, mod-lt, mod-mod, mod-eq-of-lt}
 use native.Mathlib.Omega.{arith}
 use native.Mathlib.Decide.{ℕ-discrete}
 use lib.ListN.{getD, set}
-use lib.Seq.{set-comm}
+use lib.Seq.{set-comm, getD-set-other}
 use lib.Arith.{digits-div, digits-mod}
 use lib.Dec.{lit<}
 use Rattle.laws.specs.Demands.{SumOfWords}
@@ -29,7 +29,7 @@ use Rattle.laws.proofs.Lists.{
   without-other,
   without-absent,
 }
-use Rattle.laws.proofs.Positions.{below-member, member-other, member-set}
+use Rattle.laws.proofs.Positions.{below-set, below-member, member-other, member-set}
 
 -- f 0 + f 1 + .. + f (n - 1)
 abbrev pub sum : ℕ → (ℕ → ℕ) → ℕ
@@ -53,6 +53,14 @@ sum-zero (suc n) = rw (sum-zero n)
 sum-add : (n : ℕ) (f g : ℕ → ℕ) → sum n (λ k. f k + g k) ≡ sum n f + sum n g
 sum-add zero f g = refl
 sum-add (suc n) f g = omega (arith, sum-add n f g)
+
+pub sum-const : (n c : ℕ) → sum n (λ k. c) ≡ n * c
+sum-const zero c = omega arith
+sum-const (suc n) c = ap (λ (z : ℕ). z + c) (sum-const n c) ∙ sym (suc-mul n c)
+
+sum-scale : (n c : ℕ) (f : ℕ → ℕ) → sum n (λ k. c * f k) ≡ c * sum n f
+sum-scale zero c f = sym (mul-zero c)
+sum-scale (suc n) c f = ap (λ (z : ℕ). z + c * f n) (sum-scale n c f) ∙ sym (mul-add c (sum n f) (f n))
 
 sum-swap : (n m : ℕ) (f : ℕ → ℕ → ℕ) → sum n (λ i. sum m (λ j. f i j)) ≡ sum m (λ j. sum n (λ i. f i j))
 sum-swap zero m f = sym (sum-zero m)
@@ -152,6 +160,25 @@ module _ (mesh : List ℕ) where
       → sumOver mesh L f x % m ≡ sumOver mesh L g x % m
   sumOver-mod [] m f g x h = h x
   sumOver-mod (a ∷ L) m f g x h = sum-mod (getD mesh a 1) m _ _ (λ k l. sumOver-mod L m f g (set x a k) h)
+
+  -- of functions that are equal on the group
+  pub sumOver-group : (L : List ℕ) (f g : List ℕ → ℕ) (x : List ℕ) → Below x mesh → ((y : List ℕ) → Below y mesh → SameGroup L x y → f y ≡ g y)
+      → sumOver mesh L f x ≡ sumOver mesh L g x
+  sumOver-group [] f g x b h = h x b (λ a n. refl)
+  sumOver-group (c ∷ L) f g x b h =
+      sum-cong (getD mesh c 1) (λ k l. sumOver-group L f g (set x c k) (below-set c k b l)
+      (λ y by e. h y by (λ a n. sym (getD-set-other x c a k 0 (λ p. n (inl p))) ∙ e a (λ i. n (inr i)))))
+
+  pub sumOver-const : (L : List ℕ) (c : ℕ) (x : List ℕ) → sumOver mesh L (λ y. c) x ≡ span mesh L * c
+  sumOver-const [] c x = omega arith
+  sumOver-const (a ∷ L) c x =
+      ap (sum (getD mesh a 1)) (fun-ext (λ k. sumOver-const L c (set x a k))) ∙ sum-const (getD mesh a 1) (span mesh L * c)
+      ∙ sym (mul-assoc (getD mesh a 1) (span mesh L) c)
+
+  pub sumOver-scale : (L : List ℕ) (c : ℕ) (f : List ℕ → ℕ) (x : List ℕ) → sumOver mesh L (λ y. c * f y) x ≡ c * sumOver mesh L f x
+  sumOver-scale [] c f x = refl
+  sumOver-scale (a ∷ L) c f x =
+      ap (sum (getD mesh a 1)) (fun-ext (λ k. sumOver-scale L c f (set x a k))) ∙ sum-scale (getD mesh a 1) c (λ k. sumOver mesh L f (set x a k))
 
 -- ---- the members of a group, by position
 

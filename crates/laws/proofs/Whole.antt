@@ -12,7 +12,7 @@ use lib.ListN.{length, getD, take, drop, replicate, length-append, length-replic
 use lib.Seq.{take-at, take-append-seam, length-take-le}
 use lib.Dec.{T, ltb, leb, ltb→lt, nltb→le, leb→le, le→leb, lit<}
 use Rattle.rules.specs.Lists.{each, inTurn, flat, product, In, Below}
-use Rattle.rules.specs.Mesh.{devices, plainOrder, Rearrangement}
+use Rattle.rules.specs.Mesh.{coords, devices, plainOrder, Rearrangement}
 use Rattle.rules.specs.Sharding.{Sharding, varying, shardSizes, IsSharding}
 use Rattle.rules.specs.Spread.{StateOf, Faithful, addWords, tabulateBy, heldBy}
 use Rattle.rules.specs.Collectives.{
@@ -34,15 +34,17 @@ use Rattle.rules.specs.Collectives.{
 }
 use Rattle.rules.specs.Refusals.{Judged, accept, _>>_, _>>=_, need}
 use Rattle.rules.specs.PlanFile.{Plan, judge, judgeBy, announced, announcedShape, room}
+use Rattle.rules.specs.Factor.{scaled, reducedAxes, stepFactor, factorOf, factorAfter}
 use Rattle.rules.specs.Calls.{shardsAfter, lastState, runnable, Ran, runLeaves, runOf}
 use Rattle.rules.specs.Ledger.{fileOf}
-use Rattle.laws.specs.Demands.{Words, Fits, SpreadAt, returned, startWords, WholePlan, Spreadable, Startable, RoomLimit, ReplicatedStays}
+use Rattle.laws.specs.Demands.{Words, Fits, SpreadAt, returned, startWords, WholePlan, TimesOne, Spreadable, Startable, RoomLimit, ReplicatedStays}
 use Rattle.laws.proofs.Lists.{T?, T→true, in-left, in-right, distinct-split, length-tab, getD-tab}
 use Rattle.laws.proofs.Positions.{pos-of-lt, div-lt}
 use Rattle.laws.proofs.Buffers.{below-coords}
 use Rattle.laws.proofs.Orders.{by-order, held-tabulate-by, tabulate-held-by, length-tabulate-by}
 use Rattle.laws.proofs.Sources.{WordsIn, step-words}
-use Rattle.laws.proofs.Spreads.{faithful-cong, slice-faithful, gather-faithful, all-to-all-faithful, reduce-faithful, scatter-faithful, spread-exists}
+use Rattle.laws.proofs.Factor.{scaled-scaled, scaled-one, table-words, unscaled, step-one}
+use Rattle.laws.proofs.Spreads.{faithful-cong, slice-faithful, gather-faithful, all-to-all-faithful, reduce-scaled, scatter-faithful, spread-exists}
 use Rattle.laws.proofs.Judging.{never}
 use Rattle.laws.proofs.Steps.{
   AcceptedStep,
@@ -52,6 +54,7 @@ use Rattle.laws.proofs.Steps.{
   flat-only,
   Varies,
   varies,
+  sharding-cut,
   shape-length,
   slice-sharding,
   gather-sharding,
@@ -71,49 +74,65 @@ module _ (mesh sizes : List ℕ) (pos : (a : ℕ) → zero < getD mesh a 1) wher
   abbrev shapeOf : Sharding → List ℕ
   shapeOf s = shardSizes mesh sizes (s .dims)
 
-  -- an accepted step makes a faithful spread of the same table, under the sharding after it
+  -- what an accepted step that reduces no replicated axis makes of a faithful spread is one of the same table, which is words
+  kept : (t : Step) (s : Sharding) (table : List ℕ → ℕ) (w : StateOf ℕ) → IsSharding mesh sizes s → AcceptedStep mesh sizes t s
+      → ((a : ℕ) → In a (reducedAxes t) → In a (s .unreduced)) → WordsIn mesh (shapeOf s) w
+      → Faithful addWords mesh (after t s) (shapeAfter mesh t (shapeOf s)) table (made addWords (sources mesh t (shapeOf s)) w)
+      → Faithful addWords mesh (after t s) (shapeAfter mesh t (shapeOf s)) (scaled (stepFactor mesh t s) table) (made addWords (sources mesh t (shapeOf s)) w)
+  kept t s table w h f owed ws F =
+      subst (λ (c : ℕ). Faithful addWords mesh (after t s) (shapeAfter mesh t (shapeOf s)) (scaled c table) (made addWords (sources mesh t (shapeOf s)) w))
+      (sym (step-one mesh t s owed)) (scaled-one (step-words mesh t (shapeOf s) w (step-ready mesh sizes pos t s h f) ws) F)
+
+  -- an accepted step makes a faithful spread of the table times its factor, under the sharding after it
   step-spread : (t : Step) (s : Sharding) (table : List ℕ → ℕ) (w : StateOf ℕ) → IsSharding mesh sizes s → AcceptedStep mesh sizes t s
       → WordsIn mesh (shapeOf s) w → Faithful addWords mesh s (shapeOf s) table w
-      → Faithful addWords mesh (after t s) (shapeAfter mesh t (shapeOf s)) table (made addWords (sources mesh t (shapeOf s)) w)
+      → Faithful addWords mesh (after t s) (shapeAfter mesh t (shapeOf s)) (scaled (stepFactor mesh t s) table) (made addWords (sources mesh t (shapeOf s)) w)
   unfolding after sources addWords
   step-spread (allSlice Ss) s table w h f ws F =
       let k : Sliced mesh sizes pos Ss s = slice-sharding mesh sizes pos Ss s h (f .axes) (f .by-kind) in
-      slice-faithful (λ a. refl) Ss (k .one-each) (k .pieces) (λ a i j. f .by-kind .off a i (in-left a (varying s) (s .replicated) (in-right a (flat (s .dims)) (s .unreduced) j))) F
+      kept (allSlice Ss) s table w h f (λ a i. absurd i) ws
+      (slice-faithful (λ a. refl) Ss (k .one-each) (k .pieces) (λ a i j. f .by-kind .off a i (in-left a (varying s) (s .replicated) (in-right a (flat (s .dims)) (s .unreduced) j))) F)
   step-spread (allGather Gs) s table w h f ws F =
       let k : Gathered mesh sizes pos Gs s = gather-sharding mesh sizes pos Gs s h (f .by-kind) in
-      gather-faithful (λ a. refl) Gs (k .one-each) (k .joined) (k .wholes) (varies mesh sizes s h .once) (varies mesh sizes s h .of-mesh) F
+      kept (allGather Gs) s table w h f (λ a i. absurd i) ws
+      (gather-faithful (λ a. refl) Gs (k .one-each) (k .joined) (k .wholes) (varies mesh sizes s h .once) (varies mesh sizes s h .of-mesh) F)
   step-spread (allReduce L) s table w h f ws F =
-      reduce-faithful L (f .by-kind .once) (distinct-split (flat (s .dims)) (s .unreduced) (varies mesh sizes s h .once) .1) (f .by-kind .unreduced) ws F
+      reduce-scaled L (f .by-kind .once) (distinct-split (flat (s .dims)) (s .unreduced) (varies mesh sizes s h .once) .1) (f .by-kind .off) ws F
   step-spread (allToAll source target L) s table w h f ws F =
       let k : ToAll mesh sizes pos source target L s = to-all-sharding mesh sizes pos source target L s h (f .axes) (f .by-kind) in
       let n : length (shapeOf s) ≡ length (s .dims) = shape-length mesh sizes pos s h in
       let off : (a : ℕ) → In a L → ¬ In a (s .unreduced) =
       λ a i j. distinct-split (flat (s .dims)) (s .unreduced) (varies mesh sizes s h .once) .2 a
       (k .first .cut-off a (subst (In a) (sym (flat-only (length (s .dims)) source L (f .by-kind .source-lt))) i)) j in
-      all-to-all-faithful (λ a. refl) source target L (sym n)
+      kept (allToAll source target L) s table w h f (λ a i. absurd i) ws
+      (all-to-all-faithful (λ a. refl) source target L (sym n)
       (subst (λ (r : ℕ). each _++_ (each cutTail (s .dims) (only r source L)) (only r source L) ≡ s .dims) (sym n) (k .first .joined))
-      (step-ready mesh sizes pos (allToAll source target L) s h f) off (varies mesh sizes s h .once) (varies mesh sizes s h .of-mesh) F
+      (step-ready mesh sizes pos (allToAll source target L) s h f) off (varies mesh sizes s h .once) (varies mesh sizes s h .of-mesh) F)
   step-spread (reduceScatter Ss) s table w h f ws F =
-      scatter-faithful Ss (scatter-sharding mesh sizes pos Ss s h f .one-each) (step-ready mesh sizes pos (reduceScatter Ss) s h f) (f .axes)
-      (distinct-split (flat (s .dims)) (s .unreduced) (varies mesh sizes s h .once) .1) (f .by-kind .unreduced) ws F
+      kept (reduceScatter Ss) s table w h f (f .by-kind .unreduced) ws
+      (scatter-faithful Ss (scatter-sharding mesh sizes pos Ss s h f .one-each) (step-ready mesh sizes pos (reduceScatter Ss) s h f) (f .axes)
+      (varies mesh sizes s h .once) (f .by-kind .unreduced) ws F)
 
   -- ---- steps in turn
 
-  -- a faithful spread of words stays one
+  -- a faithful spread of words stays one, of the table times the steps' factor
   steps-spread : (ts : List Step) (s : Sharding) (table : List ℕ → ℕ) (v : Shards ℕ) → IsSharding mesh sizes s → Fine mesh sizes s ts
       → v .shape ≡ shapeOf s → WordsIn mesh (shapeOf s) (v .words) → Faithful addWords mesh s (shapeOf s) table (v .words)
-      → Faithful addWords mesh (inTurn after ts s) (shapeOf (inTurn after ts s)) table (inTurn (stepped addWords mesh) ts v .words)
+      → Faithful addWords mesh (inTurn after ts s) (shapeOf (inTurn after ts s)) (scaled (factorOf mesh ts s) table) (inTurn (stepped addWords mesh) ts v .words)
   unfolding stepped
-  steps-spread [] s table v h f e ws F = F
+  steps-spread [] s table v h f e ws F = scaled-one ws F
   steps-spread (t ∷ ts) s table v h f e ws F =
+      let c : ℕ = stepFactor mesh t s in
       let g : shapeAfter mesh t (shapeOf s) ≡ shapeOf (after t s) = after-shape mesh sizes pos t s h (f .0) in
       let new : StateOf ℕ = made addWords (sources mesh t (shapeOf s)) (v .words) in
       let same : new ≡ made addWords (sources mesh t (v .shape)) (v .words) = ap (λ (z : List ℕ). made addWords (sources mesh t z) (v .words)) (sym e) in
       let words : WordsIn mesh (shapeOf (after t s)) new = subst (λ (z : List ℕ). WordsIn mesh z new) g (step-words mesh t (shapeOf s) (v .words) (step-ready mesh sizes pos t s h (f .0)) ws) in
-      let spread : Faithful addWords mesh (after t s) (shapeOf (after t s)) table new =
-      subst (λ (z : List ℕ). Faithful addWords mesh (after t s) z table new) g (step-spread t s table (v .words) h (f .0) ws F) in
-      steps-spread ts (after t s) table (stepped addWords mesh t v) (after-sharding mesh sizes pos t s h (f .0)) (f .1) (ap (shapeAfter mesh t) e ∙ g)
-      (subst (WordsIn mesh (shapeOf (after t s))) same words) (subst (Faithful addWords mesh (after t s) (shapeOf (after t s)) table) same spread)
+      let spread : Faithful addWords mesh (after t s) (shapeOf (after t s)) (scaled c table) new =
+      subst (λ (z : List ℕ). Faithful addWords mesh (after t s) z (scaled c table) new) g (step-spread t s table (v .words) h (f .0) ws F) in
+      subst (λ (T : List ℕ → ℕ). Faithful addWords mesh (inTurn after ts (after t s)) (shapeOf (inTurn after ts (after t s))) T
+      (inTurn (stepped addWords mesh) ts (stepped addWords mesh t v) .words)) (scaled-scaled (factorOf mesh ts (after t s)) c table)
+      (steps-spread ts (after t s) (scaled c table) (stepped addWords mesh t v) (after-sharding mesh sizes pos t s h (f .0)) (f .1) (ap (shapeAfter mesh t) e ∙ g)
+      (subst (WordsIn mesh (shapeOf (after t s))) same words) (subst (Faithful addWords mesh (after t s) (shapeOf (after t s)) (scaled c table)) same spread))
 
 -- ---- the run of an accepted file
 
@@ -178,11 +197,23 @@ module _ {p : Plan} (a : AcceptedPlan p) where
       (fine-take (p .mesh) (p .sizes) k (p .start) (p .steps) (a .fine)) refl
 
   plan-spreads : (table : List ℕ → ℕ) (work : List ℕ) → Words work → SpreadAt p table 0 (shardsAfter p work 0 .words)
-      → (k : ℕ) → SpreadAt p table k (shardsAfter p work k .words)
-  unfolding shardsAfter announcedShape announced heldBy
+      → (k : ℕ) → SpreadAt p (scaled (factorAfter p k) table) k (shardsAfter p work k .words)
+  unfolding shardsAfter announcedShape announced heldBy factorAfter
   plan-spreads table work ws F k =
       steps-spread (p .mesh) (p .sizes) (a .within .sizes-pos) (take k (p .steps)) (p .start) table _ (a .start-is)
       (fine-take (p .mesh) (p .sizes) k (p .start) (p .steps) (a .fine)) refl (λ x i bx bi. ws _) F
+
+  -- 1 times a table that has a faithful spread is that table
+  plan-times-one : (table : List ℕ → ℕ) (work : List ℕ) → Words work → SpreadAt p table 0 (shardsAfter p work 0 .words)
+      → (k : ℕ) (w : StateOf ℕ) → SpreadAt p (scaled 1 table) k w → SpreadAt p table k w
+  unfolding shardsAfter announcedShape announced heldBy
+  plan-times-one table work ws F k w G =
+      let pos : (b : ℕ) → zero < getD (p .mesh) b 1 = a .within .sizes-pos in
+      let v : Varies (p .mesh) (p .sizes) (p .start) = varies (p .mesh) (p .sizes) (p .start) (a .start-is) in
+      let dims : List ℕ = flat (p .start .dims) in
+      unscaled (sharding-cut (p .mesh) (p .sizes) pos (announced p k) (state a k .sharding))
+      (table-words (λ x i bx bi. ws _) F (sharding-cut (p .mesh) (p .sizes) pos (p .start) (a .start-is)) (distinct-split dims (p .start .unreduced) (v .once) .0)
+      (λ b i. v .of-mesh b (in-left b dims (p .start .unreduced) i)) (coords (p .mesh) 0) (below-coords (p .mesh) 0 (a .within .devices-pos))) G
 
   -- the buffer of the last state: its shape is the one announced last
   pub last-buffer : (work : List ℕ) → lastState p work ≡ tabulateBy (p .order) (p .mesh) (lastShape p) (lastWords p work)
@@ -256,6 +287,9 @@ whole-plan file p e work spare words =
       returns = λ f table F.
           faithful-cong (λ x i bx bi. sym (holds a file e work spare f x i bx bi)) (plan-spreads a table work words F (length (p .steps)));
     }
+
+pub times-one : TimesOne
+times-one file p e table work = plan-times-one (accepted file p e) table work
 
 -- ---- there is a spread
 

@@ -30,6 +30,7 @@ use Rattle.rules.specs.PlanFile.{
   announcedShape,
   room,
 }
+use Rattle.rules.specs.Factor.{scaled, reducedAxes, factorAfter}
 use Rattle.rules.specs.Calls.{checkOf, placeOf, groupsOf, groupsOrderedOf, shardsAfter, lastState, Ran, runOf}
 
 -- ---- demand 3
@@ -79,16 +80,30 @@ pub record Demand3 (p : Plan) (work spare : List ℕ) (ran : Ran) : Type 0 where
       → returned p ran x i ≡ shardsAfter p work (length (p .steps)) .words x i
   -- "With no steps, the first D times m words stay as given."
   pub stays : p .steps ≡ [] → Fits p work spare → take (startWords p) (ran .work) ≡ take (startWords p) work
-  -- "A faithful spread of a table at the start is, after every step and at the return, a faithful spread of that same table under the announced
-  -- sharding."
+  -- "A faithful spread of a table at the start is", "after each step, and at the return of a run that reaches the end, .. a faithful spread, under the
+  -- announced sharding, of the starting table multiplied, modulo 2^32, by one factor" (02, Ask 6)
   pub spreads : (table : List ℕ → ℕ) → SpreadAt p table 0 (shardsAfter p work 0 .words)
-      → (k : ℕ) → k ≤ length (p .steps) → SpreadAt p table k (shardsAfter p work k .words)
+      → (k : ℕ) → k ≤ length (p .steps) → SpreadAt p (scaled (factorAfter p k) table) k (shardsAfter p work k .words)
   pub returns : Fits p work spare → (table : List ℕ → ℕ) → SpreadAt p table 0 (shardsAfter p work 0 .words)
-      → SpreadAt p table (length (p .steps)) (returned p ran)
+      → SpreadAt p (scaled (factorAfter p (length (p .steps))) table) (length (p .steps)) (returned p ran)
 
 -- "For any plan that the check passed, whatever its steps, and any two buffers": of 32-bit words
 abbrev pub WholePlan : Type 0
 WholePlan = (file : List ℕ) (p : Plan) → judge file ≡ accept p → (work spare : List ℕ) → Words work → Demand3 p work spare (runOf file work spare)
+
+-- Where every axis that is reduced in the first k plain steps was unreduced just before its step, the factor is 1: of every plan, so that "that same table"
+-- of document 01 is what demand 3 says of every plan that 01 accepts.
+abbrev pub FactorOne : Type 0
+FactorOne =
+    (p : Plan) (k : ℕ)
+    → ((j : ℕ) (t : Step) (rest : List Step) → j < k → drop j (p .steps) ≡ t ∷ rest → (a : ℕ) → In a (reducedAxes t) → In a (announced p j .unreduced))
+    → factorAfter p k ≡ 1
+
+-- 1 times a table is that table, where a buffer of words is a faithful spread of it under an accepted plan's start: all its entries are words then.
+abbrev pub TimesOne : Type 0
+TimesOne =
+    (file : List ℕ) (p : Plan) → judge file ≡ accept p → (table : List ℕ → ℕ) (work : List ℕ) → Words work → SpreadAt p table 0 (shardsAfter p work 0 .words)
+    → (k : ℕ) (w : StateOf ℕ) → SpreadAt p (scaled 1 table) k w → SpreadAt p table k w
 
 -- Demand 3 speaks of something: every table of words has a work buffer that is a faithful spread of it under an accepted plan's start, unreduced axes
 -- or not, of every length from the start's state on; and there are two buffers with the plan's room, work such a spread.

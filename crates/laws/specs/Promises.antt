@@ -4,6 +4,8 @@ use Rattle.rules.specs.Lists.{All}
 use Rattle.laws.specs.Readers.{ReadersCompared, EarlierLimits, EarlierEditions, EarlierSteps}
 use Rattle.laws.specs.Demands.{
   WholePlan,
+  FactorOne,
+  TimesOne,
   Spreadable,
   Startable,
   RoomLimit,
@@ -24,13 +26,16 @@ use Rattle.rules.specs.WorkedEditions.{editions, FirstEdition, Unequal, NoShard
 use Rattle.rules.specs.WorkedOrders.{orders, SecondEdition}
 use Rattle.rules.specs.WorkedRepeats.{repeats, RepeatsRead}
 use Rattle.rules.specs.WorkedScatters.{scatters, ScattersRead}
+use Rattle.rules.specs.WorkedFactors.{factors, FactorsCounted}
 
--- Demand 3 for every plan that passes, and that it speaks of something; the room's limit; that the replicated list stays; what repeats come to; the
+-- Demand 3 for every plan that passes, where its factor is 1 and what 1 times a table is, and that it speaks of something; the room's limit; that the replicated list stays; what repeats come to; the
 -- numbers of refusals; what readers that take less answer; a step's locality; what a group and a sum of words are; the ledger W1 to W10, and cases
 -- beside it; a file or a call for each refusal number; groups, a rearrangement and a spread on the smallest meshes; each limit from both sides; files of
--- the later editions; files with repeats; files with reduce-scatters.
+-- the later editions; files with repeats; files with reduce-scatters; files that reduce replicated axes.
 pub record RulesPromise : Type 1 where
   pub whole-plan : WholePlan
+  pub factor-one : FactorOne
+  pub times-one : TimesOne
   pub spreadable : Spreadable
   pub startable : Startable
   pub room-limit : RoomLimit
@@ -62,3 +67,5 @@ pub record RulesPromise : Type 1 where
   pub repeats-read : RepeatsRead
   pub scattered : All Holds scatters
   pub scatters-read : ScattersRead
+  pub factored : All Holds factors
+  pub factors-counted : FactorsCounted

@@ -1,6 +1,6 @@
 -- Document 01, "The four steps", and the fifth of document 02, Ask 5. Each collective is defined once, by its sources: the places of the old words that each new word is made from.
 -- The words, the locality of a step and the bounds of the code all follow from them. Source document 001 decides on what a collective does to a
--- sharding; 01 is stricter on the axes that an all-reduce may name. Assumes nothing.
+-- sharding. Assumes nothing.
 use Prim.Native.Nat.{ℕ, _+_, _-_, _*_, _/_, _%_}
 use mathlib.Core.Path.{_≡_}
 use mathlib.Core.List.{List, [], _∷_, _++_, map}
@@ -44,7 +44,7 @@ cutTail d G = take (length d - length G) d
 unfoldable pub gathered : List (List ℕ) → Sharding → Sharding
 gathered Gs s = record { dims = each cutTail (s .dims) Gs; unreduced = s .unreduced; replicated = s .replicated }
 
--- "Each axis must be unreduced; it becomes replicated."
+-- "Each axis must be unreduced; it becomes replicated." An axis that nothing names is replicated already (02, Ask 6).
 unfoldable pub reduced : List ℕ → Sharding → Sharding
 unfolding without
 reduced L s = record { dims = s .dims; unreduced = without (s .unreduced) L; replicated = s .replicated }

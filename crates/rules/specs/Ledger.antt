@@ -171,8 +171,8 @@ ledger =
     -- W9
     ∷ checked (w9 6) (refuse 17 0)
     ∷ checked (w9 8) (passed 8 4 0 ((0 ∷ []) ∷ []) [] (2 ∷ []))
-    -- W10
-    ∷ checked (w7 2 []) (refuse 27 1)
+    -- W10: 27 in 01; document 02, Ask 6: "W10 now passes"
+    ∷ checked (w7 2 []) (passed 4 2 1 ([] ∷ []) [] (2 ∷ []))
     ∷ []
 
 pub worked : All Holds ledger

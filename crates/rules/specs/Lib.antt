@@ -8,6 +8,7 @@ pub mod Limits
 pub mod Refusals
 pub mod PlanFile
 pub mod Calls
+pub mod Factor
 pub mod Ledger
 pub mod WorkedRefusals
 pub mod WorkedEditions
@@ -16,3 +17,4 @@ pub mod WorkedLimits
 pub mod WorkedOrders
 pub mod WorkedRepeats
 pub mod WorkedScatters
+pub mod WorkedFactors

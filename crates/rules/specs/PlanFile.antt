@@ -289,7 +289,14 @@ unfoldable pub increasingFrom : ℕ → List ℕ → Bool
 increasingFrom low [] = true
 increasingFrom low (a ∷ L) = leb low a && increasingFrom (a + 1) L
 
--- 27: "all-reduce axis not unreduced"; of a reduce-scatter too
+-- 27, of an all-reduce: "forbids reducing an axis that splits a dimension or is explicitly replicated. It doesn't forbid an axis that nothing names. So 27
+-- for kind 3 is now given only for those two cases" (document 02, Ask 6)
+unfoldable pub noneIn : List ℕ → List ℕ → Bool
+unfolding mem
+noneIn [] U = true
+noneIn (a ∷ L) U = not (mem a U) && noneIn L U
+
+-- 27, of a reduce-scatter: "all-reduce axis not unreduced". "Kind 5 stays as it is."
 unfoldable pub allIn : List ℕ → List ℕ → Bool
 unfolding mem
 allIn [] U = true
@@ -317,14 +324,14 @@ sliceOn mesh sizes k Ss s = do
 -- "then by kind: 23 in file order, or 24 by dimension, or 26 over the whole list then 27 in file order, or 28 then 24; last 25 by dimension". Of a
 -- reduce-scatter: "Each axis must be named once in the step (23, tested over the whole step first) and be unreduced (27, in file order, then 25)."
 unfoldable pub judgeKind : (mesh sizes : List ℕ) → ℕ → Step → Sharding → Judged Sharding
-unfolding fresh gatherOff sliceOn increasingFrom allIn reduced
+unfolding fresh gatherOff sliceOn increasingFrom noneIn allIn reduced
 judgeKind mesh sizes k (allSlice Ss) s = do
   needAt k (fresh (named s) (flat Ss)) 23
   sliceOn mesh sizes k Ss s
 judgeKind mesh sizes k (allGather Gs) s = gatherOff k Gs s
 judgeKind mesh sizes k (allReduce L) s = do
   needAt k (increasingFrom 0 L) 26
-  needAt k (allIn L (s .unreduced)) 27
+  needAt k (noneIn L (flat (s .dims) ++ s .replicated)) 27
   accept (reduced L s)
 judgeKind mesh sizes k (allToAll source target L) s = do
   needAt k (twoDims (length (s .dims)) source target) 28

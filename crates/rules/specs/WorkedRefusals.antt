@@ -159,12 +159,12 @@ refusals =
     ∷ checked (one half (2 ∷ 2 ∷ 1 ∷ 0 ∷ 0 ∷ [])) (refuse 24 1)
     ∷ checked (one half (2 ∷ 2 ∷ 0 ∷ 1 ∷ 0 ∷ [])) (refuse 24 1)
     ∷ checked (one half (2 ∷ 0 ∷ 1 ∷ 0 ∷ [])) (refuse 24 1)
-    -- all-reduce: 26, before 27; 27 of any of its axes
+    -- all-reduce: 26, before 27; 27 of an axis that splits a dimension, alone and beside an unreduced one
     ∷ checked (one parts (3 ∷ 2 ∷ 1 ∷ 0 ∷ [])) (refuse 26 1)
     ∷ checked (one parts (3 ∷ 2 ∷ 0 ∷ 0 ∷ [])) (refuse 26 1)
     ∷ checked (one whole (3 ∷ 2 ∷ 1 ∷ 0 ∷ [])) (refuse 26 1)
     ∷ checked (one half (3 ∷ 1 ∷ 0 ∷ [])) (refuse 27 1)
-    ∷ checked (one ([] ∷ [] ∷ (0 ∷ []) ∷ []) (3 ∷ 2 ∷ 0 ∷ 1 ∷ [])) (refuse 27 1)
+    ∷ checked (one ((1 ∷ []) ∷ [] ∷ (0 ∷ []) ∷ []) (3 ∷ 2 ∷ 0 ∷ 1 ∷ [])) (refuse 27 1)
     -- all-to-all: 28, before 24; 24, before 25; 25
     ∷ checked (one split (4 ∷ 0 ∷ 0 ∷ 1 ∷ 1 ∷ [])) (refuse 28 1)
     ∷ checked (one split (4 ∷ 2 ∷ 0 ∷ 1 ∷ 0 ∷ [])) (refuse 28 1)
@@ -180,7 +180,7 @@ refusals =
     ∷ checked (second (2 ∷ 1 ∷ 0 ∷ 0 ∷ [])) (refuse 24 2)
     ∷ checked (second (1 ∷ 0 ∷ 1 ∷ 0 ∷ [])) (refuse 25 2)
     ∷ checked (second (3 ∷ 2 ∷ 1 ∷ 0 ∷ [])) (refuse 26 2)
-    ∷ checked (second (3 ∷ 1 ∷ 0 ∷ [])) (refuse 27 2)
+    ∷ checked (second (3 ∷ 1 ∷ 1 ∷ [])) (refuse 27 2)
     ∷ checked (second (4 ∷ 0 ∷ 0 ∷ 1 ∷ 1 ∷ [])) (refuse 28 2)
     -- a step is judged before the next is read; 9, after the last step, and where there is none
     ∷ checked (set (but 34 0) 6 2) (refuse 24 1)
