@@ -110,10 +110,11 @@ fn random_block(
     let mut block = Vec::new();
     for _ in 0..random.pick(&[1, 1, 2, 3]) {
         let left = most - runs(&block);
-        let nests = depth < MOST_DEPTH && random.once_in(3);
-        let part = match nests {
-            true => random_repeat(random, state, depth + 1, left).map(|step| vec![step]),
-            false => there_and_back(random, state, depth, left),
+        let alone = |step: Option<Step>| step.map(|step| vec![step]);
+        let part = match random.below(12) {
+            0..4 if depth < MOST_DEPTH => alone(random_repeat(random, state, depth + 1, left)),
+            4 if left > 0 => alone(state.random_reduce_in_place(random)),
+            _ => there_and_back(random, state, depth, left),
         };
         block.extend(part.unwrap_or_default());
     }

@@ -143,6 +143,18 @@ impl Draft {
         blocks::runs(&self.steps)
     }
 
+    /// What a run multiplies the table by, modulo 2^32: the sizes of all axes that were replicated
+    /// just before a step reduced them, each as often as that was so.
+    pub fn factor(&self) -> u32 {
+        let mut tracked = Tracked::start(self);
+        let mut factor = 1u32;
+        for step in blocks::unrolled(&self.steps) {
+            factor = factor.wrapping_mul(tracked.factor_of(&step));
+            tracked.advance(&step);
+        }
+        factor
+    }
+
     /// The plan that runs the first so many plain steps of this one.
     pub fn cut(&self, runs: usize) -> Draft {
         self.with_steps(blocks::first_run(&self.steps, runs))
@@ -251,14 +263,35 @@ impl<'a> Tracked<'a> {
 
     /// Whether no list names the axis, so that a slice may.
     fn is_free(&self, axis: Axis) -> bool {
-        let sharded = self.dims.iter().any(|list| list.contains(&axis));
-        !sharded && !self.unreduced.contains(&axis) && !self.replicated.contains(&axis)
+        self.is_replicated(axis) && !self.replicated.contains(&axis)
+    }
+
+    /// Whether an all-reduce may name the axis.
+    fn may_reduce(&self, axis: Axis) -> bool {
+        self.unreduced.contains(&axis) || self.is_free(axis)
     }
 
     fn free(&self) -> Vec<Axis> {
         let mut axes = self.axes();
         axes.retain(|&axis| self.is_free(axis));
         axes
+    }
+
+    /// Whether the devices along the axis hold the same words of a faithful spread.
+    fn is_replicated(&self, axis: Axis) -> bool {
+        let sharded = self.dims.iter().any(|list| list.contains(&axis));
+        !sharded && !self.unreduced.contains(&axis)
+    }
+
+    /// The product of the sizes of the replicated axes that a plain step reduces.
+    fn factor_of(&self, step: &Step) -> u32 {
+        let mut reduced = match step {
+            Step::Reduce(list) => list.clone(),
+            Step::Scatter(lists) => lists.concat(),
+            _ => Vec::new(),
+        };
+        reduced.retain(|&axis| self.is_replicated(axis));
+        self.pieces(&reduced) as u32
     }
 
     pub(crate) fn no_lists(&self) -> Lists {
@@ -357,8 +390,20 @@ impl<'a> Tracked<'a> {
         names_some.then_some(Step::Gather(lists))
     }
 
+    /// Half of the unreduced axes, and fewer of those that no list names: where these are reduced
+    /// too often, nothing but zeros is left of the words.
     fn random_reduce(&self, random: &mut Random) -> Option<Step> {
-        let mut list = self.unreduced.clone();
+        let mut list = self.axes();
+        list.retain(|&axis| match self.unreduced.contains(&axis) {
+            true => random.once_in(2),
+            false => self.is_free(axis) && random.once_in(6),
+        });
+        (!list.is_empty()).then_some(Step::Reduce(list))
+    }
+
+    /// An all-reduce of axes that no list names, which leaves the sharding as it is.
+    pub(crate) fn random_reduce_in_place(&self, random: &mut Random) -> Option<Step> {
+        let mut list = self.free();
         list.retain(|_| random.once_in(2));
         (!list.is_empty()).then_some(Step::Reduce(list))
     }
@@ -1094,11 +1139,12 @@ fn reduces_unsorted(random: &mut Random, state: &Tracked) -> Option<Step> {
     (!sorted).then_some(Step::Reduce(list))
 }
 
+/// Reduces any axes, of which one splits a dimension or is to stay replicated.
 fn reduces_other(random: &mut Random, state: &Tracked) -> Option<Step> {
     let mut list = state.axes();
     list.retain(|_| random.once_in(2));
-    let all_unreduced = list.iter().all(|axis| state.unreduced.contains(axis));
-    (!all_unreduced).then_some(Step::Reduce(list))
+    let all_may = list.iter().all(|&axis| state.may_reduce(axis));
+    (!all_may).then_some(Step::Reduce(list))
 }
 
 fn bad_dims(random: &mut Random, state: &Tracked) -> Option<Step> {

@@ -1,6 +1,6 @@
-//! Document 01 with the limits, the editions, the repeats and the reduce-scatters of document 02 in
-//! plain Rust, written from these documents alone. `records` has its writer, the way back and its
-//! planner.
+//! Document 01 with the limits, the editions, the repeats, the reduce-scatters and the all-reduces of
+//! document 02 in plain Rust, written from these documents alone. `records` has its writer, the way
+//! back and its planner.
 //!
 //! A file is judged into a `Plan`, which holds the state after every outermost step. The calls read
 //! their answers off the plan. A run moves the words between the two lent buffers, step by step; the
@@ -758,6 +758,11 @@ impl Sharding {
         let mut lists = self.dims.iter().chain([&self.unreduced, &self.replicated]);
         lists.any(|list| list.contains(&axis))
     }
+
+    /// Whether an all-reduce may name the axis: it splits no dimension and is not to stay replicated.
+    fn may_reduce(&self, axis: Axis) -> bool {
+        self.unreduced.contains(&axis) || !self.names(axis)
+    }
 }
 
 /// A sharding of the plan's table, with its shard sizes.
@@ -774,7 +779,6 @@ impl State {
         Ok(State { sharding, shard })
     }
 
-    /// The words of one shard.
     /// Where in the table the shard of the device at a place begins.
     fn first(&self, mesh: &Mesh, place: usize) -> Sizes {
         let lists = self.sharding.dims.iter().zip(&self.shard);
@@ -783,6 +787,7 @@ impl State {
             .collect()
     }
 
+    /// The words of one shard.
     fn words(&self) -> usize {
         self.shard.iter().map(|&size| usize::from(size)).product()
     }
@@ -840,11 +845,11 @@ impl State {
         if !axes.is_sorted_by(|one, next| one < next) {
             return Err(26);
         }
-        let unreduced = self.sharding.unreduced;
-        if !axes.iter().all(|axis| unreduced.contains(axis)) {
+        if !axes.iter().all(|&axis| self.sharding.may_reduce(axis)) {
             return Err(27);
         }
         let mut next = *self;
+        let unreduced = self.sharding.unreduced;
         let kept = unreduced.iter().filter(|axis| !axes.contains(axis));
         next.sharding.unreduced = kept.copied().collect();
         Ok(next)

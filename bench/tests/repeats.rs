@@ -220,9 +220,10 @@ fn shardings_are_compared_list_for_list() {
     // Only the unreduced list changes, and no step puts an axis back there.
     let reduce = vec![repeat(1, vec![Step::Reduce(axes(&[1]))])];
     assert_refused(&square(&[0], &[1], reduce), 41, 1);
-    // The first pass alone could be run.
+    // The first pass alone could be run, and the second too.
     let once = vec![repeat(2, vec![Step::Reduce(axes(&[0]))])];
-    assert_refused(&square(&[], &[0, 1], once), 41, 1);
+    assert_refused(&square(&[], &[0, 1], once.clone()), 41, 1);
+    assert_accepted(&square(&[], &[1], once), 1);
 }
 
 #[test]
@@ -429,6 +430,26 @@ fn blocks_are_run() {
     let draft = square(&[], &[], vec![repeat(3, pairs(1))]);
     let (even, odd) = ([1, 2, 11, 12], [5, 6, 15, 16]);
     assert_run(&draft, &words, &[even, odd, even, odd].concat());
+}
+
+#[test]
+fn a_block_reduces_in_every_pass() {
+    let reduce = Step::Reduce(axes(&[0]));
+    for (count, factor) in [(1, 2), (2, 4), (3, 8), (31, 1 << 31), (32, 0), (255, 0)] {
+        let draft = plan(vec![repeat(count, vec![reduce.clone()])]);
+        let words = [7, 8, 7, 8].map(|word: u32| word.wrapping_mul(factor));
+        assert_run(&draft, &[7, 8, 7, 8], &words);
+        assert_eq!(draft.factor(), factor);
+    }
+    // Between a slice by one axis and the gather back, in a block inside a block.
+    let inner = repeat(2, vec![slice(&[1]), reduce, gather(&[1])]);
+    let draft = square(&[], &[], vec![repeat(3, vec![inner])]);
+    assert_run(
+        &draft,
+        &[1, 2, 3, 4].repeat(4),
+        &[64, 128, 192, 256].repeat(4),
+    );
+    assert_eq!(draft.factor(), 64);
 }
 
 #[test]

@@ -1,6 +1,6 @@
 //! The worked plans of document 01, the cases at the limits, those in its ledger's last line, as
-//! document 02 moves them, the replicated list of edition 2, the order of edition 3 and the placement
-//! of a list of devices.
+//! document 02 moves them, the replicated list of edition 2, the order of edition 3, the placement of
+//! a list of devices and the all-reduces of axes that nothing names, with their factors.
 
 use bench::answers::{Device, Dim, NotPlaced, Refusal};
 use bench::plans::{axes, devices, lists, mend_length, Draft, Step};
@@ -30,16 +30,28 @@ fn w4(steps: Vec<Step>) -> Vec<u8> {
 }
 
 /// W7 with these unreduced axes.
-fn w7(unreduced: &[u8]) -> Vec<u8> {
-    let draft = Draft {
+fn w7(unreduced: &[u8]) -> Draft {
+    Draft {
         mesh: vec![2],
         table: vec![2],
         start: lists(&[&[]]),
         unreduced: axes(unreduced),
         steps: vec![Step::Reduce(axes(&[0]))],
         ..Draft::default()
-    };
-    draft.encode()
+    }
+}
+
+/// Mesh 2x3, a table of 6 with this start, and all-reduces along these lists.
+fn reducing(start: &[u8], unreduced: &[u8], replicated: &[u8], reduced: &[&[u8]]) -> Draft {
+    Draft {
+        mesh: vec![2, 3],
+        table: vec![6],
+        start: lists(&[start]),
+        unreduced: axes(unreduced),
+        replicated: axes(replicated),
+        steps: lists(reduced).into_iter().map(Step::Reduce).collect(),
+        ..Draft::default()
+    }
 }
 
 /// A plan without steps.
@@ -226,9 +238,11 @@ fn two_gathers_after_each_other_are_one() {
 #[test]
 fn w7_adds_the_shards_of_a_group() {
     for one in implementations() {
-        assert_run(one, &w7(&[0]), &[1, 2, 5, 6], &[6, 8, 6, 8]);
-        assert_run(one, &w7(&[0]), &[u32::MAX, 0, 2, 0], &[1, 0, 1, 0]);
+        let file = w7(&[0]).encode();
+        assert_run(one, &file, &[1, 2, 5, 6], &[6, 8, 6, 8]);
+        assert_run(one, &file, &[u32::MAX, 0, 2, 0], &[1, 0, 1, 0]);
     }
+    assert_eq!(w7(&[0]).factor(), 1);
 }
 
 #[test]
@@ -254,10 +268,97 @@ fn w9_divides_the_dimension() {
 }
 
 #[test]
-fn w10_reduces_no_replicated_axis() {
+fn w10_passes_and_doubles_the_table() {
+    let draft = w7(&[]);
     for one in implementations() {
-        assert_eq!(one.check(&w7(&[])), refusal(27, 1));
+        let checked = one.check(&draft.encode()).expect("accepted");
+        assert_eq!((checked.room, checked.steps), (4, 1));
+        assert!(checked.sharding.unreduced.is_empty());
+        assert_run(one, &draft.encode(), &[1, 2, 1, 2], &[2, 4, 2, 4]);
+        // Words that are no faithful spread are added as they are.
+        assert_run(one, &draft.encode(), &[1, 2, 5, 6], &[6, 8, 6, 8]);
     }
+    assert_eq!(draft.factor(), 2);
+}
+
+#[test]
+fn every_reduction_along_a_replicated_axis_multiplies() {
+    let one_word = Draft {
+        table: vec![1],
+        ..w7(&[])
+    };
+    let twice = one_word.with_steps(vec![Step::Reduce(axes(&[0])); 2]);
+    for one in implementations() {
+        assert_run(one, &one_word.encode(), &[7, 7], &[14, 14]);
+        assert_run(one, &twice.encode(), &[7, 7], &[28, 28]);
+        // The factor counts modulo 2^32, as the words do.
+        assert_run(one, &twice.encode(), &[1 << 30, 1 << 30], &[0, 0]);
+    }
+    assert_eq!((one_word.factor(), twice.factor()), (2, 4));
+}
+
+#[test]
+fn an_all_reduce_names_no_axis_that_splits_or_is_to_stay_replicated() {
+    let refused = [
+        (reducing(&[1], &[], &[], &[&[1]]), 1),
+        (reducing(&[], &[], &[1], &[&[1]]), 1),
+        // Beside an axis that may be reduced, before it and behind it.
+        (reducing(&[1], &[], &[], &[&[0, 1]]), 1),
+        (reducing(&[1], &[0], &[], &[&[0, 1]]), 1),
+        (reducing(&[], &[1], &[0], &[&[0, 1]]), 1),
+        // In a later step.
+        (reducing(&[0], &[1], &[], &[&[1], &[1], &[0, 1]]), 3),
+    ];
+    for (draft, step) in refused {
+        for one in implementations() {
+            assert_eq!(one.check(&draft.encode()), refusal(27, step));
+        }
+    }
+    // The order is judged first.
+    for one in implementations() {
+        let unsorted = reducing(&[1], &[], &[], &[&[1, 0]]);
+        assert_eq!(one.check(&unsorted.encode()), refusal(26, 1));
+    }
+}
+
+#[test]
+fn unreduced_axes_and_axes_that_nothing_names_are_reduced_together() {
+    for one in implementations() {
+        let both = reducing(&[], &[0], &[], &[&[0, 1]]).encode();
+        let checked = one.check(&both).expect("accepted");
+        assert!(checked.sharding.unreduced.is_empty());
+        let other = reducing(&[], &[0], &[], &[&[1]]).encode();
+        let checked = one.check(&other).expect("accepted");
+        assert_eq!(*checked.sharding.unreduced, axes(&[0]));
+        // The word of a column is 1 and 4: parts of 5, three times.
+        let words = [[1; 18], [4; 18]].concat();
+        assert_run(one, &both, &words, &[15; 36]);
+        assert_run(one, &other, &words, &[[3; 18], [12; 18]].concat());
+    }
+}
+
+#[test]
+fn the_factor_counts_the_axes_that_were_replicated_just_before() {
+    let factor = |unreduced: &[u8], reduced: &[&[u8]]| {
+        let draft = reducing(&[], unreduced, &[], reduced);
+        draft.factor()
+    };
+    assert_eq!(factor(&[], &[&[0, 1]]), 6);
+    assert_eq!(factor(&[0], &[&[0, 1]]), 3);
+    assert_eq!(factor(&[1], &[&[0, 1]]), 2);
+    assert_eq!(factor(&[0, 1], &[&[0, 1]]), 1);
+    // Unreduced at the first of three, replicated at the others.
+    assert_eq!(factor(&[1], &[&[1], &[1], &[0, 1]]), 18);
+    assert_eq!(factor(&[0, 1], &[&[0], &[1]]), 1);
+    // An axis that was gathered is replicated, and so is one that was scattered and gathered.
+    let gather = Step::Gather(lists(&[&[1]]));
+    let reduce = Step::Reduce(axes(&[1]));
+    let split = reducing(&[1], &[], &[], &[]);
+    let gathered = split.with_steps(vec![gather.clone(), reduce.clone()]);
+    let scatter = Step::Scatter(lists(&[&[1]]));
+    let owed = reducing(&[], &[1], &[], &[]);
+    let scattered = owed.with_steps(vec![scatter, gather, reduce]);
+    assert_eq!((gathered.factor(), scattered.factor()), (3, 3));
 }
 
 #[test]

@@ -72,6 +72,10 @@ struct Tally {
     faithful: usize,
     prefixes: usize,
     prefixes_inside_blocks: usize,
+    /// Parts of plans that multiply the table by another factor than 1, and by one that leaves
+    /// nothing of it.
+    multiplied: usize,
+    multiplied_by_0: usize,
     refusals: Met,
     records: records::Tally,
 }
@@ -531,8 +535,8 @@ fn same_words(call: &str, file: &[u8], reference: &[u32], library: &[u32]) -> Ou
     }
 }
 
-/// Demand 3 on a random table: after the steps up to any step, the buffer is a faithful spread
-/// of the table under the sharding announced for that state.
+/// Demand 3 on a random table: after the steps up to any step, the buffer is a faithful spread,
+/// under the sharding announced for that state, of the table multiplied by these steps' factor.
 fn try_demand_3(random: &mut Random, draft: &Draft, tally: &mut Tally) -> Outcome {
     let file = draft.encode();
     let table = random.words(product(&draft.table));
@@ -548,6 +552,11 @@ fn try_demand_3(random: &mut Random, draft: &Draft, tally: &mut Tally) -> Outcom
         answer.map_err(|refusal| refused("a run of an accepted plan", &file, refusal))?;
     }
     for (part, state) in random_parts(random, draft, room, tally) {
+        let factor = part.factor();
+        tally.multiplied += usize::from(factor != 1);
+        tally.multiplied_by_0 += usize::from(factor == 0);
+        let multiplied = table.iter().map(|word| word.wrapping_mul(factor));
+        let table: Vec<u32> = multiplied.collect();
         for one in implementations() {
             let trial = Trial {
                 one,
@@ -621,6 +630,7 @@ struct Trial<'a> {
     announced: &'a Draft,
     state: usize,
     part: &'a Draft,
+    /// What the words are a faithful spread of then.
     table: &'a [u32],
 }
 
@@ -727,6 +737,11 @@ impl fmt::Display for Tally {
             f,
             "    {spreads} on spreads of tables, demand 3 tried {prefixes} times, and {} times inside a block",
             self.prefixes_inside_blocks
+        )?;
+        let (multiplied, by_0) = (self.multiplied, self.multiplied_by_0);
+        writeln!(
+            f,
+            "    {multiplied} of these times by a factor other than 1, {by_0} by 0"
         )?;
         writeln!(
             f,
