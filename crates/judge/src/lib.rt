@@ -6,7 +6,7 @@ ghost use Prim.Native.Nat.{ℕ, _≤_};
 ghost use lib.ListN.{take};
 ghost use lib.Dec.{T};
 ghost use Rattle.rules.specs.Lists.{flat};
-ghost use Rattle.rules.specs.Limits.{mostDims};
+ghost use Rattle.rules.specs.Limits.{mostAxes, mostDims};
 ghost use Rattle.rules.specs.Sharding.{named};
 ghost use Rattle.rules.specs.Refusals.{accept, refuse};
 ghost use Rattle.types.specs.Answers.{numberOf};
@@ -33,6 +33,7 @@ use dims::shard_of;
 use dims::tails;
 use start::Verdict;
 use start::judge_dims;
+use start::judge_list;
 use start::refused;
 use types::Axis;
 use types::AxisList;
@@ -171,19 +172,23 @@ fn reduced(list: AxisList, sharding: Sharding) -> Sharding
     next
 }
 
-// All-reduce: 26, then 27, then the axes are replicated.
-fn judge_reduce(list: AxisList, k: u16, sharding: Sharding) -> After
-    ensures { λ r. ⌜ ((mesh sizes : List ℕ) (rank : ℕ) → meaningAfter rank r
+// All-reduce: 26, then 27, then the axes are replicated. The axes are below n already and increase, so judge_list refuses an axis that splits a dimension or
+// is explicitly replicated, and nothing else.
+fn judge_reduce(list: AxisList, k: u16, sharding: Sharding, rank: usize, n: usize) -> After
+    requires { ⌜ (rank ≤ mostDims) × (n ≤ mostAxes) × T (allBelow n (axesOf list)) ⌝ }
+    ensures { λ r. ⌜ ((mesh sizes : List ℕ) → meaningAfter rank r
         ≡ judgeKind mesh sizes k (allReduce (axesOf list)) (shardingOf rank sharding)) ⌝ }
 {
-    let rising = increasing(list);
-    let owed = all_in(list, sharding.unreduced);
-    if !rising {
+    if !increasing(list) {
         return refused_step(Reason::NotIncreasing, k, sharding);
     }
-    if !owed {
-        return refused_step(Reason::NotUnreduced, k, sharding);
-    }
+    let mut marks = [false; Axis::MOST];
+    mark_dims(sharding.dims, rank, &mut marks);
+    mark_list(&mut marks, sharding.replicated);
+    let free = judge_list(list, n, false, &mut marks);
+    let Verdict::Fine = free else {
+        return refused_step(Reason::NotReducible, k, sharding);
+    };
     let next = reduced(list, sharding);
     After {
         verdict: Verdict::Fine,
@@ -249,7 +254,7 @@ fn judge_scatter(lists: DimLists, k: u16, from: Sharding, mesh: Mesh, table: Tab
     };
     let axes = ascending(lists, table.rank, mesh.n);
     if !all_in(axes, from.unreduced) {
-        return refused_step(Reason::NotUnreduced, k, from);
+        return refused_step(Reason::NotReducible, k, from);
     }
     let between = reduced(axes, from);
     slice_on(lists, k, between, mesh, table)
@@ -265,7 +270,7 @@ fn judge_kind(step: Step, k: u16, sharding: Sharding, mesh: Mesh, table: Table) 
     match kind {
         Kind::AllSlice => judge_slice(step.lists, k, sharding, mesh, table),
         Kind::AllGather => gather_off(step.lists, k, sharding, table.rank),
-        Kind::AllReduce => judge_reduce(step.list, k, sharding),
+        Kind::AllReduce => judge_reduce(step.list, k, sharding, table.rank, mesh.n),
         Kind::AllToAll => judge_all_to_all(
             step.source,
             step.target,

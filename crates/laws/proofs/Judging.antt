@@ -72,6 +72,13 @@ fresh-distinct before (b ∷ L) t =
       λ a i j. ⊎-elim (λ e. not-mem b before n (subst (λ z. In z before) e j)) (λ k. ih .1 a k (inr j)) i,
     )
 
+pub distinct-fresh : (before L : List ℕ) → Distinct L → ((a : ℕ) → In a L → ¬ In a before) → T (fresh before L)
+unfolding fresh
+distinct-fresh before [] d off = tt
+distinct-fresh before (a ∷ L) d off =
+    and-T (not (mem a before)) (fresh (a ∷ before) L) (mem-not a before (off a (inl refl)))
+    (distinct-fresh (a ∷ before) L (d .1) (λ b i. ⊎-elim (λ e. d .0 (subst (λ z. In z L) e i)) (off b (inr i))))
+
 -- two lists that are the same
 pub same-eq : (L M : List ℕ) → T (same L M) → L ≡ M
 unfolding same
@@ -123,6 +130,13 @@ pub off-noneIn : (L U : List ℕ) → ((a : ℕ) → In a L → ¬ In a U) → T
 unfolding noneIn
 off-noneIn [] U h = tt
 off-noneIn (b ∷ L) U h = and-T (not (mem b U)) (noneIn L U) (mem-not b U (h b (inl refl))) (off-noneIn L U (λ a i. h a (inr i)))
+
+-- of a list without repeats, that none is in U is that each is fresh after U
+pub none-fresh : (L U : List ℕ) → Distinct L → noneIn L U ≡ fresh U L
+none-fresh L U d = ⊎-elim
+    (λ t. T→true (noneIn L U) (off-noneIn L U (fresh-distinct U L t .1)) ∙ sym (T→true (fresh U L) t))
+    (λ t. nT→false (noneIn L U) (λ n. T-not (fresh U L) t (distinct-fresh U L d (noneIn-off L U n))) ∙ sym (nT→false (fresh U L) (T-not (fresh U L) t)))
+    (T? (fresh U L))
 
 in-allIn : (L U : List ℕ) → ((a : ℕ) → In a L → In a U) → T (allIn L U)
 unfolding allIn

@@ -34,7 +34,7 @@ pub fn number_of(reason: Reason) -> u8
         Reason::NotTail => 24,
         Reason::ShardNotDivisible => 25,
         Reason::NotIncreasing => 26,
-        Reason::NotUnreduced => 27,
+        Reason::NotReducible => 27,
         Reason::WrongDims => 28,
         Reason::WorkTooShort => 30,
         Reason::SpareTooShort => 31,

@@ -27,7 +27,7 @@ use Rattle.rules.specs.PlanFile.{
   fresh,
   isTail,
   increasingFrom,
-  allIn,
+  noneIn,
   gatherOff,
   sliceOn,
   stepAt,
@@ -62,7 +62,8 @@ use Rattle.laws.proofs.Lists.{
   of-without,
   without-none,
 }
-use Rattle.laws.proofs.Judging.{accept-inj, need-inv, need-true, then-inv, bind-inv, allIn-in, same-eq}
+use Rattle.laws.proofs.Judging.{accept-inj, need-inv, need-true, then-inv, bind-inv, off-noneIn, distinct-fresh, allIn-in, same-eq}
+use Rattle.laws.proofs.Steps.{Varies, varies}
 use Rattle.laws.proofs.Shapes.{Cut}
 use Rattle.laws.proofs.Sizes.{cut-divisible, cut-is, cut-grown}
 use Rattle.laws.proofs.Accepted.{SizesFacts, sizes-facts, start-sharding}
@@ -75,8 +76,6 @@ use Rattle.records.proofs.Lists.{is-le, then-bind, stepLists, step-from
 use Rattle.records.proofs.Given.{kind-first}
 use Rattle.records.proofs.Cutting.{
   lt-allBelow,
-  distinct-fresh,
-  in-allIn,
   axes-increasing,
   keep-increasing,
   without-without,
@@ -207,9 +206,12 @@ module _ (mesh sizes : List ℕ) where
   unfolding judgeStep
   passes t s k n b e = rw (T→true (some (stepAxes t)) n, T→true (allBelow (length mesh) (stepAxes t)) (lt-allBelow (length mesh) (stepAxes t) b)) e
 
-  reduce-passes : (L : List ℕ) (s : Sharding) (k : ℕ) → T (increasingFrom 0 L) → ((a : ℕ) → In a L → In a (s .unreduced)) → judgeKind mesh sizes k (allReduce L) s ≡ accept (after (allReduce L) s)
+  reduce-passes : (L : List ℕ) (s : Sharding) (k : ℕ) → T (increasingFrom 0 L) → ((a : ℕ) → In a L → ¬ In a (flat (s .dims) ++ s .replicated))
+      → judgeKind mesh sizes k (allReduce L) s ≡ accept (after (allReduce L) s)
   unfolding judgeKind after
-  reduce-passes L s k i u = rw (T→true (increasingFrom 0 L) i, T→true (allIn L (s .unreduced)) (in-allIn L (s .unreduced) u))
+  reduce-passes L s k i off =
+      let U : List ℕ = flat (s .dims) ++ s .replicated in
+      rw (T→true (increasingFrom 0 L) i, T→true (noneIn L U) (off-noneIn L U off))
 
   gather-passes : (Gs : List (List ℕ)) (s : Sharding) (k : ℕ) → T (both isTail (s .dims) Gs) → judgeKind mesh sizes k (allGather Gs) s ≡ accept (after (allGather Gs) s)
   unfolding judgeKind gatherOff after
@@ -289,8 +291,11 @@ module _ (mesh sizes : List ℕ) (pos : (a : ℕ) → 0 < getD mesh a 1) (s g : 
   reduce-step n k =
       let L : List ℕ = toReduce s g in
       let u : (a : ℕ) → In a L → In a (s .unreduced) = λ a i. of-without a (g .unreduced) (s .unreduced) i in
+      let v : Varies mesh sizes s = varies mesh sizes s (hs .is) in
       passes mesh sizes (allReduce L) s k n (λ a i. hs .is .of-mesh a (in-left a (varying s) (s .replicated) (in-right a (flat (s .dims)) (s .unreduced) (u a i))))
-      (reduce-passes mesh sizes L s k (keep-increasing _ 0 (s .unreduced) (hs .increasing)) u)
+      (reduce-passes mesh sizes L s k (keep-increasing _ 0 (s .unreduced) (hs .increasing))
+      (λ a i j. ⊎-elim (λ d. distinct-split (flat (s .dims)) (s .unreduced) (v .once) .2 a d (u a i)) (v .off a (in-right a (flat (s .dims)) (s .unreduced) (u a i)))
+      (in-append a (flat (s .dims)) (s .replicated) j)))
 
   gather-step : T (some (flat (toGather s g))) → (k : ℕ) → judgeStep mesh sizes k (allGather (toGather s g)) reducedTo ≡ accept (after (allGather (toGather s g)) reducedTo)
   unfolding toGather

@@ -1,7 +1,7 @@
 -- Document 02, Ask 10: the records that the planner makes are taken, their file is accepted, it ends at the goal, and a run of it turns a faithful spread
 -- under the start into one under the goal (`planner-promise`); and its steps' records are what the writer takes (`plan-again`). Assumes nothing.
 use Prim.Native.Nat.{ℕ, zero, suc, _+_, _*_, _≤_, _<_}
-use mathlib.Core.Path.{_≡_, refl, sym, ap, _∙_, subst}
+use mathlib.Core.Path.{_≡_, refl, sym, ap, ap₂, _∙_, subst}
 use mathlib.Core.Bool.{Bool, true, false, _&&_}
 use mathlib.Core.List.{List, [], _∷_, _++_, map}
 use native.Mathlib.Omega.{arith}
@@ -12,21 +12,23 @@ use Rattle.rules.specs.Lists.{pick, inTurn, product}
 use Rattle.rules.specs.Mesh.{devices}
 use Rattle.rules.specs.Sharding.{Sharding, shardSizes}
 use Rattle.rules.specs.Spread.{Faithful, addWords, heldBy}
-use Rattle.rules.specs.Collectives.{Step, after}
+use Rattle.rules.specs.Collectives.{Step, allSlice, allGather, allReduce, stepAxes, after}
 use Rattle.rules.specs.Limits.{mostAxes, mostDims, everyKind, mostDevices, mostWords, mostSteps, mostBytes, mostRun}
 use Rattle.rules.specs.Refusals.{Judged, accept, _>>=_, _>>_}
 use Rattle.rules.specs.PlanFile.{axesAllowed, rankAllowed, judgeSizes, same, some, allIn, plain, outermostAt, Plan, judge, announced, announcedShape}
+use Rattle.rules.specs.Factor.{scaled, stepFactor, factorOf, factorAfter}
 use Rattle.rules.specs.Calls.{shardsAfter, runOf}
 use Rattle.laws.specs.Demands.{Words, SpreadAt, returned, Demand3, Fits as RoomIn}
-use Rattle.laws.proofs.Lists.{T-and, T→true, both-length}
+use Rattle.laws.proofs.Lists.{T-and, T→true, both-length, of-without}
 use Rattle.laws.proofs.Judging.{accept-inj, need-inv, need-true, then-inv, allIn-in, same-eq}
 use Rattle.laws.proofs.Accepted.{SizesFacts, sizes-facts}
-use Rattle.laws.proofs.Whole.{whole-plan}
+use Rattle.laws.proofs.Factor.{step-one}
+use Rattle.laws.proofs.Whole.{whole-plan, times-one}
 use Rattle.records.specs.Records.{known, Records, outermost, outermostFrom, u16sBytes, listBytes, listsBytes, editionOf, replicatedBytes, shardingBytes, stepsBytes, stepsStart, fileLength, fileOf}
 use Rattle.records.specs.Writing.{judgeCounts, judgeSharding, judgeOrder, orderOf, judgeOpening, mostRecords, judgeRecords}
 use Rattle.records.specs.RoundTrip.{Shorts, AllShort, Fits}
 use Rattle.records.specs.Forms.{stepsGiven, recordsBytes}
-use Rattle.records.specs.Planning.{planSteps, reachable, planOf, Reaches, PlannerPromise}
+use Rattle.records.specs.Planning.{toReduce, toGather, toSlice, ifNaming, planSteps, reachable, planOf, Reaches, PlannerPromise}
 use Rattle.records.proofs.Places.{from-all}
 use Rattle.records.proofs.Lists.{is-le}
 use Rattle.records.proofs.Written.{file-judged}
@@ -44,6 +46,20 @@ outermost-plain (t ∷ ts) = ap suc (outermost-plain ts)
 few-given : (ts : List Step) → length (givenOf ts) ≡ length ts
 few-given [] = refl
 few-given (t ∷ ts) = ap suc (few-given ts)
+
+-- the three steps reduce unreduced axes alone
+plan-one : (mesh : List ℕ) (s g : Sharding) → factorOf mesh (planSteps s g) s ≡ 1
+unfolding planSteps toReduce
+plan-one mesh s g =
+    naming (allReduce (toReduce s g)) _ s (step-one mesh (allReduce (toReduce s g)) s (λ a i. of-without a (g .unreduced) (s .unreduced) i))
+    (λ x. naming (allGather (toGather s g)) _ x refl (λ y. naming (allSlice (toSlice s g)) [] y refl (λ z. refl)))
+  where
+    naming : (t : Step) (ts : List Step) (x : Sharding) → stepFactor mesh t x ≡ 1 → ((y : Sharding) → factorOf mesh ts y ≡ 1) → factorOf mesh (ifNaming t ts) x ≡ 1
+    naming t ts x e h = go (some (stepAxes t))
+      where
+        go : (b : Bool) → factorOf mesh (pick b (t ∷ ts) ts) x ≡ 1
+        go true = ap₂ _*_ e (h (after t x))
+        go false = h x
 
 -- a sharding's bytes
 sharding-few : (mesh sizes : List ℕ) (e : ℕ) (s : Sharding) → length mesh ≤ mostAxes → length (s .dims) ≤ mostDims → Judges mesh sizes s → length (shardingBytes e s) ≤ 42
@@ -191,6 +207,10 @@ module _ (mesh order sizes : List ℕ) (start goal : Sharding) where
     unfolding announced
     ends = ap (λ (l : List Step). inTurn after l start) (take-length steps) ∙ goes .ends
 
+    one : factorAfter plan (length (plan .steps)) ≡ 1
+    unfolding factorAfter
+    one = ap (λ (l : List Step). factorOf mesh l start) (take-length steps) ∙ plan-one mesh start goal
+
     arrives : judge (fileOf made) ≡ accept plan → (table : List ℕ → ℕ) (work spare : List ℕ) → Words work → RoomIn plan work spare
         → Faithful addWords mesh start (shardSizes mesh sizes (start .dims)) table (heldBy 0 (plan .order) mesh (shardSizes mesh sizes (start .dims)) work)
         → Faithful addWords mesh goal (shardSizes mesh sizes (goal .dims)) table
@@ -198,7 +218,9 @@ module _ (mesh order sizes : List ℕ) (start goal : Sharding) where
     unfolding announced announcedShape shardsAfter
     arrives e table work spare words room spread =
         let d : Demand3 plan work spare (runOf (fileOf made) work spare) = whole-plan (fileOf made) plan e work spare words in
-        let r = d .returns room table spread in
+        let r : SpreadAt plan table (length (plan .steps)) (returned plan (runOf (fileOf made) work spare)) =
+        times-one (fileOf made) plan e table work words spread (length (plan .steps)) _
+        (subst (λ (c : ℕ). SpreadAt plan (scaled c table) (length (plan .steps)) (returned plan (runOf (fileOf made) work spare))) one (d .returns room table spread)) in
         subst (λ (z : Sharding). Faithful addWords mesh z (shardSizes mesh sizes (z .dims)) table
         (heldBy 0 (plan .order) mesh (shardSizes mesh sizes (z .dims)) (runOf (fileOf made) work spare .work))) ends r
 
@@ -216,6 +238,7 @@ planner-promise mesh order sizes m o t start goal r e =
         taken = taken mesh order sizes start goal (j .0);
         accepted = a;
         ends = ends mesh order sizes start goal (j .0);
+        factor = one mesh order sizes start goal (j .0);
         arrives = arrives mesh order sizes start goal (j .0) a;
       }),
     )

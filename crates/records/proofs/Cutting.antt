@@ -13,7 +13,7 @@ use lib.Dec.{T, T-not, eqb, ltb, leb, eqb→eq, eqb-refl, leb→le, le→leb, lt
 use Rattle.rules.specs.Lists.{pick, each, both, flat, mem, keep, without, In, Distinct}
 use Rattle.rules.specs.Collectives.{cutTail}
 use Rattle.rules.specs.Refusals.{accept, _>>_}
-use Rattle.rules.specs.PlanFile.{judgeAxis, judgeAxes, some, allBelow, fresh, same, isTail, increasingFrom, allIn}
+use Rattle.rules.specs.PlanFile.{judgeAxis, judgeAxes, some, allBelow, same, isTail, increasingFrom}
 use Rattle.laws.proofs.Lists.{T?, T→true, nT→false, T-and, and-T, mem-in, in-mem, mem-not, not-mem, keep-yes, keep-no, in-keep, of-keep, keep-same, in-without, of-without, not-in-without, in-append, in-left}
 use Rattle.laws.proofs.Judging.{need-inv, need-true, then-inv}
 use Rattle.records.specs.Planning.{common, restOfStart, restOfGoal}
@@ -26,25 +26,11 @@ unfolding allBelow
 lt-allBelow n [] h = tt
 lt-allBelow n (a ∷ L) h = and-T (ltb a n) (allBelow n L) (lt→ltb a n (h a (inl refl))) (lt-allBelow n L (λ b i. h b (inr i)))
 
--- 23
-pub distinct-fresh : (before L : List ℕ) → Distinct L → ((a : ℕ) → In a L → ¬ In a before) → T (fresh before L)
-unfolding fresh
-distinct-fresh before [] d off = tt
-distinct-fresh before (a ∷ L) d off =
-    and-T (not (mem a before)) (fresh (a ∷ before) L) (mem-not a before (off a (inl refl)))
-    (distinct-fresh (a ∷ before) L (d .1) (λ b i. ⊎-elim (λ e. d .0 (subst (λ z. In z L) e i)) (off b (inr i))))
-
 -- 24
 same-refl : (L : List ℕ) → T (same L L)
 unfolding same
 same-refl [] = tt
 same-refl (a ∷ L) = and-T (eqb a a) (same L L) (eqb-refl a) (same-refl L)
-
--- 27
-pub in-allIn : (L U : List ℕ) → ((a : ℕ) → In a L → In a U) → T (allIn L U)
-unfolding allIn
-in-allIn [] U h = tt
-in-allIn (a ∷ L) U h = and-T (mem a U) (allIn L U) (in-mem a U (h a (inl refl))) (in-allIn L U (λ b i. h b (inr i)))
 
 -- 26: a start's unreduced list is increasing, and so is what a test keeps of one
 pub axes-increasing : (n low : ℕ) (before L : List ℕ) → judgeAxes n true low before L ≡ accept tt → T (increasingFrom low L)

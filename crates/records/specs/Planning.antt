@@ -13,6 +13,7 @@ use Rattle.rules.specs.Collectives.{Step, allSlice, allGather, allReduce, stepA
 use Rattle.rules.specs.Limits.{mostDevices, mostWords}
 use Rattle.rules.specs.Refusals.{Judged, accept, _>>=_, _>>_, need}
 use Rattle.rules.specs.PlanFile.{axesAllowed, rankAllowed, judgeSizes, same, some, allIn, plain, Plan, judge, announced}
+use Rattle.rules.specs.Factor.{factorAfter}
 use Rattle.rules.specs.Calls.{runOf}
 use Rattle.laws.specs.Demands.{Words, Fits as RoomIn}
 use Rattle.records.specs.Records.{known, Records, fileOf}
@@ -76,13 +77,14 @@ planOf mesh order sizes start goal = do
 
 -- Of the records that it makes. "Prove that the check accepts every such plan and that it ends at the goal sharding. Run to the end, it turns a faithful
 -- spread of a table under the start into one of that table under the goal.": of any two buffers with the room that the check names, the words of the table
--- before the run under the start, and after it under the goal, each as the plan's devices are numbered.
+-- before the run under the start, and after it under the goal, each as the plan's devices are numbered. It reduces unreduced axes alone, so its factor is 1.
 pub record Reaches (mesh order sizes : List ℕ) (start goal : Sharding) (r : Records) (p : Plan) : Type 0 where
   pub few : length (p .steps) ≤ 3
   pub as-given : (p .mesh ≡ mesh) × (p .order ≡ orderOf (devices mesh) order) × (p .sizes ≡ sizes) × (p .start ≡ start)
   pub taken : judgeRecords r ≡ accept p
   pub accepted : judge (fileOf r) ≡ accept p
   pub ends : announced p (length (p .steps)) ≡ goal
+  pub factor : factorAfter p (length (p .steps)) ≡ 1
   pub arrives : (table : List ℕ → ℕ) (work spare : List ℕ) → Words work → RoomIn p work spare
       → Faithful addWords mesh start (shardSizes mesh sizes (start .dims)) table (heldBy 0 (p .order) mesh (shardSizes mesh sizes (start .dims)) work)
       → Faithful addWords mesh goal (shardSizes mesh sizes (goal .dims)) table

@@ -236,7 +236,8 @@ refusals =
     ∷ refused (whole (step (allSlice ([] ∷ (0 ∷ []) ∷ [])) ∷ [])) 25 1
     ∷ refused (small (0 ∷ []) [] [] (step (allToAll 0 1 (0 ∷ [])) ∷ [])) 25 1
     ∷ refused (whole (step (allReduce (1 ∷ 0 ∷ [])) ∷ [])) 26 1
-    ∷ refused (small [] (1 ∷ []) [] (step (allReduce (0 ∷ 1 ∷ [])) ∷ [])) 27 1
+    ∷ refused (small (0 ∷ []) (1 ∷ []) [] (step (allReduce (0 ∷ 1 ∷ [])) ∷ [])) 27 1
+    ∷ refused (small [] (1 ∷ []) (0 ∷ []) (step (allReduce (0 ∷ 1 ∷ [])) ∷ [])) 27 1
     ∷ refused (whole (step (allToAll 0 0 (0 ∷ [])) ∷ [])) 28 1
     ∷ refused (whole (step (allToAll 0 2 (0 ∷ [])) ∷ [])) 28 1
     -- of a reduce-scatter (Ask 5)
@@ -274,7 +275,7 @@ refused-as =
     & refl & refl & refl & refl & refl & refl & refl & refl & refl & refl & refl & refl
     & refl & refl & refl & refl & refl & refl & refl & refl & refl & refl & refl & refl
     & refl & refl & refl & refl & refl & refl & refl & refl & refl & refl & refl & refl
-    & refl & refl & refl & refl & refl & refl & refl & refl & refl & done
+    & refl & refl & refl & refl & refl & refl & refl & refl & refl & refl & done
 
 -- ---- what the calls' arguments stand for
 

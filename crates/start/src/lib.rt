@@ -76,7 +76,7 @@ fn next_low(increasing: bool, a: Axis) -> usize
 }
 
 // The axes of a list in turn, after the marked ones; those that pass are marked, up to the first that is refused.
-fn judge_list(list: AxisList, n: usize, increasing: bool, marks: &mut [bool]) -> Verdict
+pub fn judge_list(list: AxisList, n: usize, increasing: bool, marks: &mut [bool]) -> Verdict
     requires { ⌜ n ≤ length (now marks) ⌝ }
     ensures { λ r. ⌜ meaning r ≡ judgeAxes n increasing 0 (marked (now (marks .entry))) (axesOf list) ⌝ }
     ensures { λ r. ⌜ now (marks .exit) ≡ marksAfter n increasing 0 (now (marks .entry)) (axesOf list) ⌝ }

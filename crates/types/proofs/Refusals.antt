@@ -29,7 +29,7 @@ use Rattle.types.specs.declared.Reason.the-variants.{
   NotTail,
   ShardNotDivisible,
   NotIncreasing,
-  NotUnreduced,
+  NotReducible,
   WrongDims,
   WorkTooShort,
   SpareTooShort,
@@ -73,7 +73,7 @@ reason-number NotReplicated = refl
 reason-number NotTail = refl
 reason-number ShardNotDivisible = refl
 reason-number NotIncreasing = refl
-reason-number NotUnreduced = refl
+reason-number NotReducible = refl
 reason-number WrongDims = refl
 reason-number WorkTooShort = refl
 reason-number SpareTooShort = refl

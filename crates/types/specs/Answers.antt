@@ -32,7 +32,7 @@ use Rattle.types.specs.declared.Reason.the-variants.{
   NotTail,
   ShardNotDivisible,
   NotIncreasing,
-  NotUnreduced,
+  NotReducible,
   WrongDims,
   WorkTooShort,
   SpareTooShort,
@@ -88,7 +88,7 @@ numberOf NotReplicated = 23
 numberOf NotTail = 24
 numberOf ShardNotDivisible = 25
 numberOf NotIncreasing = 26
-numberOf NotUnreduced = 27
+numberOf NotReducible = 27
 numberOf WrongDims = 28
 numberOf WorkTooShort = 30
 numberOf SpareTooShort = 31
@@ -107,7 +107,7 @@ abbrev pub reasons : List Reason
 reasons =
     FileTooShort ∷ FileTooLong ∷ UnknownEdition ∷ WrongLength ∷ CountOutsideLimits ∷ WrongOffset ∷ SectionPastEnd ∷ ListTooLong ∷ BytesLeft
     ∷ MeshSizeZero ∷ TooManyDevices ∷ TensorSizeZero ∷ TooManyWords ∷ StartAxisTooLarge ∷ StartAxisRepeated ∷ StartNotIncreasing ∷ StartNotDivisible
-    ∷ ReplicatedEmpty ∷ WrongOrder ∷ UnknownKind ∷ NoAxis ∷ AxisTooLarge ∷ NotReplicated ∷ NotTail ∷ ShardNotDivisible ∷ NotIncreasing ∷ NotUnreduced ∷ WrongDims ∷ WorkTooShort
+    ∷ ReplicatedEmpty ∷ WrongOrder ∷ UnknownKind ∷ NoAxis ∷ AxisTooLarge ∷ NotReplicated ∷ NotTail ∷ ShardNotDivisible ∷ NotIncreasing ∷ NotReducible ∷ WrongDims ∷ WorkTooShort
     ∷ SpareTooShort ∷ NoSuchDevice ∷ OutputTooShort ∷ NoSuchState ∷ BufferTooShort ∷ GoalOutOfReach ∷ ShardingChanged ∷ TooDeep ∷ TooManyRun ∷ RepeatOfNothing ∷ []
 
 abbrev pub numbered : ℕ → List Reason → Reason

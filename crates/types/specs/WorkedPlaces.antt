@@ -13,7 +13,7 @@ use Rattle.types.specs.declared.Reason.the-variants.{
   NotTail,
   NoSuchDevice,
   NotReplicated,
-  NotUnreduced,
+  NotReducible,
   ShardingChanged,
   TooDeep,
   TooManyRun,
@@ -125,6 +125,6 @@ unfolding dimsOf
 counted = refl
 
 -- the reasons of numbers that no answer above has
-reasoned : (reasonOf 23 ≡ NotReplicated) × (reasonOf 27 ≡ NotUnreduced) × (reasonOf 41 ≡ ShardingChanged) × (reasonOf 42 ≡ TooDeep) × (reasonOf 43 ≡ TooManyRun) × (reasonOf 44 ≡ RepeatOfNothing)
+reasoned : (reasonOf 23 ≡ NotReplicated) × (reasonOf 27 ≡ NotReducible) × (reasonOf 41 ≡ ShardingChanged) × (reasonOf 42 ≡ TooDeep) × (reasonOf 43 ≡ TooManyRun) × (reasonOf 44 ≡ RepeatOfNothing)
 unfolding reasonOf
 reasoned = (refl, refl, refl, refl, refl, refl)

@@ -201,7 +201,7 @@ pub enum Reason {
     NotTail,
     ShardNotDivisible,
     NotIncreasing,
-    NotUnreduced,
+    NotReducible,
     WrongDims,
     WorkTooShort,
     SpareTooShort,

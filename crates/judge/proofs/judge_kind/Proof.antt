@@ -22,7 +22,10 @@ judge-kind-spec =
     (λ c. search needs)
     (λ c κs. search needs)
     (λ c. search needs)
-    (λ c κs. search needs)
+    (λ c κs. let c2 = c .before .before in
+    let a = c2 .args in
+    let b = named-inv (a .mesh .n) (a .k) (stepAxes (stepOf (a .table .rank) (a .step))) (c2 .pre .1) .1 in
+    (c2 .pre .0 .fits .rank, c2 .pre .0 .fits .axes, simp (c .enum-told3 .given .1) at b))
     (λ c. search needs)
     (λ c κs. let c2 = c .before .before in
     let a = c2 .args in
@@ -38,7 +41,7 @@ judge-kind-spec =
     (λ c. simp (c .before .enum-told .given .1) (c .judge-slice .ensures))
     (λ c. simp (c .before .enum-told2 .given .1) (c .gather-off .ensures))
     (λ c. let c3 = c .before .before .before in
-    let a = c3 .args in simp (c .before .enum-told3 .given .1) (c .judge-reduce .ensures (meshOf (a .mesh)) (sizesOf (a .table)) (a .table .rank)))
+    let a = c3 .args in simp (c .before .enum-told3 .given .1) (c .judge-reduce .ensures (meshOf (a .mesh)) (sizesOf (a .table))))
     (λ c. simp (c .before .enum-told4 .given .1) (c .judge-all-to-all .ensures))
     (λ c. simp (c .before .enum-told5 .given .1) (c .judge-scatter .ensures))
     (λ c. let c3 = c .before .before .before in
