@@ -73,9 +73,11 @@
  * all-gather  joins again. It has a list for each dimension, the tail of its dimension's list in
  *             the same order (24), and that tail is cut off. A device's new shard joins, along each
  *             dimension, the shards of its group in order of position for the step's list
- * all-reduce  adds. It has one strictly increasing list (26) of unreduced axes (27), which become
- *             replicated. Each device gets the word-by-word sum over its group, modulo 2^32; the
- *             shard's sizes stay
+ * all-reduce  adds. It has one strictly increasing list (26) of axes that split no dimension and are
+ *             not to stay replicated (27). Each device gets the word-by-word sum over its group,
+ *             modulo 2^32; the shard's sizes stay. Unreduced axes become replicated. Along an axis
+ *             that no list names the shards of a table are equal, and their sum is the table's words
+ *             times the axis's size
  * all-to-all  moves a split from a source dimension to another, the target (28). Its one list is
  *             gathered off the source (24) and then sliced on the target (25), as one step: there
  *             is no state between, and no room is needed for one
@@ -149,7 +151,7 @@
  *     24  the gathered list is not the tail of the dimension's list
  *     25  a dimension's shard size is not divisible
  *     26  all-reduce: list not strictly increasing
- *     27  all-reduce, reduce-scatter: an axis is not unreduced
+ *     27  all-reduce: an axis splits a dimension or is to stay replicated; reduce-scatter: an axis is not unreduced
  *     28  all-to-all: source or target is no dimension, or they are equal
  *     30  work is shorter than the room       31  spare is shorter than the room
  *     32  no such device                      34  no such state

@@ -100,7 +100,7 @@ TEXTS = {
     24: "the gathered list is not the tail of the dimension's list",
     25: "a dimension's shard size is not divisible",
     26: "all-reduce: list not strictly increasing",
-    27: "all-reduce, reduce-scatter: an axis is not unreduced",
+    27: "all-reduce: an axis splits a dimension or is to stay replicated; reduce-scatter: an axis is not unreduced",
     28: "all-to-all: source or target is no dimension, or they are equal",
     30: "work is shorter than the room",
     31: "spare is shorter than the room",
@@ -272,7 +272,7 @@ class AllGather:
 
 @dataclass(frozen=True)
 class AllReduce:
-    """Adds the shards along unreduced axes."""
+    """Adds the shards along unreduced axes, or along axes that no list names: these multiply the table by their size."""
 
     axes: Axes
 

@@ -128,8 +128,22 @@ class Worked(Case):
         self.assertRefused(17, 0, check, made([4], [6], Sharding([[0]])))
         self.assertEqual(check(made([4], [8], Sharding([[0]]))).shard, (2,))
 
-    def test_w10_not_unreduced(self):
-        self.assertRefused(27, 1, check, w7(unreduced=[]))
+    def test_w10_doubles(self):
+        file = w7(unreduced=[])
+        self.assertEqual(check(file).sharding, Sharding([[]]))
+        self.assertEqual(moved(file, spread(file, [1, 2])), 2 * [2, 4])
+
+    def test_reduced_along_axes_that_nothing_names(self):
+        once, twice = (made([2], [1], Sharding([[]]), times * [AllReduce([0])]) for times in (1, 2))
+        self.assertEqual((moved(once, [7, 7]), moved(twice, [7, 7])), ([14, 14], [28, 28]))
+        both = made([2, 3], [1], Sharding([[]], [0]), [AllReduce([0, 1])])
+        self.assertEqual(check(both).sharding, Sharding([[]]))
+        self.assertEqual(moved(both, spread(both, [5])), 6 * [15])
+
+    def test_not_reduced_where_it_splits_or_is_to_stay(self):
+        for start in (Sharding([[0]]), Sharding([[]], replicated=[0]), Sharding([[0]], [1])):
+            for axes in ([0], [0, 1]):
+                self.assertRefused(27, 1, check, made([2, 2], [4], start, [AllReduce(axes)]))
 
     def test_limits(self):
         self.assertEqual(check(made([256], [4096], Sharding([[0]]))).shard, (16,))
@@ -370,6 +384,11 @@ class Repeats(Case):
             three = Repeat(count, [AllSlice([[1]]), AllSlice([[0]]), AllGather([[1, 0]])])
             self.assertEqual(moved(self.square(three), range(1, 17)), 4 * [1, 10, 7, 16])
             self.assertEqual(moved(self.square(three, AllSlice([[0]])), range(1, 17)), 2 * [1, 10] + 2 * [7, 16])
+
+    def test_a_block_reduces_in_every_pass(self):
+        for count, factor in ((1, 2), (3, 8), (31, 2**31), (32, 0)):
+            file = self.plan(Repeat(count, [AllReduce([0])]))
+            self.assertEqual(moved(file, spread(file, [1, 3])), 2 * [factor, 3 * factor % 2**32])
 
     def test_a_spread_stays_one(self):
         block = Repeat(3, [AllGather([[1]]), Repeat(2, [AllSlice([[2]]), AllGather([[2]])]), AllSlice([[1]])])
