@@ -46,6 +46,36 @@ fn repeats_are_of_many_kinds() {
     assert!(odd > 50 && past_64 > 0, "{odd} {past_64}");
 }
 
+fn is_reduction(step: &Step) -> bool {
+    matches!(step, Step::Reduce(_))
+}
+
+#[test]
+fn plans_multiply_the_table_in_blocks_too() {
+    let mut random = Random::new(12);
+    let (mut multiplied, mut in_blocks, mut to_nothing) = (0, 0, 0);
+    for _ in 0..3000 {
+        let draft = small(&mut random);
+        let factor = draft.factor();
+        multiplied += usize::from(factor != 1);
+        to_nothing += usize::from(factor == 0);
+        let in_a_block = |step: &Step| match step {
+            Step::Repeat(_, block) => blocks::unrolled(block).iter().any(is_reduction),
+            _ => false,
+        };
+        in_blocks += usize::from(draft.steps.iter().any(in_a_block));
+        // Part by part it is the same number.
+        let parts = draft.pieces(5);
+        let product = parts
+            .iter()
+            .fold(1u32, |product, part| product.wrapping_mul(part.factor()));
+        assert_eq!(product, factor);
+    }
+    let counts = (multiplied, in_blocks, to_nothing);
+    assert!(multiplied > 600 && in_blocks > 150, "{counts:?}");
+    assert!(to_nothing < multiplied / 4, "{counts:?}");
+}
+
 #[test]
 fn plans_with_the_most_plain_steps_are_accepted() {
     let mut random = Random::new(8);
