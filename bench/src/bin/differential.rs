@@ -741,7 +741,7 @@ impl fmt::Display for Tally {
         let (multiplied, by_0) = (self.multiplied, self.multiplied_by_0);
         writeln!(
             f,
-            "    {multiplied} of these times by a factor other than 1, {by_0} by 0"
+            "    {multiplied} of these with a factor other than 1, {by_0} with 0"
         )?;
         writeln!(
             f,
