@@ -272,7 +272,7 @@ class AllGather:
 
 @dataclass(frozen=True)
 class AllReduce:
-    """Adds the shards along unreduced axes, or along axes that no list names: these multiply the table by their size."""
+    """Adds the shards along unreduced axes, or ones that no list names: these multiply the table by their size."""
 
     axes: Axes
 
