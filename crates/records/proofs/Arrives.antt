@@ -23,7 +23,7 @@ use Rattle.laws.proofs.Judging.{accept-inj, need-inv, need-true, then-inv, allI
 use Rattle.laws.proofs.Accepted.{SizesFacts, sizes-facts}
 use Rattle.laws.proofs.Whole.{whole-plan}
 use Rattle.records.specs.Records.{known, Records, outermost, outermostFrom, u16sBytes, listBytes, listsBytes, editionOf, replicatedBytes, shardingBytes, stepsBytes, stepsStart, fileLength, fileOf}
-use Rattle.records.specs.Writing.{judgeCounts, judgeSharding, judgeOrder, orderOf, judgeOpening, mostRecords, judgeRecords}
+use Rattle.records.specs.Writing.{judgeCounts, judgeSharding, judgeOrder, orderOf, judgeOpening, judgeRecords}
 use Rattle.records.specs.RoundTrip.{Shorts, AllShort, Fits}
 use Rattle.records.specs.Forms.{stepsGiven, recordsBytes}
 use Rattle.records.specs.Planning.{planSteps, reachable, planOf, Reaches, PlannerPromise}
@@ -40,10 +40,6 @@ outermost-plain : (ts : List Step) → outermost (givenOf ts) ≡ length ts
 unfolding outermostFrom
 outermost-plain [] = refl
 outermost-plain (t ∷ ts) = ap suc (outermost-plain ts)
-
-few-given : (ts : List Step) → length (givenOf ts) ≡ length ts
-few-given [] = refl
-few-given (t ∷ ts) = ap suc (few-given ts)
 
 -- a sharding's bytes
 sharding-few : (mesh sizes : List ℕ) (e : ℕ) (s : Sharding) → length mesh ≤ mostAxes → length (s .dims) ≤ mostDims → Judges mesh sizes s → length (shardingBytes e s) ≤ 42
@@ -151,7 +147,6 @@ module _ (mesh order sizes : List ℕ) (start goal : Sharding) where
           j .order-is,
           j .sizes-are,
           j .start-is,
-          is-le (length (givenOf steps)) mostRecords (omega (arith, few-given steps, plan-few start goal)),
           reads,
         ) refl
 
