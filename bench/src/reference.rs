@@ -335,7 +335,7 @@ struct Judge<'a, S> {
     /// The words of the largest shard so far.
     most: usize,
     /// The kind bytes read so far; the last one has this number.
-    number: u16,
+    number: usize,
 }
 
 impl<'a, S: Source> Judge<'a, S> {
@@ -360,10 +360,7 @@ impl<'a, S: Source> Judge<'a, S> {
             let item = self.item(1)?;
             ran += item.runs();
             if ran > MOST_RUN {
-                return Err(Refusal {
-                    number: 43,
-                    step: number,
-                });
+                return Err(refusal_at(43, number));
             }
             steps.push(item);
             states.push(self.state);
@@ -384,7 +381,7 @@ impl<'a, S: Source> Judge<'a, S> {
     fn plain(&mut self, kind: u8) -> Result<Taken, Refusal> {
         let before = self.state;
         let at = self.number;
-        let refused = |number| Refusal { number, step: at };
+        let refused = |number| refusal_at(number, at);
         let read = self.source.step(kind, self.mesh.axes(), before.shard.len());
         let step = read?.ok_or(refused(20))?;
         let after = step.judge(self.mesh, &before).map_err(refused)?;
@@ -400,7 +397,7 @@ impl<'a, S: Source> Judge<'a, S> {
     fn repeat(&mut self, depth: usize) -> Result<Item, Refusal> {
         let before = self.state.sharding;
         let at = self.number;
-        let refused = |number| Refusal { number, step: at };
+        let refused = |number| refusal_at(number, at);
         let positive = |byte: u8| match byte {
             0 => Err(refused(44)),
             _ => Ok(usize::from(byte)),
@@ -418,6 +415,15 @@ impl<'a, S: Source> Judge<'a, S> {
             return Err(refused(43));
         }
         Ok(block)
+    }
+}
+
+/// A refusal of the step with this number. Records may be more than 16 bits count: past them the file
+/// is too long for any refusal of its own.
+fn refusal_at(number: u8, step: usize) -> Refusal {
+    match u16::try_from(step) {
+        Ok(step) => Refusal { number, step },
+        Err(_) => Refusal::whole(2),
     }
 }
 

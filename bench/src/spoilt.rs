@@ -73,9 +73,43 @@ fn too_long(random: &mut Random) -> Records {
     let mut records = Records::from(&blocks::longest(random, plans::small, MOST_BYTES + 1));
     match random.below(8) {
         0 => drop(spoil_record(random, &mut records.steps)),
-        1 => records.steps = vec![StepRecord::Repeat { count: 1, steps: 1 }; 65536],
+        1 => records = past_numbers(random),
         _ => {}
     }
+    records
+}
+
+/// More records than step numbers, with something changed in them, often where the numbers end.
+fn past_numbers(random: &mut Random) -> Records {
+    let mut records = more_than_numbers();
+    let end = usize::from(u16::MAX);
+    let near = random.between(end - 4, end + 4);
+    match random.below(6) {
+        0 => {}
+        1 => records.steps.truncate(near),
+        2 => drop(spoil_record(random, &mut records.steps)),
+        _ => records.steps[near] = StepRecord::Unknown(random.byte() | 16),
+    }
+    records
+}
+
+/// One repeat of more records than 16 bits count. Each of its blocks is accepted, and together they
+/// run too many plain steps: 43 in step 1.
+pub fn more_than_numbers() -> Records {
+    let repeat = |steps: usize| {
+        let steps = steps as u8;
+        vec![StepRecord::Repeat { count: 1, steps }]
+    };
+    let there = StepRecord::Slice(vec![axes(&[0])]);
+    let back = StepRecord::Gather(vec![axes(&[0])]);
+    let plain = vec![[there, back]; 127].concat();
+    let inner = [repeat(254), plain].concat();
+    let block = [repeat(16), vec![inner; 16].concat()].concat();
+    let mut records = Records::default();
+    records.on.mesh = vec![2];
+    records.on.table = vec![2];
+    records.start.dims = vec![Vec::new()];
+    records.steps = [repeat(17), vec![block; 17].concat()].concat();
     records
 }
 

@@ -269,8 +269,33 @@ fn a_file_past_the_limit_gets_2_before_35() {
         *records.steps.last_mut().expect("a step") = StepRecord::Unknown(6);
         assert_refused(&records, 20, last);
     }
-    assert_refused(&small(vec![repeat(1, 1); 65535]), 42, 5);
-    assert_refused(&small(vec![repeat(1, 1); 65536]), 2, 0);
+}
+
+#[test]
+fn records_past_the_last_step_number_are_judged() {
+    assert_refused(&small(vec![repeat(1, 1); 65536]), 42, 5);
+    let many = spoilt::more_than_numbers();
+    assert_eq!(many.steps.len(), 69378);
+    assert_refused(&many, 43, 1);
+    let with = |change: &dyn Fn(&mut Vec<StepRecord>)| {
+        let mut records = many.clone();
+        change(&mut records.steps);
+        records
+    };
+    // The first block is judged to its end, wherever that is.
+    let ends_inside = with(&|steps| steps.truncate(65540));
+    assert_refused(&ends_inside, 7, 0);
+    let comes_elsewhere = with(&|steps| {
+        steps[0] = repeat(1, 18);
+        steps.push(StepRecord::Slice(lists(&[&[0]])));
+    });
+    assert_refused(&comes_elsewhere, 41, 1);
+    // A record's own refusal up to the last number, past it that of a file too long.
+    let unknown = |at: usize| with(&|steps| steps[at] = StepRecord::Unknown(6));
+    assert_refused(&unknown(65533), 20, 65534);
+    assert_refused(&unknown(65534), 20, 65535);
+    assert_refused(&unknown(65535), 2, 0);
+    assert_refused(&unknown(69000), 2, 0);
 }
 
 // ---- the way back

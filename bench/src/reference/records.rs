@@ -13,10 +13,6 @@ pub fn write(records: &Records, out: &mut [u8]) -> Result<usize, Refusal> {
     let steps = outermost(&records.steps);
     let ground = Ground::judge(&records.on, steps)?;
     let start = ground.state(&records.start)?;
-    // A step number has 16 bits, and no file could hold as many steps.
-    if records.steps.len() > usize::from(u16::MAX) {
-        return Err(Refusal::whole(2));
-    }
     let walk = Walk {
         left: records.steps.iter(),
         at: None,

@@ -2,7 +2,7 @@
 -- a call are what every call's are by their form (`accepted-proper`). Assumes nothing.
 use Prim.Native.Nat.{ℕ, zero, suc, _+_, _*_, _≤_}
 use mathlib.Core.Bool.{Bool, true, false}
-use mathlib.Core.Path.{_≡_, refl, sym, subst}
+use mathlib.Core.Path.{_≡_, refl, sym, ap, subst}
 use mathlib.Core.List.{List, [], _∷_, _++_, map}
 use native.Mathlib.Omega.{arith}
 use lib.Dec.{leb, leb→le, eqb, lit≤}
@@ -24,11 +24,12 @@ use Rattle.laws.proofs.Lists.{T-and, getD-tab, both-length}
 use Rattle.laws.proofs.Judging.{need-inv, then-inv, bind-inv}
 use Rattle.laws.proofs.Accepted.{sizes-facts}
 use Rattle.records.specs.Records.{Given, known, unknown, Records, outermost, stepsBytes}
-use Rattle.records.specs.Writing.{judgeSharding, judgeOrder, judgeOpening, mostRecords, judgeRecords}
+use Rattle.records.specs.Writing.{judgeSharding, judgeOrder, judgeOpening, stepNumbered, judgeRecords}
 use Rattle.records.specs.Forms.{listGiven, dimsGiven, recordBytes, stepRecord, givenKind, givenAt, recordCount, stepsGiven, recordsGiven}
 use Rattle.records.specs.RoundTrip.{Shorts, Ranked, AllRanked, ShortGiven, AllShort, Proper}
 use Rattle.records.proofs.Places.{from-all}
 use Rattle.records.proofs.Given.{all-given}
+use Rattle.records.proofs.Numbers.{numbered-on, outermost-few}
 use Rattle.records.proofs.Readback.{order-passed}
 use Rattle.records.proofs.Short.{counts-short, outermost-short}
 use Rattle.records.proofs.Accepting.{sharding-facts}
@@ -123,20 +124,21 @@ unfolding judgeRecords
 accepted-encodable mesh order sizes start bytes p e =
     let r : Records = recordsGiven mesh order sizes start bytes in
     let w = then-inv (judgeOpening r) _ p e in
-    let m = need-inv 0 (leb (length (r .steps)) mostRecords) 2 _ p (w .1) in
-    let ts = bind-inv (outermostAt everyKind mesh sizes (stepsBytes (r .steps)) 0 (outermost (r .steps)) 1 0 (r .start)) _ p (m .1) in
+    let ts = bind-inv (stepNumbered (outermostAt everyKind mesh sizes (stepsBytes (r .steps)) 0 (outermost (r .steps)) 1 0 (r .start))) _ p (w .1) in
+    let taken = numbered-on (outermostAt everyKind mesh sizes (stepsBytes (r .steps)) 0 (outermost (r .steps)) 1 0 (r .start)) (ts .1) in
     let o : Opened r = opened r (w .0 .1) in
     let s = sharding-facts mesh sizes (r .start) (o .sharding) in
     let others = counts-short (length mesh) (r .start .unreduced ∷ r .start .replicated ∷ []) (o .axes) (s .others) in
     let g : r .steps ≡ map known (ts .0 .records) =
     all-given mesh sizes (stepsBytes (r .steps)) everyKind 0 1 0 (r .start) (r .steps) (ts .0) (given-ranked (length sizes) (o .rank) bytes)
-    (from-all (stepsBytes (r .steps))) (ts .1) .0 in
-    let short = outermost-short mesh sizes (stepsBytes (r .steps)) (o .axes) everyKind 0 (outermost (r .steps)) 1 0 (r .start) (ts .0) (ts .1) in (
+    (from-all (stepsBytes (r .steps))) taken .0 in
+    let short = outermost-short mesh sizes (stepsBytes (r .steps)) (o .axes) everyKind 0 (outermost (r .steps)) 1 0 (r .start) (ts .0) taken in
+    let few = outermost-few mesh sizes (stepsBytes (r .steps)) everyKind (outermost (r .steps)) 1 0 (r .start) (ts .0) taken in (
       record {
         axes = o .axes;
         devices = o .order;
         rank = o .rank;
-        records = omega (arith, given-length (length sizes) bytes, leb→le (length (r .steps)) mostRecords (m .0));
+        records = omega (arith, given-length (length sizes) bytes, few, ap length g, length-map (ts .0 .records) known);
         short-start = record { dims = counts-short (length mesh) (r .start .dims) (o .axes) (s .counts); unreduced = others 0; replicated = others 1 };
         short-steps = given-short (length sizes) bytes (ts .0 .records) g short;
       },

@@ -35,7 +35,7 @@ impl StepRecord {
         StepRecord::BYTES
     }
 
-    // The most records; a step number has 16 bits.
+    // The most records that have a number: a step number has 16 bits.
     pub const MOST: usize = 65535;
 
     pub fn most() -> usize

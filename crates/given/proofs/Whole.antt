@@ -1,17 +1,17 @@
 -- The whole judgement in its parts (`in-parts`), and what the parts that passed give to the later ones. Assumes nothing.
-use Prim.Native.Nat.{ℕ, _≤_, _<_}
+use Prim.Native.Nat.{ℕ, _≤_}
 use mathlib.Core.Path.{_≡_, refl, sym, ap, _∙_, subst}
-use mathlib.Core.Bool.{Bool}
+use mathlib.Core.Bool.{Bool, true, false}
 use mathlib.Core.List.{List, [], _∷_}
 use native.Mathlib.Omega.{arith}
-use borrow.Author.Tests.{le-leb, lt-leb}
 use lib.ListN.{length}
 use lib.Dec.{leb, leb→le}
+use Rattle.rules.specs.Lists.{pick}
 use Rattle.rules.specs.Limits.{mostAxes, mostDims, mostDevices, mostWords, mostSteps, everyKind}
 use Rattle.rules.specs.Mesh.{devices, OnMesh}
 use Rattle.rules.specs.Refusals.{Judged, accept, refuse, _>>=_, _>>_, need}
 use Rattle.rules.specs.Sharding.{Sharding, IsSharding}
-use Rattle.rules.specs.PlanFile.{axesAllowed, rankAllowed, judgeSizes, judgeStart, outermostAt}
+use Rattle.rules.specs.PlanFile.{axesAllowed, rankAllowed, judgeSizes, judgeStart, Outermost, outermostAt}
 use Rattle.types.specs.Types.{Sized, shardingOf, meshOf, sizesOf}
 use Rattle.types.specs.declared.Mesh.{Mesh}
 use Rattle.types.specs.declared.Sharding as code
@@ -20,11 +20,10 @@ use Rattle.laws.proofs.Lists.{T-and}
 use Rattle.laws.proofs.Judging.{need-inv, then-inv}
 use Rattle.laws.proofs.Accepted.{SizesFacts, sizes-facts, start-sharding}
 use Rattle.records.specs.Records.{outermost, stepsBytes}
-use Rattle.records.specs.Writing.{judgeCounts, judgeSharding, judgeOrder, judgeOpening, mostRecords, judgeRecords}
-use Rattle.records.specs.Forms.{listGiven, dimsGiven, shardingGiven, recordCount, stepsGiven, recordsGiven}
+use Rattle.records.specs.Writing.{judgeCounts, judgeSharding, judgeOrder, judgeOpening, mostRecords, stepNumbered, judgeRecords}
+use Rattle.records.specs.Forms.{listGiven, dimsGiven, shardingGiven, stepsGiven, recordsGiven}
 use Rattle.given.specs.Given.{judgeLimits, meshFrom, tableFrom, Shaped, verdictOf, judgeShape, outermostGiven, judgeRest}
 use Rattle.given.proofs.Sizes.{mesh-is, table-is}
-use Rattle.encode.proofs.Counting.{given-length}
 use Rattle.given.proofs.Counts.{sharding-fits}
 
 -- ---- what passed
@@ -97,49 +96,48 @@ module _ (mesh sizes : List ℕ) (n rank : ℕ) (s : code.Sharding) (n-is : leng
 
   -- then the records
   module _ (steps : List ℕ) (count : ℕ) where
-    then-records : judgeRest mesh sizes rank s steps count
-        ≡ _>>_ (need (leb (recordCount steps) mostRecords) 2) (outermostGiven mesh sizes rank steps count (shardingGiven rank s))
-    then-records =
-        ap (λ (j : Judged (Unit {0})). _>>_ j (_>>_ (need (leb (recordCount steps) mostRecords) 2) (outermostGiven mesh sizes rank steps count (shardingGiven rank s)))) e
-
-    pub too-many-records : mostRecords < recordCount steps → judgeRest mesh sizes rank s steps count ≡ refuse 2 0
-    too-many-records h =
-        then-records ∙ ap (λ (b : Bool). _>>_ (need b 2) (outermostGiven mesh sizes rank steps count (shardingGiven rank s))) (lt-leb (recordCount steps) mostRecords h)
-
-    pub records-decide : recordCount steps ≤ mostRecords → judgeRest mesh sizes rank s steps count ≡ outermostGiven mesh sizes rank steps count (shardingOf rank s)
-    records-decide h =
-        then-records ∙ ap (λ (b : Bool). _>>_ (need b 2) (outermostGiven mesh sizes rank steps count (shardingGiven rank s))) (le-leb (recordCount steps) mostRecords h)
-        ∙ ap (outermostGiven mesh sizes rank steps count) (is-sharding .0)
+    pub records-decide : judgeRest mesh sizes rank s steps count ≡ stepNumbered (outermostGiven mesh sizes rank steps count (shardingOf rank s))
+    records-decide =
+        ap (λ (j : Judged (Unit {0})). _>>_ j (stepNumbered (outermostGiven mesh sizes rank steps count (shardingGiven rank s)))) e
+        ∙ ap (λ (s : Sharding). stepNumbered (outermostGiven mesh sizes rank steps count s)) (is-sharding .0)
 
 -- ---- the parts
 
-regrouped : {A B : Type 0} (a b c d e f g h : Judged (Unit {0})) (x : Judged A) (k : A → B)
-    → verdictOf (_>>_ (_>>_ a (_>>_ b (_>>_ c (_>>_ d (_>>_ e (_>>_ f g)))))) (_>>_ h (_>>=_ x (λ o. accept (k o)))))
-    ≡ _>>_ (_>>_ (_>>_ a (_>>_ b c)) (_>>_ d (_>>_ e f))) (_>>_ g (_>>_ h (verdictOf x)))
-regrouped (refuse m n) b c d e f g h x k = refl
-regrouped (accept u) (refuse m n) c d e f g h x k = refl
-regrouped (accept u) (accept v) (refuse m n) d e f g h x k = refl
-regrouped (accept u) (accept v) (accept w) (refuse m n) e f g h x k = refl
-regrouped (accept u) (accept v) (accept w) (accept y) (refuse m n) f g h x k = refl
-regrouped (accept u) (accept v) (accept w) (accept y) (accept z) (refuse m n) g h x k = refl
-regrouped (accept u) (accept v) (accept w) (accept y) (accept z) (accept p) (refuse m n) h x k = refl
-regrouped (accept u) (accept v) (accept w) (accept y) (accept z) (accept p) (accept q) (refuse m n) x k = refl
-regrouped (accept u) (accept v) (accept w) (accept y) (accept z) (accept p) (accept q) (accept r) (accept o) k = refl
-regrouped (accept u) (accept v) (accept w) (accept y) (accept z) (accept p) (accept q) (accept r) (refuse m n) k = refl
+numbered-verdict : {A : Type 0} (x : Judged A) → verdictOf (stepNumbered x) ≡ stepNumbered (verdictOf x)
+numbered-verdict (accept a) = refl
+numbered-verdict {A} (refuse n k) = go (leb k mostRecords)
+  where
+    go : (b : Bool) → verdictOf {A = A} (pick b (refuse n k) (refuse 2 0)) ≡ pick b (refuse n k) (refuse 2 0)
+    go true = refl
+    go false = refl
+
+regrouped : {A B : Type 0} (a b c d e f g : Judged (Unit {0})) (x : Judged A) (k : A → B)
+    → verdictOf (_>>_ (_>>_ a (_>>_ b (_>>_ c (_>>_ d (_>>_ e (_>>_ f g)))))) (_>>=_ x (λ o. accept (k o))))
+    ≡ _>>_ (_>>_ (_>>_ a (_>>_ b c)) (_>>_ d (_>>_ e f))) (_>>_ g (verdictOf x))
+regrouped (refuse m n) b c d e f g x k = refl
+regrouped (accept u) (refuse m n) c d e f g x k = refl
+regrouped (accept u) (accept v) (refuse m n) d e f g x k = refl
+regrouped (accept u) (accept v) (accept w) (refuse m n) e f g x k = refl
+regrouped (accept u) (accept v) (accept w) (accept y) (refuse m n) f g x k = refl
+regrouped (accept u) (accept v) (accept w) (accept y) (accept z) (refuse m n) g x k = refl
+regrouped (accept u) (accept v) (accept w) (accept y) (accept z) (accept p) (refuse m n) x k = refl
+regrouped (accept u) (accept v) (accept w) (accept y) (accept z) (accept p) (accept q) (accept o) k = refl
+regrouped (accept u) (accept v) (accept w) (accept y) (accept z) (accept p) (accept q) (refuse m n) k = refl
 
 module _ (mesh order sizes : List ℕ) (start : code.Sharding) (steps : List ℕ) {count : ℕ} (c : count ≡ outermost (stepsGiven (length sizes) steps)) where
   pub in-parts : verdictOf (judgeRecords (recordsGiven mesh order sizes start steps))
       ≡ _>>_ (judgeShape mesh order sizes count) (judgeRest mesh sizes (length sizes) start steps count)
   unfolding judgeRecords judgeOpening
   in-parts =
+      let read : Judged Outermost =
+      outermostAt everyKind mesh sizes (stepsBytes (stepsGiven (length sizes) steps)) 0 (outermost (stepsGiven (length sizes) steps)) 1 0 (shardingGiven (length sizes) start) in
       regrouped (need (axesAllowed (length mesh)) 5) (need (rankAllowed (length sizes)) 5) (need (leb (outermost (stepsGiven (length sizes) steps)) mostSteps) 5)
       (judgeSizes mostDevices 10 11 1 mesh) (judgeOrder (devices mesh) order) (judgeSizes mostWords 12 13 1 sizes)
-      (judgeSharding mesh sizes (shardingGiven (length sizes) start)) (need (leb (length (stepsGiven (length sizes) steps)) mostRecords) 2)
-      (outermostAt everyKind mesh sizes (stepsBytes (stepsGiven (length sizes) steps)) 0 (outermost (stepsGiven (length sizes) steps)) 1 0 (shardingGiven (length sizes) start))
-      _
+      (judgeSharding mesh sizes (shardingGiven (length sizes) start)) (stepNumbered read) _
+      ∙ (λ i. _>>_ (judgeShape mesh order sizes (outermost (stepsGiven (length sizes) steps)))
+      (_>>_ (judgeSharding mesh sizes (shardingGiven (length sizes) start)) (numbered-verdict read i)))
       ∙ (λ i. _>>_ (judgeShape mesh order sizes (sym c i)) (_>>_ (judgeSharding mesh sizes (shardingGiven (length sizes) start))
-      (_>>_ (need (leb (given-length (length sizes) steps i) mostRecords) 2)
-      (outermostGiven mesh sizes (length sizes) steps (sym c i) (shardingGiven (length sizes) start)))))
+      (stepNumbered (outermostGiven mesh sizes (length sizes) steps (sym c i) (shardingGiven (length sizes) start)))))
 
   -- the rest, of the code's mesh and table
   pub rest-of : judgeShape mesh order sizes count ≡ accept tt → (m : Mesh) (t : Table) → m ≡ meshFrom mesh → t ≡ tableFrom sizes

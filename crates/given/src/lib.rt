@@ -8,14 +8,14 @@ ghost use lib.ListN.{length, getD};
 ghost use lib.Dec.{leb, eqb};
 ghost use Rattle.rules.specs.Limits.{mostAxes, mostDims, mostWords};
 ghost use Rattle.rules.specs.Mesh.{devices as devicesOf, OnMesh};
-ghost use Rattle.rules.specs.Refusals.{need};
+ghost use Rattle.rules.specs.Refusals.{refuse, need};
 ghost use Rattle.types.specs.Answers.{numberOf, refusedAs};
 ghost use Rattle.rules.specs.PlanFile.{judgeSizes};
 ghost use Rattle.types.specs.Types.{shardingOf, meshOf, sizesOf};
 ghost use Rattle.start.specs.Start.{meaning};
 ghost use Rattle.blocks.specs.Blocks.{headAt, repeatRead};
-ghost use Rattle.records.specs.Writing.{judgeCounts, judgeSharding, judgeOrder, mostRecords, judgeRecords};
-ghost use Rattle.records.specs.Forms.{listGiven, dimsGiven, shardingGiven, givenKind, recordCount, recordsGiven};
+ghost use Rattle.records.specs.Writing.{judgeCounts, judgeSharding, judgeOrder, stepNumbered, judgeRecords};
+ghost use Rattle.records.specs.Forms.{listGiven, dimsGiven, shardingGiven, givenKind, recordsGiven};
 ghost use Rattle.given.specs.Given.{judgeLimits, meshFrom, tableFrom, Shaped, judgeForm, repeatHere, FewInner, bytesGiven, placeGiven};
 ghost use Rattle.given.specs.Given.{plainGiven, repeatGiven, itemGiven, RecordsTell, Judging, Closing, closed};
 ghost use Rattle.given.specs.Given.{verdictOf, judgeShape, outermostGiven, judgeRest};
@@ -210,10 +210,24 @@ pub fn is_repeat(steps: &[u8], i: usize) -> bool
     steps[StepRecord::BYTES * i] == 9
 }
 
-// A record of a plain step before its step is judged: 20, then 8 over its lists.
-fn judge_form(step: Step, k: u16, rank: usize, n: usize) -> Verdict
+// The refusal of record i for this reason. A step number has 16 bits: past them 2.
+fn refusal_at(reason: Reason, i: usize) -> Refusal
+    ensures { λ r. ⌜ refusedAs {A = Unit {0}} r ≡ stepNumbered (refuse (numberOf reason) (i + 1)) ⌝ }
+{
+    if StepRecord::MOST <= i {
+        return Refusal {
+            reason: Reason::FileTooLong,
+            step: 0,
+        };
+    }
+    let step = (i + 1) as u16;
+    Refusal { reason, step }
+}
+
+// Record i of a plain step before its step is judged: 20, then 8 over its lists.
+fn judge_form(step: Step, i: usize, rank: usize, n: usize) -> Verdict
     requires { ⌜ (rank ≤ mostDims) × (n ≤ mostAxes) ⌝ }
-    ensures { λ r. ⌜ meaning r ≡ judgeForm n k (givenKind (step .kind) rank step) ⌝ }
+    ensures { λ r. ⌜ meaning r ≡ stepNumbered (judgeForm n (i + 1) (givenKind (step .kind) rank step)) ⌝ }
 {
     let kind = step.kind;
     match kind {
@@ -222,7 +236,7 @@ fn judge_form(step: Step, k: u16, rank: usize, n: usize) -> Verdict
         Kind::AllReduce => judge_count(step.list, n),
         Kind::AllToAll => judge_count(step.list, n),
         Kind::ReduceScatter => judge_counts(step.lists, rank, n),
-        Kind::Unknown => refused(Reason::UnknownKind, k),
+        Kind::Unknown => Verdict::Refused(refusal_at(Reason::UnknownKind, i)),
     }
 }
 
@@ -265,16 +279,17 @@ fn judge_plain(
         };
         return RecordsJudged::refused(past, sharding);
     }
-    let k = (i + 1) as u16;
     let step = step_record(steps, StepRecord::BYTES * i);
-    let form = judge_form(step, k, table.rank, mesh.n);
+    let form = judge_form(step, i, table.rank, mesh.n);
     let Verdict::Fine = form else {
         return RecordsJudged::refused(refusal_of(form), sharding);
     };
-    let after = judge_step(step, k, sharding, mesh, table);
+    // A step is judged alike under every number; the refusal gets its own.
+    let after = judge_step(step, 0, sharding, mesh, table);
     let verdict = after.verdict;
     let Verdict::Fine = verdict else {
-        return RecordsJudged::refused(refusal_of(verdict), sharding);
+        let reason = refusal_of(verdict).reason;
+        return RecordsJudged::refused(refusal_at(reason, i), sharding);
     };
     let left = after.sharding;
     RecordsJudged {
@@ -286,57 +301,45 @@ fn judge_plain(
 
 // How often the block of record i is run and how many steps it has, where repeats may nest so deep, this one included: 44, then 42.
 fn read_head(steps: &[u8], i: usize, depth: usize) -> RepeatRead
-    requires { ⌜ (repeatHere (now steps) i ≡ true) × (recordCount (now steps) ≤ mostRecords) ⌝ }
+    requires { ⌜ repeatHere (now steps) i ≡ true ⌝ }
     ensures { λ r. ⌜ ((rank : ℕ) → repeatRead r
-        ≡ headAt depth (i + 1) (bytesGiven rank (now (steps .entry))) (placeGiven rank (now (steps .entry)) i + 1)) ⌝ }
+        ≡ stepNumbered (headAt depth (i + 1) (bytesGiven rank (now (steps .entry))) (placeGiven rank (now (steps .entry)) i + 1))) ⌝ }
     ensures { λ r. ⌜ FewInner r ⌝ }
 {
     let at = StepRecord::BYTES * i;
-    let step = (i + 1) as u16;
     let count = steps[at + 1];
     let number = steps[at + 2];
     if count == 0 {
-        let reason = Reason::RepeatOfNothing;
-        return RepeatRead::Refused(Refusal { reason, step });
+        return RepeatRead::Refused(refusal_at(Reason::RepeatOfNothing, i));
     }
     if number == 0 {
-        let reason = Reason::RepeatOfNothing;
-        return RepeatRead::Refused(Refusal { reason, step });
+        return RepeatRead::Refused(refusal_at(Reason::RepeatOfNothing, i));
     }
     if depth == 0 {
-        let reason = Reason::TooDeep;
-        return RepeatRead::Refused(Refusal { reason, step });
+        return RepeatRead::Refused(refusal_at(Reason::TooDeep, i));
     }
     RepeatRead::Of(count, number)
 }
 
-// The end of the block with number k: the sharding is the one before it, and so many rounds are not too many steps.
+// The end of the block of record i: the sharding is the one before it, and so many rounds are not too many steps.
 fn close_repeat(
-    k: u16,
+    i: usize,
     count: u8,
     block: RecordsJudged,
     before: Sharding,
     rank: usize,
 ) -> RecordsJudged
     requires { ⌜ Closing block rank ⌝ }
-    ensures { λ r. ⌜ RecordsTell rank (shardingOf rank before) (closed k count rank before block) r ⌝ }
+    ensures { λ r. ⌜ RecordsTell rank (shardingOf rank before) (closed (i + 1) count rank before block) r ⌝ }
 {
     let after = block.sharding;
     if !same_sharding(after, before, rank) {
-        let changed = Refusal {
-            reason: Reason::ShardingChanged,
-            step: k,
-        };
-        return RecordsJudged::refused(changed, before);
+        return RecordsJudged::refused(refusal_at(Reason::ShardingChanged, i), before);
     }
     let rounds = count as usize;
     let runs = rounds * block.runs;
     if Step::MOST_RUN < runs {
-        let over = Refusal {
-            reason: Reason::TooManyRun,
-            step: k,
-        };
-        return RecordsJudged::refused(over, before);
+        return RecordsJudged::refused(refusal_at(Reason::TooManyRun, i), before);
     }
     let next = block.next;
     RecordsJudged {
@@ -385,7 +388,7 @@ pub fn judge_repeat(
         runs,
         sharding: after,
     };
-    close_repeat((i + 1) as u16, count, block, sharding, table.rank)
+    close_repeat(i, count, block, sharding, table.rank)
 }
 
 // Record i, with all steps inside it if it is a repeat, where repeats may nest so deep.
@@ -411,7 +414,7 @@ pub fn judge_record(
 // So many outermost steps, from the first record on; 43 "after each outermost step for the plan so far".
 fn judge_outermost(steps: &[u8], count: usize, mesh: Mesh, table: Table, start: Sharding) -> Verdict
     requires { ⌜ Judging (now steps) 0 mesh table start ⌝ }
-    ensures { λ r. ⌜ meaning r ≡ outermostGiven (meshOf mesh) (sizesOf table) (table .rank) (now (steps .entry)) count (shardingOf (table .rank) start) ⌝ }
+    ensures { λ r. ⌜ meaning r ≡ stepNumbered (outermostGiven (meshOf mesh) (sizesOf table) (table .rank) (now (steps .entry)) count (shardingOf (table .rank) start)) ⌝ }
 {
     let depth = Step::MOST_DEPTH;
     let mut after = start;
@@ -426,7 +429,7 @@ fn judge_outermost(steps: &[u8], count: usize, mesh: Mesh, table: Table, start: 
         };
         ran = ran + item.runs;
         if Step::MOST_RUN < ran {
-            return refused(Reason::TooManyRun, (place + 1) as u16);
+            return Verdict::Refused(refusal_at(Reason::TooManyRun, place));
         }
         place = end;
         after = item.sharding;
@@ -435,7 +438,7 @@ fn judge_outermost(steps: &[u8], count: usize, mesh: Mesh, table: Table, start: 
     Verdict::Fine
 }
 
-// The starting sharding, then the records, of which so many stand in no block. A step number has 16 bits: more records get 2.
+// The starting sharding, then the records, of which so many stand in no block.
 fn judge_rest(steps: &[u8], count: usize, mesh: Mesh, table: Table, start: Sharding) -> Verdict
     requires { ⌜ Shaped mesh table ⌝ }
     ensures { λ r. ⌜ meaning r ≡ judgeRest (meshOf mesh) (sizesOf table) (table .rank) start (now (steps .entry)) count ⌝ }
@@ -444,9 +447,6 @@ fn judge_rest(steps: &[u8], count: usize, mesh: Mesh, table: Table, start: Shard
     let Verdict::Fine = sharding else {
         return sharding;
     };
-    if StepRecord::MOST < steps.len() / StepRecord::BYTES {
-        return refused(Reason::FileTooLong, 0);
-    }
     judge_outermost(steps, count, mesh, table, start)
 }
 

@@ -25,7 +25,7 @@ use Rattle.laws.proofs.Accepted.{SizesFacts, sizes-facts}
 use Rattle.laws.proofs.Factor.{step-one}
 use Rattle.laws.proofs.Whole.{whole-plan, times-one}
 use Rattle.records.specs.Records.{known, Records, outermost, outermostFrom, u16sBytes, listBytes, listsBytes, editionOf, replicatedBytes, shardingBytes, stepsBytes, stepsStart, fileLength, fileOf}
-use Rattle.records.specs.Writing.{judgeCounts, judgeSharding, judgeOrder, orderOf, judgeOpening, mostRecords, judgeRecords}
+use Rattle.records.specs.Writing.{judgeCounts, judgeSharding, judgeOrder, orderOf, judgeOpening, judgeRecords}
 use Rattle.records.specs.RoundTrip.{Shorts, AllShort, Fits}
 use Rattle.records.specs.Forms.{stepsGiven, recordsBytes}
 use Rattle.records.specs.Planning.{toReduce, toGather, toSlice, ifNaming, planSteps, reachable, planOf, Reaches, PlannerPromise}
@@ -43,6 +43,7 @@ unfolding outermostFrom
 outermost-plain [] = refl
 outermost-plain (t ∷ ts) = ap suc (outermost-plain ts)
 
+<<<<<<< HEAD
 few-given : (ts : List Step) → length (givenOf ts) ≡ length ts
 few-given [] = refl
 few-given (t ∷ ts) = ap suc (few-given ts)
@@ -61,6 +62,8 @@ plan-one mesh s g =
         go true = ap₂ _*_ e (h (after t x))
         go false = h x
 
+=======
+>>>>>>> c1a9601254d3129c22affb95847f0cdf27853aa3
 -- a sharding's bytes
 sharding-few : (mesh sizes : List ℕ) (e : ℕ) (s : Sharding) → length mesh ≤ mostAxes → length (s .dims) ≤ mostDims → Judges mesh sizes s → length (shardingBytes e s) ≤ 42
 unfolding shardingBytes replicatedBytes judgeCounts
@@ -167,7 +170,6 @@ module _ (mesh order sizes : List ℕ) (start goal : Sharding) where
           j .order-is,
           j .sizes-are,
           j .start-is,
-          is-le (length (givenOf steps)) mostRecords (omega (arith, few-given steps, plan-few start goal)),
           reads,
         ) refl
 

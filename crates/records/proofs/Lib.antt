@@ -2,6 +2,7 @@
 pub mod Places
 pub mod Moved
 pub mod Lists
+pub mod Numbers
 pub mod Given
 pub mod Records
 pub mod Written

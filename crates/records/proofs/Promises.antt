@@ -41,6 +41,7 @@ worked-promise = record {
   writing = worked.written;
   refusing = worked.refused-as;
   past-limit = past-limit;
+  numbering = (refl, refl, refl);
   given = worked.formed;
   planning = worked.planned-as;
   reading = reading.read-as;

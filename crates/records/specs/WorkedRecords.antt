@@ -14,7 +14,7 @@ use Rattle.types.specs.declared.Axis.{Axis}
 use Rattle.types.specs.declared.AxisList.{AxisList}
 use Rattle.types.specs.declared.Sharding as code
 use Rattle.records.specs.Records.{Given, known, unknown, Records, fileLength}
-use Rattle.records.specs.Writing.{judgeRecords, writeOf, writeLeaves}
+use Rattle.records.specs.Writing.{stepNumbered, judgeRecords, writeOf, writeLeaves}
 use Rattle.records.specs.Forms.{stepsGiven, recordsGiven}
 use Rattle.records.specs.Planning.{planOf}
 use Rattle.records.specs.WorkedReading as reading
@@ -260,9 +260,8 @@ refusals =
     ∷ refused (whole (times 1 2 ∷ times 2 3 ∷ swings 1)) 7 0
     ∷ refused (whole (times 1 2 ∷ times 2 2 ∷ swings 1)) 7 0
     ∷ refused (whole (times 1 3 ∷ gather ∷ [])) 24 2
-    -- more records than there are step numbers, which no file could hold
-    ∷ refused (whole (nested 65536 [])) 2 0
-    ∷ refused (whole (nested 65535 [])) 42 5
+    -- more records than have numbers, which no file could hold: each is judged as it comes
+    ∷ refused (whole (nested 65536 [])) 42 5
     ∷ refused (recordsFor (0 ∷ []) [] (4 ∷ []) (sharding ([] ∷ []) [] []) (nested 65536 [])) 10 0
     ∷ []
 
@@ -275,7 +274,7 @@ refused-as =
     & refl & refl & refl & refl & refl & refl & refl & refl & refl & refl & refl & refl
     & refl & refl & refl & refl & refl & refl & refl & refl & refl & refl & refl & refl
     & refl & refl & refl & refl & refl & refl & refl & refl & refl & refl & refl & refl
-    & refl & refl & refl & refl & refl & refl & refl & refl & refl & refl & done
+    & refl & refl & refl & refl & refl & refl & refl & refl & refl & done
 
 -- ---- what the calls' arguments stand for
 
@@ -460,10 +459,17 @@ planned-as =
 abbrev pub PastLimit : Type 0
 PastLimit = (r : Records) (out : List ℕ) (p : Plan) → judgeRecords r ≡ accept p → 8192 < fileLength r → writeOf r out ≡ refuse 2 0
 
+-- the last step number, the first past it, and a refusal without one
+abbrev pub Numbering : Type 0
+Numbering =
+    (stepNumbered {A = ℕ} (refuse 20 65535) ≡ refuse 20 65535) × (stepNumbered {A = ℕ} (refuse 20 65536) ≡ refuse 2 0)
+    × (stepNumbered {A = ℕ} (refuse 7 0) ≡ refuse 7 0)
+
 pub record WorkedPromise : Type 0 where
   pub writing : All Holds writes
   pub refusing : All Holds refusals
   pub past-limit : PastLimit
+  pub numbering : Numbering
   pub given : All Holds forms
   pub planning : All Holds plannings
   pub reading : All reading.Holds reading.reads

@@ -3,7 +3,7 @@ use native.Mathlib.Omega.{arith}
 use mathlib.Core.Path.{sym, _∙_}
 use Rattle.types.specs.Types.{meshOf, sizesOf}
 use Rattle.start.proofs.Verdicts.{stops, passed}
-use Rattle.given.proofs.Whole.{is-sharding, too-many-records, records-decide}
+use Rattle.given.proofs.Whole.{is-sharding, records-decide}
 use Rattle.given.proofs.judge_rest.Statement.{statement}
 use Rattle.given.proofs.judge_rest.Tie as tie
 
@@ -15,25 +15,17 @@ judge-rest-spec =
     (λ c. search needs)
     (λ c. search needs)
     (λ c. stops _ _ _ (c .before .before .judge-sharding .ensures) _ (c .enum-told2 .given .1))
-    (λ c κs. search needs)
-    (λ c. let t = c .before .before in
-    let j = t .before .before in
-    let s = j .before .before in
-    let a = s .args in
-    c .refused .ensures ∙ sym (too-many-records (meshOf (a .mesh)) (sizesOf (a .table)) (a .mesh .n) (a .table .rank) (a .start) (s .pre .n-is) (s .pre .fits .axes) (passed (j .judge-sharding .ensures) (t .enum-told .given .1)) (a .steps .now) (a .count) (c .before .if1 .taken)))
-    (λ c κs. let t = c .before in
-    let j = t .before .before in
+    (λ c κs. let j = c .before .before in
     let s = j .before .before in
     let a = s .args in
     record {
       shaped = s .pre;
-      sound = is-sharding (meshOf (a .mesh)) (sizesOf (a .table)) (a .mesh .n) (a .table .rank) (a .start) (s .pre .n-is) (s .pre .fits .axes) (passed (j .judge-sharding .ensures) (t .enum-told .given .1)) .1;
+      sound = is-sharding (meshOf (a .mesh)) (sizesOf (a .table)) (a .mesh .n) (a .table .rank) (a .start) (s .pre .n-is) (s .pre .fits .axes) (passed (j .judge-sharding .ensures) (c .enum-told .given .1)) .1;
       inside = omega arith;
-      few = c .if1 .left;
     })
-    (λ c. let t = c .before .before in
+    (λ c. let t = c .before in
     let j = t .before .before in
     let s = j .before .before in
     let a = s .args in
     c .judge-outermost .ensures
-    ∙ sym (records-decide (meshOf (a .mesh)) (sizesOf (a .table)) (a .mesh .n) (a .table .rank) (a .start) (s .pre .n-is) (s .pre .fits .axes) (passed (j .judge-sharding .ensures) (t .enum-told .given .1)) (a .steps .now) (a .count) (c .before .if1 .left))))
+    ∙ sym (records-decide (meshOf (a .mesh)) (sizesOf (a .table)) (a .mesh .n) (a .table .rank) (a .start) (s .pre .n-is) (s .pre .fits .axes) (passed (j .judge-sharding .ensures) (t .enum-told .given .1)) (a .steps .now) (a .count))))
