@@ -43,11 +43,6 @@ unfolding outermostFrom
 outermost-plain [] = refl
 outermost-plain (t ∷ ts) = ap suc (outermost-plain ts)
 
-<<<<<<< HEAD
-few-given : (ts : List Step) → length (givenOf ts) ≡ length ts
-few-given [] = refl
-few-given (t ∷ ts) = ap suc (few-given ts)
-
 -- the three steps reduce unreduced axes alone
 plan-one : (mesh : List ℕ) (s g : Sharding) → factorOf mesh (planSteps s g) s ≡ 1
 unfolding planSteps toReduce
@@ -62,8 +57,6 @@ plan-one mesh s g =
         go true = ap₂ _*_ e (h (after t x))
         go false = h x
 
-=======
->>>>>>> c1a9601254d3129c22affb95847f0cdf27853aa3
 -- a sharding's bytes
 sharding-few : (mesh sizes : List ℕ) (e : ℕ) (s : Sharding) → length mesh ≤ mostAxes → length (s .dims) ≤ mostDims → Judges mesh sizes s → length (shardingBytes e s) ≤ 42
 unfolding shardingBytes replicatedBytes judgeCounts

@@ -25,6 +25,7 @@ use Rattle.rules.specs.PlanFile.{
   fresh,
   isTail,
   increasingFrom,
+  noneIn,
   allIn,
   twoDims,
   gatherOff,
@@ -152,8 +153,9 @@ module _ (mesh sizes : List ℕ) (k : ℕ) where
   kind-renumbered (allSlice Ss) s = tested (fresh (named s) (flat Ss)) 23 _ (sliceOn mesh sizes 0 Ss s) (slice-renumbered Ss s)
   kind-renumbered (allGather Gs) s = gather-renumbered Gs s
   kind-renumbered (allReduce L) s =
-      tested (increasingFrom 0 L) 26 _ (_>>_ (needAt 0 (allIn L (s .unreduced)) 27) (accept (reduced L s)))
-      (tested (allIn L (s .unreduced)) 27 (accept (reduced L s)) (accept (reduced L s)) refl)
+      let free : Bool = noneIn L (flat (s .dims) ++ s .replicated) in
+      tested (increasingFrom 0 L) 26 _ (_>>_ (needAt 0 free 27) (accept (reduced L s)))
+      (tested free 27 (accept (reduced L s)) (accept (reduced L s)) refl)
   kind-renumbered (allToAll source target L) s =
       let Gs : List (List ℕ) = only (length (s .dims)) source L in
       let Ss : List (List ℕ) = only (length (s .dims)) target L in
