@@ -11,8 +11,6 @@ use native.Mathlib.Nat.{
   zero-mul,
   mul-one,
   div-one,
-  zero-div,
-  zero-mod,
   mul-le-mul,
   mul-le-mul-right,
   le-refl,
@@ -37,6 +35,7 @@ use Rattle.strided.specs.Strided.{offset, mostPlaces, Counts}
 use Rattle.digits.specs.Digits.{mostRoom, meshStrides, dot, cleared, axisDigits, meshDigits, HasStrides}
 use Rattle.digits.proofs.Strides.{
   memberPart,
+  no-part,
   coords-length,
   strides-length,
   cleared-length,
@@ -114,10 +113,6 @@ none-part mesh (a ∷ L) strides q h =
       none-part mesh L strides (q % span mesh L) (λ b i. h b (inr i)),
       mul-zero (q / span mesh L),
     )
-
-no-part : (mesh L strides : List ℕ) → memberPart mesh L strides 0 ≡ 0
-no-part mesh [] strides = refl
-no-part mesh (a ∷ L) strides = rw (zero-div (span mesh L), zero-mod (span mesh L), zero-mul (getD (cleared L strides) a 0), no-part mesh L strides)
 
 -- ---- the places
 
