@@ -15,7 +15,7 @@ use Rattle.mesh.specs.Fitting.{Factors}
 use Rattle.mesh.proofs.Sizes.{fit-sizes}
 use Rattle.digits.specs.Digits.{mostRoom, meshStrides, cleared, meshDigits, Devices}
 use Rattle.digits.proofs.Strides.{pos-left, strides-length, cleared-length}
-use Rattle.moves.specs.Moves.{movedFirst, left, firstStrides, deviceStrides, stepDigits, Along, Reading, Adding, Dimensions, DimensionsAt, Setting}
+use Rattle.moves.specs.Moves.{movedFirst, left, firstStrides, deviceStrides, stepDigits, Moving, Along, Reading, Adding, Dimensions, DimensionsAt, Setting}
 use Rattle.moves.proofs.Leads.{Step, shard-length, counted-dims, left-length, device-length, copy-ok, copied-is}
 
 -- ---- strides are small
@@ -48,6 +48,15 @@ zeros-at : (n k : ℕ) → getD {A = ℕ} (replicate n 0) k 0 ≡ 0
 zeros-at zero k = refl
 zeros-at (suc n) zero = refl
 zeros-at (suc n) (suc k) = zeros-at n k
+
+pub step-of : {mesh shape : List ℕ} {Gs Ss : List (List ℕ)} → Moving mesh shape Gs Ss → Step mesh shape Gs Ss
+step-of v = record {
+  some = v .on .devices-pos;
+  new-pos = v .new-pos;
+  gathers = v .gathers;
+  slices = v .slices;
+  once = v .gathered-once;
+}
 
 -- ---- the set-up
 
@@ -134,13 +143,7 @@ module _ {digits strides added mesh shape L : List ℕ} {Gs Ss : List (List ℕ)
   -- ---- the copy
 
   step-is : Step mesh shape Gs Ss
-  step-is = record {
-    some = t .step .on .devices-pos;
-    new-pos = t .step .new-pos;
-    gathers = t .step .gathers;
-    slices = t .step .slices;
-    once = t .step .gathered-once;
-  }
+  step-is = step-of (t .step)
 
   some-digits : 0 < length (stepDigits mesh shape L Gs Ss)
   some-digits = go mesh (deviceStrides mesh shape L Gs Ss) _ (t .step .on .axes-some) (device-length mesh shape L Gs Ss step-is (t .along))
