@@ -1,6 +1,6 @@
 -- A whole step: what each part of its set-up asks (`dims-asked`, `adding-asked`, `mesh-asked`), that the digits are those of the step
 -- (`digits-are`), and that the copy is then one that the code can do, and leaves the step's words (`copy-asked`, `copy-leaves`). Assumes nothing.
-use Prim.Native.Nat.{ℕ, zero, suc, _+_, _*_, _-_, _≤_, _<_}
+use Prim.Native.Nat.{ℕ, zero, suc, _+_, _*_, _≤_, _<_}
 use mathlib.Core.Path.{_≡_, refl, sym, ap, _∙_}
 use mathlib.Core.List.{List, [], _∷_}
 use native.Mathlib.Nat.{mul-comm, mul-le-mul, mul-le-mul-right, le-mul-of-pos-right}

@@ -4,7 +4,7 @@
 -- of its axes larger. A step may also read, for each device, the first member of its group in place of the device: the strides of the group's axes
 -- are then cleared at the start. Assumes nothing.
 use Prim.Native.Nat.{ℕ, _+_, _*_, _/_, _≤_, _<_}
-use mathlib.Core.Path.{_≡_}
+use mathlib.Core.Path.{_≡_, refl}
 use mathlib.Core.List.{List, [], _∷_, _++_}
 use lib.ListN.{length, getD, set, take, drop, replicate}
 use Rattle.rules.specs.Lists.{flat, product, In, Distinct}
@@ -40,6 +40,13 @@ movedFirst z mesh L Gs Ss shape old = tabulate mesh (movedShape mesh shape Gs Ss
 
 abbrev pub firstBuffer : {W : Type 0} → W → (mesh shape L : List ℕ) → (Gs Ss : List (List ℕ)) → ℕ → (old new : List W) → List W
 firstBuffer z mesh shape L Gs Ss words old new = movedFirst z mesh L Gs Ss shape old ++ drop (devices mesh * words) new
+
+-- Four devices, groups along the first axis, the shards halved along it: the devices 0 and 2 have the halves of device 0's shard, 1 and 3 those of
+-- device 1's.
+first-case : firstBuffer {W = ℕ} 0 (2 ∷ 2 ∷ []) (2 ∷ []) (0 ∷ []) ([] ∷ []) ((0 ∷ []) ∷ []) 1 (10 ∷ 11 ∷ 20 ∷ 21 ∷ 30 ∷ 31 ∷ 40 ∷ 41 ∷ []) (1 ∷ 2 ∷ 3 ∷ 4 ∷ 5 ∷ [])
+    ≡ 10 ∷ 20 ∷ 11 ∷ 21 ∷ 5 ∷ []
+unfolding tabulate held
+first-case = refl
 
 -- ---- its digits
 

@@ -7,13 +7,13 @@ use mathlib.Core.Bool.{Bool}
 use mathlib.Core.List.{List, [], _∷_, _++_, map}
 use native.Mathlib.Omega.{arith}
 use borrow.Author.Tests.{lt-ltb}
-use lib.ListN.{length, set}
+use lib.ListN.{set}
 use lib.Dec.{ltb}
 use lib.Seq.{set-set}
-use Rattle.rules.specs.Lists.{pick, tab, Below, Distinct}
+use Rattle.rules.specs.Lists.{pick, Below, Distinct}
 use Rattle.rules.specs.Mesh.{span, position, member, members}
 use Rattle.rules.specs.Sharding.{shardSizes, firstIndexes}
-use Rattle.rules.specs.Spread.{StateOf, tabulate, held, from}
+use Rattle.rules.specs.Spread.{StateOf, tabulate, from}
 use Rattle.rules.specs.Collectives.{allReduce, owner, within, reducePlaces, sources, made, moved}
 use Rattle.laws.proofs.Lists.{tab-cong, below-length}
 use Rattle.laws.proofs.Positions.{member-set, position-member, below-member}

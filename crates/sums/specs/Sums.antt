@@ -4,14 +4,14 @@
 -- repeat that. The elements are of any type W: addAll is the sum of a group's elements, z is read outside the buffer, which no code does. Assumes
 -- nothing.
 use Prim.Native.Nat.{ℕ, _+_, _*_, _≤_, _<_}
-use mathlib.Core.Path.{_≡_}
+use mathlib.Core.Path.{_≡_, refl}
 use mathlib.Core.Logic.{_⊎_}
-use mathlib.Core.List.{List, [], _++_}
+use mathlib.Core.List.{List, [], _∷_, _++_}
 use lib.ListN.{length, getD, take, drop}
 use lib.Dec.{ltb}
 use Rattle.rules.specs.Lists.{tab, pick, product, In, Distinct}
 use Rattle.rules.specs.Mesh.{devices, span, position, OnMesh}
-use Rattle.rules.specs.Spread.{StateOf, tabulate, held}
+use Rattle.rules.specs.Spread.{StateOf, tabulate, held, addWords}
 use Rattle.rules.specs.Collectives.{made, reducePlaces}
 use Rattle.rules.specs.Limits.{mostAxes, mostDevices, mostWords}
 use Rattle.strided.specs.Strided.{offset}
@@ -41,6 +41,15 @@ summed addAll mesh L n w x i = pick (ltb (position mesh L x) n) (made addAll (re
 abbrev pub summedBuffer : {W : Type 0} → (List W → W) → W → (mesh shape L : List ℕ) → ℕ → List W → List W
 summedBuffer addAll z mesh shape L n old =
     tabulate mesh shape (summed addAll mesh L n (held z mesh shape old)) ++ drop (devices mesh * product shape) old
+
+-- Four devices, groups along the first axis: the devices 0 and 1 have the sums, or all have them; what stands behind stays.
+first-case : summedBuffer addWords 0 (2 ∷ 2 ∷ []) (1 ∷ []) (0 ∷ []) 1 (1 ∷ 2 ∷ 3 ∷ 5 ∷ 9 ∷ []) ≡ 4 ∷ 7 ∷ 3 ∷ 5 ∷ 9 ∷ []
+unfolding tabulate held made reducePlaces addWords
+first-case = refl
+
+all-case : summedBuffer addWords 0 (2 ∷ 2 ∷ []) (1 ∷ []) (0 ∷ []) 2 (1 ∷ 2 ∷ 3 ∷ 5 ∷ 9 ∷ []) ≡ 4 ∷ 7 ∷ 4 ∷ 7 ∷ 9 ∷ []
+unfolding tabulate held made reducePlaces addWords
+all-case = refl
 
 -- what is left where the shards of a group's first n members have the words g: every other word is as it was
 pub record Shared {W : Type 0} (z : W) (old : List W) (shifts : List ℕ) (at m n : ℕ) (g : ℕ → W) (new : List W) : Type 0 where

@@ -1,5 +1,4 @@
 use borrow.Author.Needs.{needs}
-use denote.Ref.{now}
 use Rattle.moves.proofs.Whole.{own-along}
 use Rattle.moves.proofs.move_into.Statement.{statement}
 use Rattle.moves.proofs.move_into.Tie as tie

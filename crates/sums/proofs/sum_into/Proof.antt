@@ -1,11 +1,7 @@
 use borrow.Author.Needs.{needs}
 use native.Mathlib.Omega.{arith}
-use Prim.Native.Nat.{_*_}
-use mathlib.Core.Path.{_∙_, refl, ap}
-use mathlib.Core.List.{_++_}
-use lib.ListN.{drop}
+use mathlib.Core.Path.{_∙_, refl}
 use denote.Ref.{now}
-use Rattle.rules.specs.Lists.{product}
 use Rattle.types.specs.Types.{axesOf}
 use Rattle.laws.proofs.Fronts.{lent-length}
 use Rattle.rules.specs.Spread.{addWords}
