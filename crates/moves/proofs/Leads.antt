@@ -11,14 +11,14 @@ use Rattle.rules.specs.Lists.{flat, product, In, Distinct, Below, none, more}
 use Rattle.rules.specs.Mesh.{number, coords, span, position, member}
 use Rattle.rules.specs.Sharding.{shardSizes, firstIndexes}
 use Rattle.rules.specs.Spread.{from, tabulate, held}
-use Rattle.rules.specs.Collectives.{grown, owner, within, moved}
+use Rattle.rules.specs.Collectives.{grown, owner, within}
 use Rattle.laws.proofs.Lists.{distinct-split, tab-cong}
-use Rattle.laws.proofs.Positions.{pos-of-lt, div-lt, position-lt, length-member}
+use Rattle.laws.proofs.Positions.{pos-of-lt, div-lt, position-lt, length-member, below-member}
 use Rattle.laws.proofs.Shapes.{Cut, cut, uncut, below-owner, owner-member}
 use Rattle.laws.proofs.Buffers.{number-lt, below-coords}
 use Rattle.strided.specs.Strided.{counted, offset, Nested, Copy, copied}
 use Rattle.digits.specs.Digits.{meshStrides, dot, push, cleared, axisDigits}
-use Rattle.mesh.proofs.Sizes.{mod-div, mod-mod-right}
+use Rattle.mesh.proofs.Sizes.{mod-div, mod-mod-right, group-pos}
 use Rattle.digits.proofs.Strides.{
   pos-left,
   div-mul,
@@ -28,6 +28,7 @@ use Rattle.digits.proofs.Strides.{
   dot-strides,
   dot-more,
   memberPart,
+  no-part,
   dot-member,
   counted-axes,
   offset-axes,
@@ -36,7 +37,7 @@ use Rattle.digits.proofs.Strides.{
   offset-mesh,
   nested-mesh,
 }
-use Rattle.moves.specs.Moves.{movedShape, left, dimDigits, withSlice, withSlices, deviceStrides, stepDigits}
+use Rattle.moves.specs.Moves.{movedShape, movedFirst, left, dimDigits, withSlice, withSlices, firstStrides, deviceStrides, stepDigits, Along}
 
 -- ---- lengths
 
@@ -195,6 +196,21 @@ index-below mesh (n ∷ ns) (G ∷ Gs) (S ∷ Ss) {x} some bx g s (more {x = t} 
     let inside : position mesh S x * w + t % w < n = omega (arith, u, mul-comm (span mesh S) w, div-mul-le-self n (span mesh S)) in
     more inside (index-below mesh ns Gs Ss some bx (omega arith) (omega arith) b (pos-of-lt (span mesh G * w) R p))
 
+-- ---- the first member of a group
+
+length-owner : (mesh : List ℕ) (Gs : List (List ℕ)) (ns i x : List ℕ) → length (owner mesh Gs ns i x) ≡ length x
+length-owner mesh Gs [] i x = refl
+length-owner mesh [] (n ∷ ns) i x = refl
+length-owner mesh (G ∷ Gs) (n ∷ ns) [] x = refl
+length-owner mesh (G ∷ Gs) (n ∷ ns) (j ∷ i) x = length-member mesh G (j / n) (owner mesh Gs ns i x) ∙ length-owner mesh Gs ns i x
+
+-- where the group's strides are cleared, a device's place is that of its group's first member
+dot-first : (mesh L : List ℕ) (m : ℕ) (x : List ℕ) → Distinct L → length x ≡ length mesh
+    → dot (cleared L (meshStrides mesh m)) x ≡ number mesh (member mesh L 0 x) * m
+dot-first mesh L m x d h =
+    let e = dot-member mesh L (meshStrides mesh m) 0 x d (h ∙ sym (strides-length mesh m)) in
+    omega (arith, e, no-part mesh L (meshStrides mesh m), dot-strides mesh (member mesh L 0 x) m)
+
 -- ---- a whole step
 
 pub record Step (mesh shape : List ℕ) (Gs Ss : List (List ℕ)) : Type 0 where
@@ -204,12 +220,12 @@ pub record Step (mesh shape : List ℕ) (Gs Ss : List (List ℕ)) : Type 0 where
   pub slices : length Ss ≡ length shape
   pub once : Distinct (flat Gs)
 
-module _ (mesh shape : List ℕ) (Gs Ss : List (List ℕ)) (v : Step mesh shape Gs Ss) where
+module _ (mesh shape L : List ℕ) (Gs Ss : List (List ℕ)) (v : Step mesh shape Gs Ss) (al : Along mesh L) where
   abbrev ws : List ℕ
   ws = shardSizes mesh shape Ss
 
   abbrev strides : List ℕ
-  strides = meshStrides mesh (product shape)
+  strides = firstStrides mesh shape L
 
   abbrev dims : List ℕ
   dims = dimDigits mesh shape ws Gs strides
@@ -226,63 +242,75 @@ module _ (mesh shape : List ℕ) (Gs Ss : List (List ℕ)) (v : Step mesh shape 
   added-length : length (withSlices mesh shape ws Ss (replicate (length mesh) 0)) ≡ length mesh
   added-length = slices-length mesh shape ws Ss (replicate (length mesh) 0) ∙ length-replicate (length mesh) 0
 
-  kept-length : length (left Gs strides) ≡ length mesh
-  kept-length = left-length Gs strides ∙ strides-length mesh (product shape)
+  read-length : length strides ≡ length mesh
+  read-length = cleared-length L (meshStrides mesh (product shape)) ∙ strides-length mesh (product shape)
 
-  pub device-length : length (deviceStrides mesh shape Gs Ss) ≡ length mesh
+  kept-length : length (left Gs strides) ≡ length mesh
+  kept-length = left-length Gs strides ∙ read-length
+
+  pub device-length : length (deviceStrides mesh shape L Gs Ss) ≡ length mesh
   device-length = from-length (left Gs strides) (withSlices mesh shape ws Ss (replicate (length mesh) 0)) (added-length ∙ sym kept-length) ∙ kept-length
 
-  pub step-counted : counted (stepDigits mesh shape Gs Ss) ≡ product mesh * R
-  step-counted = counted-mesh mesh (deviceStrides mesh shape Gs Ss) dims device-length ∙ (rw new-words)
+  pub step-counted : counted (stepDigits mesh shape L Gs Ss) ≡ product mesh * R
+  step-counted = counted-mesh mesh (deviceStrides mesh shape L Gs Ss) dims device-length ∙ (rw new-words)
 
-  step-nested : Nested (stepDigits mesh shape Gs Ss)
-  step-nested = nested-mesh mesh (deviceStrides mesh shape Gs Ss) dims (nested-dims mesh shape ws Gs strides)
+  step-nested : Nested (stepDigits mesh shape L Gs Ss)
+  step-nested = nested-mesh mesh (deviceStrides mesh shape L Gs Ss) dims (nested-dims mesh shape ws Gs strides)
 
   -- the source of word o of the new shard of device d
   abbrev source : ℕ → ℕ → ℕ
   source d o =
-      number mesh (owner mesh Gs ws (coords (grown mesh Gs ws) o) (coords mesh d)) * product shape
+      number mesh (member mesh L 0 (owner mesh Gs ws (coords (grown mesh Gs ws) o) (coords mesh d))) * product shape
       + number shape (from (firstIndexes mesh Ss ws (coords mesh d)) (within ws (coords (grown mesh Gs ws) o)))
 
-  leads : (t : ℕ) → t < product mesh * R → offset (stepDigits mesh shape Gs Ss) t ≡ source (t / R) (t % R)
+  leads : (t : ℕ) → t < product mesh * R → offset (stepDigits mesh shape L Gs Ss) t ≡ source (t / R) (t % R)
   leads t h =
       let m : ℕ = product shape in
       let bare : List ℕ = replicate (length mesh) 0 in
       let added : List ℕ = withSlices mesh shape ws Ss bare in
-      let D : List ℕ = deviceStrides mesh shape Gs Ss in
+      let D : List ℕ = deviceStrides mesh shape L Gs Ss in
       let x : List ℕ = coords mesh (t / R) in
       let i : List ℕ = coords (grown mesh Gs ws) (t % R) in
       let xl : length x ≡ length mesh = coords-length mesh (t / R) in
-      let om : offset (stepDigits mesh shape Gs Ss) t ≡ dot D (coords mesh (t / counted dims)) + offset dims (t % counted dims) =
+      let om : offset (stepDigits mesh shape L Gs Ss) t ≡ dot D (coords mesh (t / counted dims)) + offset dims (t % counted dims) =
       offset-mesh mesh D dims t device-length (v .some) (rw new-words (v .new-pos)) (rw new-words h) in
-      let om′ : offset (stepDigits mesh shape Gs Ss) t ≡ dot D x + offset dims (t % R) = om ∙ (rw new-words) in
+      let om′ : offset (stepDigits mesh shape L Gs Ss) t ≡ dot D x + offset dims (t % R) = om ∙ (rw new-words) in
       let dp : dot D x ≡ dot (left Gs strides) x + dot added x = dot-from (left Gs strides) added x (added-length ∙ sym kept-length) in
       let od : dot strides (owner mesh Gs ws i x) + number shape (within ws i) ≡ dot (left Gs strides) x + offset dims (t % R) =
-      offset-dims mesh shape ws Gs strides (t % R) x ws-length (v .gathers) (xl ∙ sym (strides-length mesh m)) (v .new-pos) (mod-lt t (v .new-pos))
+      offset-dims mesh shape ws Gs strides (t % R) x ws-length (v .gathers) (xl ∙ sym read-length) (v .new-pos) (mod-lt t (v .new-pos))
       (v .once) in
-      let ds : dot strides (owner mesh Gs ws i x) ≡ number mesh (owner mesh Gs ws i x) * m = dot-strides mesh (owner mesh Gs ws i x) m in
+      let y : List ℕ = owner mesh Gs ws i x in
+      let ds : dot strides y ≡ number mesh (member mesh L 0 y) * m = dot-first mesh L m y (al .once) (length-owner mesh Gs ws i x ∙ xl) in
       let st : number shape (from (firstIndexes mesh Ss ws x) (within ws i)) + dot bare x ≡ number shape (within ws i) + dot added x =
       dot-slices mesh shape ws Ss bare i x ws-length (v .slices)
       (coords-length (grown mesh Gs ws) (t % R) ∙ grown-length mesh ws Gs (v .gathers ∙ sym ws-length) ∙ ws-length)
       (xl ∙ sym (length-replicate (length mesh) 0)) in
-      add-up (offset (stepDigits mesh shape Gs Ss) t) (dot D x) (offset dims (t % R)) (dot (left Gs strides) x) (dot added x)
+      add-up (offset (stepDigits mesh shape L Gs Ss) t) (dot D x) (offset dims (t % R)) (dot (left Gs strides) x) (dot added x)
       (dot strides (owner mesh Gs ws i x))
-      (number shape (within ws i)) (number mesh (owner mesh Gs ws i x) * m) (number shape (from (firstIndexes mesh Ss ws x) (within ws i)))
+      (number shape (within ws i)) (number mesh (member mesh L 0 y) * m) (number shape (from (firstIndexes mesh Ss ws x) (within ws i)))
       (dot bare x) om′ dp od
       ds st (dot-zeros (length mesh) x)
     where
       add-up : (T D O L Y A N B I Z : ℕ) → T ≡ D + O → D ≡ L + Y → A + N ≡ L + O → A ≡ B → I + Z ≡ N + Y → Z ≡ 0 → T ≡ B + I
       add-up T D O L Y A N B I Z a b c d e f = omega arith
 
+  -- the device whose shard a word comes from, and the index in it
+  pub source-below : {x i : List ℕ} → Below x mesh → Below i (grown mesh Gs ws)
+      → Below (owner mesh Gs ws i x) mesh × Below (from (firstIndexes mesh Ss ws x) (within ws i)) shape
+  source-below bx bi = (
+    below-owner mesh (grown-cut mesh ws Gs (v .gathers ∙ sym ws-length)) bi bx,
+    index-below mesh shape Gs Ss (v .some) bx (v .gathers) (v .slices) bi (v .new-pos),
+  )
+
   source-in : (d o : ℕ) → d < product mesh → o < R → source d o < product mesh * product shape
   source-in d o hd ho =
       let bx : Below (coords mesh d) mesh = below-coords mesh d hd in
       let bi : Below (coords (grown mesh Gs ws) o) (grown mesh Gs ws) = below-coords (grown mesh Gs ws) o ho in
-      digits-lt (number-lt (below-owner mesh (grown-cut mesh ws Gs (v .gathers ∙ sym ws-length)) bi bx))
-      (number-lt (index-below mesh shape Gs Ss (v .some) bx (v .gathers) (v .slices) bi (v .new-pos)))
+      let b = source-below bx bi in
+      digits-lt (number-lt (below-member mesh L 0 (group-pos mesh L (v .some)) (b .0))) (number-lt (b .1))
 
-  pub copy-ok : (room : ℕ) → 0 < length (stepDigits mesh shape Gs Ss) → product mesh * product shape ≤ room
-      → Copy (stepDigits mesh shape Gs Ss) (product mesh * R) 0 room
+  pub copy-ok : (room : ℕ) → 0 < length (stepDigits mesh shape L Gs Ss) → product mesh * product shape ≤ room
+      → Copy (stepDigits mesh shape L Gs Ss) (product mesh * R) 0 room
   copy-ok room h k = record {
     some = h;
     counts = record {
@@ -293,9 +321,9 @@ module _ (mesh shape : List ℕ) (Gs Ss : List (List ℕ)) (v : Step mesh shape 
     };
   }
 
-  pub copied-is : {W : Type 0} (z : W) (old : List W) → copied z (stepDigits mesh shape Gs Ss) (product mesh * R) 0 old ≡ moved z mesh Gs Ss shape old
+  pub copied-is : {W : Type 0} (z : W) (old : List W) → copied z (stepDigits mesh shape L Gs Ss) (product mesh * R) 0 old ≡ movedFirst z mesh L Gs Ss shape old
   unfolding copied tabulate held
   copied-is z old =
       tab-cong (product mesh * R) _ _ (λ t q.
-      let e : 0 + offset (stepDigits mesh shape Gs Ss) t ≡ source (t / R) (t % R) = omega (arith, leads t q) in
+      let e : 0 + offset (stepDigits mesh shape L Gs Ss) t ≡ source (t / R) (t % R) = omega (arith, leads t q) in
       ap (λ (k : ℕ). getD old k z) e)

@@ -1,16 +1,17 @@
 -- A step that only moves words: along each dimension a device takes a piece of its shard, by one list of axes, and joins the pieces of its group,
 -- by another. All-slice, all-gather and all-to-all are such steps. The new buffer is row-major over digits: the mesh's axes, then for each dimension
 -- its gathered axes and the words of one piece. A gathered axis has its stride at its own digit and none at the mesh's; slicing makes the strides
--- of its axes larger. Assumes nothing.
+-- of its axes larger. A step may also read, for each device, the first member of its group in place of the device: the strides of the group's axes
+-- are then cleared at the start. Assumes nothing.
 use Prim.Native.Nat.{ℕ, _+_, _*_, _/_, _≤_, _<_}
-use mathlib.Core.Path.{_≡_}
+use mathlib.Core.Path.{_≡_, refl}
 use mathlib.Core.List.{List, [], _∷_, _++_}
 use lib.ListN.{length, getD, set, take, drop, replicate}
 use Rattle.rules.specs.Lists.{flat, product, In, Distinct}
-use Rattle.rules.specs.Mesh.{devices, span, OnMesh}
-use Rattle.rules.specs.Sharding.{shardSizes}
-use Rattle.rules.specs.Spread.{from}
-use Rattle.rules.specs.Collectives.{grown, moved}
+use Rattle.rules.specs.Mesh.{devices, span, member, OnMesh}
+use Rattle.rules.specs.Sharding.{shardSizes, firstIndexes}
+use Rattle.rules.specs.Spread.{from, tabulate, held}
+use Rattle.rules.specs.Collectives.{grown, owner, within, moved}
 use Rattle.rules.specs.Limits.{mostAxes, mostDims, mostWords}
 use Rattle.types.specs.Types.{dimsOf}
 use Rattle.types.specs.declared.DimLists.{DimLists}
@@ -30,6 +31,22 @@ lists shape l = take (length shape) (dimsOf l)
 -- old buffer, which no code does
 abbrev pub movedBuffer : {W : Type 0} → W → (mesh shape : List ℕ) → (Gs Ss : List (List ℕ)) → ℕ → (old new : List W) → List W
 movedBuffer z mesh shape Gs Ss words old new = moved z mesh Gs Ss shape old ++ drop (devices mesh * words) new
+
+-- the same where each device's shard is read from the first member of its group along L; with no axes that is the device itself, and this is `moved`
+abbrev pub movedFirst : {W : Type 0} → W → (mesh L : List ℕ) → (Gs Ss : List (List ℕ)) → (shape : List ℕ) → List W → List W
+movedFirst z mesh L Gs Ss shape old = tabulate mesh (movedShape mesh shape Gs Ss)
+    (λ x i. held z mesh shape old (member mesh L 0 (owner mesh Gs (shardSizes mesh shape Ss) i x))
+    (from (firstIndexes mesh Ss (shardSizes mesh shape Ss) x) (within (shardSizes mesh shape Ss) i)))
+
+abbrev pub firstBuffer : {W : Type 0} → W → (mesh shape L : List ℕ) → (Gs Ss : List (List ℕ)) → ℕ → (old new : List W) → List W
+firstBuffer z mesh shape L Gs Ss words old new = movedFirst z mesh L Gs Ss shape old ++ drop (devices mesh * words) new
+
+-- Four devices, groups along the first axis, the shards halved along it: the devices 0 and 2 have the halves of device 0's shard, 1 and 3 those of
+-- device 1's.
+first-case : firstBuffer {W = ℕ} 0 (2 ∷ 2 ∷ []) (2 ∷ []) (0 ∷ []) ([] ∷ []) ((0 ∷ []) ∷ []) 1 (10 ∷ 11 ∷ 20 ∷ 21 ∷ 30 ∷ 31 ∷ 40 ∷ 41 ∷ []) (1 ∷ 2 ∷ 3 ∷ 4 ∷ 5 ∷ [])
+    ≡ 10 ∷ 20 ∷ 11 ∷ 21 ∷ 5 ∷ []
+unfolding tabulate held
+first-case = refl
 
 -- ---- its digits
 
@@ -56,14 +73,17 @@ withSlices mesh (n ∷ ns) [] Ss added = added
 withSlices mesh (n ∷ ns) (w ∷ ws) [] added = added
 withSlices mesh (n ∷ ns) (w ∷ ws) (S ∷ Ss) added = withSlice mesh S (w * product ns) (withSlices mesh ns ws Ss added)
 
--- the strides of the devices, and all digits
-abbrev pub deviceStrides : (mesh shape : List ℕ) → (Gs Ss : List (List ℕ)) → List ℕ
-deviceStrides mesh shape Gs Ss =
-    from (left Gs (meshStrides mesh (product shape))) (withSlices mesh shape (shardSizes mesh shape Ss) Ss (replicate (length mesh) 0))
+-- the strides of the shards that are read, those of the devices, and all digits
+abbrev pub firstStrides : (mesh shape L : List ℕ) → List ℕ
+firstStrides mesh shape L = cleared L (meshStrides mesh (product shape))
 
-abbrev pub stepDigits : (mesh shape : List ℕ) → (Gs Ss : List (List ℕ)) → List ℕ
-stepDigits mesh shape Gs Ss =
-    meshDigits mesh (deviceStrides mesh shape Gs Ss) (dimDigits mesh shape (shardSizes mesh shape Ss) Gs (meshStrides mesh (product shape)))
+abbrev pub deviceStrides : (mesh shape L : List ℕ) → (Gs Ss : List (List ℕ)) → List ℕ
+deviceStrides mesh shape L Gs Ss =
+    from (left Gs (firstStrides mesh shape L)) (withSlices mesh shape (shardSizes mesh shape Ss) Ss (replicate (length mesh) 0))
+
+abbrev pub stepDigits : (mesh shape L : List ℕ) → (Gs Ss : List (List ℕ)) → List ℕ
+stepDigits mesh shape L Gs Ss =
+    meshDigits mesh (deviceStrides mesh shape L Gs Ss) (dimDigits mesh shape (shardSizes mesh shape Ss) Gs (firstStrides mesh shape L))
 
 -- the most numbers of a step's digits: those of the mesh's axes, of the dimensions and of the gathered axes
 abbrev pub digitRoom : ℕ
@@ -89,6 +109,17 @@ pub record Moving (mesh shape : List ℕ) (Gs Ss : List (List ℕ)) : Type 0 whe
   pub sliced : (a : ℕ) → In a (flat Ss) → a < length mesh
   pub gathered-once : Distinct (flat Gs)
   pub sliced-once : Distinct (flat Ss)
+
+-- the axes of a group on a mesh: each is an axis of the mesh, and none is there twice
+pub record Along (mesh L : List ℕ) : Type 0 where
+  pub of-mesh : (a : ℕ) → In a L → a < length mesh
+  pub once : Distinct L
+
+-- the strides of the shards that are read: a mesh, places for them, the axes that are cleared, and shards of m words
+pub record Reading (strides mesh L : List ℕ) (m : ℕ) : Type 0 where
+  pub has : HasStrides strides mesh
+  pub few : product mesh * m ≤ mostRoom
+  pub of-mesh : (a : ℕ) → In a L → a < length mesh
 
 -- a list of sliced axes, pieces that are v words apart, and strides with room for what is added
 pub record Slicing (added mesh S : List ℕ) (v : ℕ) : Type 0 where
@@ -134,8 +165,9 @@ pub record DimensionsAt (mesh shape : List ℕ) (Gs Ss : List (List ℕ)) (strid
   pub added-few : (k : ℕ) → getD added k 0 ≤ mostWords * length (flat (drop j Ss))
 
 -- a step, with places for its digits and strides
-pub record Setting (digits strides added mesh shape : List ℕ) (Gs Ss : List (List ℕ)) (words : ℕ) : Type 0 where
+pub record Setting (digits strides added mesh shape L : List ℕ) (Gs Ss : List (List ℕ)) (words : ℕ) : Type 0 where
   pub step : Moving mesh shape Gs Ss
+  pub along : Along mesh L
   pub room : length digits ≡ digitRoom
   pub strides-places : length strides ≡ length mesh
   pub none : added ≡ replicate (length mesh) 0

@@ -1,5 +1,5 @@
-// The steps that only move words, as one copy with strides: all-slice, all-gather and all-to-all. The digits are set up once a step; nothing is
-// divided after that. specs/Moves.antt says what the digits are.
+// The steps that only move words, as one copy with strides: all-slice, all-gather and all-to-all, and the slices of a reduce-scatter, which are cut
+// from the sums of the groups. The digits are set up once a step; nothing is divided after that. specs/Moves.antt says what the digits are.
 use digits::axis_digits;
 use digits::fill_strides;
 use digits::mesh_digits;
@@ -17,12 +17,26 @@ ghost use Rattle.rules.specs.Lists.{product};
 ghost use Rattle.rules.specs.Mesh.{devices, span};
 ghost use Rattle.rules.specs.Spread.{from};
 ghost use Rattle.types.specs.Types.{axesOf};
-ghost use Rattle.digits.specs.Digits.{cleared, axisDigits};
-ghost use Rattle.moves.specs.Moves.{movedShape, lists, movedBuffer, withSlice, stepDigits};
-ghost use Rattle.moves.specs.Moves.{Moving, Slicing, Adding, Dimension, Dimensions, DimensionsAt, Setting};
+ghost use Rattle.digits.specs.Digits.{meshStrides, cleared, axisDigits};
+ghost use Rattle.moves.specs.Moves.{movedShape, lists, movedBuffer, firstBuffer, withSlice, stepDigits};
+ghost use Rattle.moves.specs.Moves.{Moving, Along, Reading, Slicing, Adding, Dimension, Dimensions, DimensionsAt, Setting};
 
 // The most numbers of a step's digits.
 const ROOM: usize = 3 * (types::Axis::MOST + types::Dim::MOST + types::Axis::MOST);
+
+// The strides of the shards that are read, of m words: those of the devices, with those of a list of axes cleared.
+fn read_strides(strides: &mut [usize], mesh: &[u16], axes: types::AxisList, m: usize)
+    requires { ⌜ Reading (now strides) (now mesh) (axesOf axes) m ⌝ }
+    ensures { λ _. ⌜ now (strides .exit) ≡ cleared (axesOf axes) (meshStrides (now (mesh .entry)) m) ⌝ }
+{
+    fill_strides(strides, mesh, m);
+    let mut i = axes.len();
+    while 0 < i {
+        i -= 1;
+        let a = axes.at(i).0 as usize;
+        strides[a] = 0;
+    }
+}
 
 // Adds the strides of a list of sliced axes, where the pieces are v words apart.
 fn add_slice(added: &mut [usize], mesh: &[u16], axes: types::AxisList, v: usize)
@@ -135,16 +149,18 @@ fn make_digits(
     added: &mut [usize],
     mesh: &[u16],
     shape: &[u16],
+    along: types::AxisList,
     gathers: types::DimLists,
     slices: types::DimLists,
     words: usize,
 ) -> usize
-    requires { ⌜ Setting (now digits) (now strides) (now added) (now mesh) (now shape) (lists (now shape) gathers) (lists (now shape) slices) words ⌝ }
-    ensures { λ r. ⌜ drop r (now (digits .exit)) ≡ stepDigits (now (mesh .entry)) (now (shape .entry)) (lists (now (shape .entry)) gathers)
-        (lists (now (shape .entry)) slices) ⌝ }
+    requires { ⌜ Setting (now digits) (now strides) (now added) (now mesh) (now shape) (axesOf along) (lists (now shape) gathers)
+        (lists (now shape) slices) words ⌝ }
+    ensures { λ r. ⌜ drop r (now (digits .exit)) ≡ stepDigits (now (mesh .entry)) (now (shape .entry)) (axesOf along)
+        (lists (now (shape .entry)) gathers) (lists (now (shape .entry)) slices) ⌝ }
 {
     let m = product_from(shape, 0);
-    fill_strides(strides, mesh, m);
+    read_strides(strides, mesh, along, m);
     let end = shape_digits(digits, strides, added, mesh, shape, gathers, slices);
     add_strides(strides, added);
     mesh_digits(digits, strides, mesh, end, words);
@@ -160,21 +176,71 @@ fn move_with(
     added: &mut [usize],
     mesh: &[u16],
     shape: &[u16],
+    along: types::AxisList,
     gathers: types::DimLists,
     slices: types::DimLists,
     words: usize,
 )
-    requires { ⌜ Setting (now digits) (now strides) (now added) (now mesh) (now shape) (lists (now shape) gathers) (lists (now shape) slices) words ⌝ }
+    requires { ⌜ Setting (now digits) (now strides) (now added) (now mesh) (now shape) (axesOf along) (lists (now shape) gathers)
+        (lists (now shape) slices) words ⌝ }
     requires { ⌜ (product (now mesh) * product (now shape) ≤ length (now old)) × (product (now mesh) * words ≤ length (now new)) ⌝ }
-    ensures { λ _. ⌜ now (new .exit) ≡ movedBuffer 0 (now (mesh .entry)) (now (shape .entry)) (lists (now (shape .entry)) gathers)
+    ensures { λ _. ⌜ now (new .exit) ≡ firstBuffer 0 (now (mesh .entry)) (now (shape .entry)) (axesOf along) (lists (now (shape .entry)) gathers)
         (lists (now (shape .entry)) slices) words (now (old .entry)) (now (new .entry)) ⌝ }
 {
-    let first = make_digits(digits, strides, added, mesh, shape, gathers, slices, words);
+    let first = make_digits(
+        digits,
+        strides,
+        added,
+        mesh,
+        shape,
+        along,
+        gathers,
+        slices,
+        words,
+    );
     let all = product_from(mesh, 0) * words;
     copy_digits(&mut new[0..all], old, &digits[first..]);
 }
 
-// All-slice, all-gather, all-to-all: the new state, of shards of the given words, at the front of new, whose other words stay.
+// A move of words in which each device reads the first member of its group along a list of axes in place of itself: the new state, of shards of the
+// given words, at the front of new, whose other words stay.
+pub fn move_first(
+    old: &[u32],
+    new: &mut [u32],
+    mesh: &[u16],
+    shape: &[u16],
+    along: types::AxisList,
+    gathers: types::DimLists,
+    slices: types::DimLists,
+    words: usize,
+)
+    requires { ⌜ Moving (now mesh) (now shape) (lists (now shape) gathers) (lists (now shape) slices) ⌝ }
+    requires { ⌜ Along (now mesh) (axesOf along) ⌝ }
+    requires { ⌜ words ≡ product (movedShape (now mesh) (now shape) (lists (now shape) gathers) (lists (now shape) slices)) ⌝ }
+    requires { ⌜ (devices (now mesh) * product (now shape) ≤ length (now old)) × (devices (now mesh) * words ≤ length (now new)) ⌝ }
+    ensures { λ _. ⌜ now (new .exit) ≡ firstBuffer 0 (now (mesh .entry)) (now (shape .entry)) (axesOf along) (lists (now (shape .entry)) gathers)
+        (lists (now (shape .entry)) slices) words (now (old .entry)) (now (new .entry)) ⌝ }
+{
+    let n = mesh.len();
+    let mut digits = [0usize; ROOM];
+    let mut strides = [0usize; types::Axis::MOST];
+    let mut added = [0usize; types::Axis::MOST];
+    move_with(
+        old,
+        new,
+        &mut digits,
+        &mut strides[0..n],
+        &mut added[0..n],
+        mesh,
+        shape,
+        along,
+        gathers,
+        slices,
+        words,
+    );
+}
+
+// All-slice, all-gather, all-to-all: the same, where each device reads its own shard.
 pub fn move_into(
     old: &[u32],
     new: &mut [u32],
@@ -190,20 +256,6 @@ pub fn move_into(
     ensures { λ _. ⌜ now (new .exit) ≡ movedBuffer 0 (now (mesh .entry)) (now (shape .entry)) (lists (now (shape .entry)) gathers)
         (lists (now (shape .entry)) slices) words (now (old .entry)) (now (new .entry)) ⌝ }
 {
-    let n = mesh.len();
-    let mut digits = [0usize; ROOM];
-    let mut strides = [0usize; types::Axis::MOST];
-    let mut added = [0usize; types::Axis::MOST];
-    move_with(
-        old,
-        new,
-        &mut digits,
-        &mut strides[0..n],
-        &mut added[0..n],
-        mesh,
-        shape,
-        gathers,
-        slices,
-        words,
-    );
+    let own = types::AxisList::empty();
+    move_first(old, new, mesh, shape, own, gathers, slices, words);
 }

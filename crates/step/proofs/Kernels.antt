@@ -41,9 +41,10 @@ use Rattle.laws.proofs.Steps.{only-at, AcceptedStep, facts, sharding-cut, shape
 use Rattle.laws.proofs.Next.{step-ready}
 use Rattle.laws.proofs.Moves as bridge
 use Rattle.mesh.proofs.Sizes.{size-pos}
-use Rattle.moves.specs.Moves.{Moving, movedShape, movedBuffer, lists}
-use Rattle.sums.specs.Sums.{Reducing, reducedBuffer}
+use Rattle.moves.specs.Moves.{Moving, Along, movedShape, movedBuffer, firstBuffer, lists}
+use Rattle.sums.specs.Sums.{Reducing, reducedBuffer, summedBuffer}
 use Rattle.step.specs.Stepping.{Stepping, steppedBuffer, spentBuffer, inPlace}
+use Rattle.step.proofs.Firsts.{first-sums}
 
 -- the sum of one word is that word
 pub one-word : (a : ℕ) → addWords (a ∷ []) ≡ a
@@ -133,7 +134,7 @@ module _ {mesh shape : List ℕ} {t : Step} {words : ℕ} (h : Accepts mesh shap
         let e = subst r (h .shape-is) (bridge.step-moved mesh (h .sizes) mesh-pos addAll one z t (h .before) olds m (h .sharding) (h .fine)) in
         rw (p, q) (ap (λ (l : List W). l ++ drop (devices mesh * words) news) e)
 
--- ---- a reduce-scatter: the reduction, and the slice of what it leaves
+-- ---- a reduce-scatter: what it makes is a reduction, and the slice of that
 
 module _ {mesh shape : List ℕ} {Ss : List (List ℕ)} {words : ℕ} (h : Accepts mesh shape (reduceScatter Ss) words) where
   -- its slice is an accepted one
@@ -177,41 +178,52 @@ module _ {mesh shape : List ℕ} {words old new : ℕ} (on : DimLists) (h : Step
   pub axes-asked : (length shape ≤ mostDims) × (length mesh ≤ mostAxes)
   axes-asked = (few-dims (accepts h), h .on .axes-few)
 
-  pub sums-asked : {L : List ℕ} → L ≡ ascending (length mesh) (flat (lists shape on)) → Reducing mesh shape L old
-  sums-asked l = rw l (
-      let a = accepts h in
-      record {
-        on = h .on;
-        words-pos = h .shard-pos;
-        words-few = h .shard-few;
-        of-mesh = λ a′ i. a .fine .axes a′ (of-ascending (length mesh) (flat (lists shape on)) a′ i);
-        once = distinct-ascending (length mesh) (flat (lists shape on));
-        room = h .old-room;
-      })
+  -- the step's axes, in increasing order
+  module _ {L : List ℕ} (l : L ≡ ascending (length mesh) (flat (lists shape on))) where
+    along : Along mesh L
+    along = rw l (record {
+      of-mesh = λ a i. accepts h .fine .axes a (of-ascending (length mesh) (flat (lists shape on)) a i);
+      once = distinct-ascending (length mesh) (flat (lists shape on));
+    })
 
-  pub slice-asked : (none : DimLists) → dimsOf none ≡ replicate mostDims [] → Moving mesh shape (lists shape none) (lists shape on)
-      × ((words ≡ product (movedShape mesh shape (lists shape none) (lists shape on)))
-      × ((devices mesh * product shape ≤ old) × (devices mesh * words ≤ new)))
-  slice-asked none e =
-      let a : Accepts mesh shape (allSlice (lists shape on)) words = slice-of (accepts h) in
-      let p = no-lists a none e in
-      (move-asks a tt none on p refl, (move-words a tt none on p refl, (h .old-room, h .new-room)))
+    pub sums-asked : Reducing mesh shape L old
+    sums-asked = record {
+      on = h .on;
+      words-pos = h .shard-pos;
+      words-few = h .shard-few;
+      of-mesh = along .of-mesh;
+      once = along .once;
+      room = h .old-room;
+    }
 
-  pub scatter-leaves : {W : Type 0} (addAll : List W → W) (one : (a : W) → addAll (a ∷ []) ≡ a) (z : W) (olds news : List W) {here there : List W}
-      {L : List ℕ} → L ≡ ascending (length mesh) (flat (lists shape on)) → (none : DimLists) → dimsOf none ≡ replicate mostDims []
-      → here ≡ reducedBuffer addAll z mesh shape L olds
-      → there ≡ movedBuffer z mesh shape (lists shape none) (lists shape on) words here news
-      → (here ≡ spentBuffer addAll z mesh shape (reduceScatter (lists shape on)) olds)
-      × (there ≡ steppedBuffer addAll z mesh shape (reduceScatter (lists shape on)) words olds news)
-  unfolding sources
-  scatter-leaves {W} addAll one z olds news {here} l none e p q =
-      let a : Accepts mesh shape (allSlice (lists shape on)) words = slice-of (accepts h) in
-      let s : here ≡ reducedBuffer addAll z mesh shape (ascending (length mesh) (flat (lists shape on))) olds = p ∙ ap (λ (m : List ℕ). reducedBuffer addAll z mesh shape m olds) l in (
-        s,
-        q ∙ move-leaves a tt none on (no-lists a none e) refl addAll one z here news
-            ∙ ap (λ (b : List W). steppedBuffer addAll z mesh shape (allSlice (lists shape on)) words b news) s
-            ∙ then-sliced (accepts h) addAll one z olds (drop (devices mesh * product shape) olds) news,
-      )
+    module _ (none : DimLists) (e : dimsOf none ≡ replicate mostDims []) where
+      -- the slice of each group's sum
+      slicing : Accepts mesh shape (allSlice (lists shape on)) words
+      slicing = slice-of (accepts h)
+
+      moving : Moving mesh shape (lists shape none) (lists shape on)
+      moving = move-asks slicing tt none on (no-lists slicing none e) refl
+
+      pub slice-asked : Moving mesh shape (lists shape none) (lists shape on)
+          × (Along mesh L × ((words ≡ product (movedShape mesh shape (lists shape none) (lists shape on)))
+          × ((devices mesh * product shape ≤ old) × (devices mesh * words ≤ new))))
+      slice-asked = (moving, (along, (move-words slicing tt none on (no-lists slicing none e) refl, (h .old-room, h .new-room))))
+
+      pub scatter-leaves : {W : Type 0} (addAll : List W → W) (one : (a : W) → addAll (a ∷ []) ≡ a) (z : W) (olds news : List W) {here there : List W}
+          → here ≡ summedBuffer addAll z mesh shape L 1 olds
+          → there ≡ firstBuffer z mesh shape L (lists shape none) (lists shape on) words here news
+          → (here ≡ spentBuffer addAll z mesh shape (reduceScatter (lists shape on)) olds)
+          × (there ≡ steppedBuffer addAll z mesh shape (reduceScatter (lists shape on)) words olds news)
+      scatter-leaves {W} addAll one z olds news p q =
+          let Ss : List (List ℕ) = lists shape on in
+          let rest : List W = drop (devices mesh * product shape) olds in (
+            p ∙ ap (λ (m : List ℕ). summedBuffer addAll z mesh shape m 1 olds) l,
+            q ∙ ap (λ (b : List W). firstBuffer z mesh shape L (lists shape none) Ss words b news) p
+                ∙ ap (λ (b : List W). b ++ drop (devices mesh * words) news) (first-sums addAll mesh L moving along z (held z mesh shape olds) rest)
+                ∙ move-leaves slicing tt none on (no-lists slicing none e) refl addAll one z (reducedBuffer addAll z mesh shape L olds) news
+                ∙ ap (λ (m : List ℕ). steppedBuffer addAll z mesh shape (allSlice Ss) words (reducedBuffer addAll z mesh shape m olds) news) l
+                ∙ then-sliced (accepts h) addAll one z olds rest news,
+          )
 
 -- a step that only moves words reads the old buffer
 moving-spends : {W : Type 0} (addAll : List W → W) (z : W) (mesh shape : List ℕ) (t : Step) → bridge.Moving t → (olds : List W)

@@ -3,13 +3,15 @@
 use Prim.Native.Nat.{ℕ, _*_, _≤_}
 use mathlib.Core.Path.{_≡_, refl, sym, ap, ap₂, _∙_, subst}
 use mathlib.Core.List.{List, _++_}
-use lib.ListN.{length, drop}
+use lib.ListN.{length, drop, take-append-drop}
 use Rattle.rules.specs.Lists.{flat, product, ascending}
 use Rattle.rules.specs.Mesh.{devices}
 use Rattle.rules.specs.Sharding.{Sharding, shardSizes, IsSharding}
+use Rattle.rules.specs.Spread.{tabulate, held}
 use Rattle.rules.specs.Collectives.{Step, allSlice, allGather, allReduce, allToAll, reduceScatter, after, shapeAfter, Shards, stepped, Stands, withShards}
 use Rattle.rules.specs.Refusals.{accept}
 use Rattle.rules.specs.PlanFile.{judgeStep}
+use Rattle.laws.proofs.Buffers.{held-tabulate}
 use Rattle.laws.proofs.Sources.{Ready}
 use Rattle.laws.proofs.Steps.{facts, after-shape}
 use Rattle.laws.proofs.Accepted.{Within}
@@ -17,6 +19,8 @@ use Rattle.laws.proofs.Room.{ShardWords, shard-words}
 use Rattle.laws.proofs.Next.{step-ready}
 use Rattle.laws.proofs.Stands.{step-stands}
 use Rattle.step.specs.Stepping.{Stepping, steppedBuffer, spentBuffer, spentShards}
+use Rattle.sums.specs.Sums.{summed, summedBuffer}
+use Rattle.step.proofs.Firsts.{summed-cong}
 use Rattle.step.proofs.Kernels.{sizes-pos}
 
 pub stepping : {mesh sizes : List ℕ} (k : ℕ) {t : Step} {s : Sharding} {old new : ℕ} → Within mesh sizes → IsSharding mesh sizes s
@@ -62,6 +66,11 @@ spends-shards addAll z mesh (allGather Gs) v q olds st = refl
 spends-shards addAll z mesh (allReduce L) v q olds st = refl
 spends-shards addAll z mesh (allToAll source target L) v q olds st = refl
 spends-shards {W} addAll z mesh (reduceScatter Ss) v q olds st =
-    let t : Step = allReduce (ascending (length mesh) (flat Ss)) in
-    ap (λ (l : List ℕ). steppedBuffer addAll z mesh l t (product l) olds olds) (sym q)
-    ∙ ap (λ (b : List W). b ++ drop (devices mesh * product (v .shape)) olds) (step-stands mesh addAll z t v olds tt st)
+    let L : List ℕ = ascending (length mesh) (flat Ss) in
+    let n : ℕ = devices mesh * product (v .shape) in
+    let stood : olds ≡ withShards mesh v olds = sym (take-append-drop n olds) ∙ ap (λ (l : List W). l ++ drop n olds) st in
+    ap (λ (l : List ℕ). summedBuffer addAll z mesh l L 1 olds) (sym q)
+    ∙ ap (λ (b : List W). b ++ drop n olds)
+    (ap (λ (b : List W). tabulate mesh (v .shape) (summed addAll mesh L 1 (held z mesh (v .shape) b))) stood
+    ∙ summed-cong addAll mesh L 1 (v .shape) (held z mesh (v .shape) (withShards mesh v olds)) (v .words)
+    (λ x i bx bi. held-tabulate mesh (v .shape) z (v .words) (drop n olds) bx bi))

@@ -9,7 +9,8 @@ use Rattle.rules.specs.Lists.{flat, product, ascending}
 use Rattle.rules.specs.Mesh.{devices, OnMesh}
 use Rattle.rules.specs.Sharding.{Sharding, shardSizes, IsSharding}
 use Rattle.rules.specs.Spread.{tabulate, held}
-use Rattle.rules.specs.Collectives.{Step, allSlice, allGather, allReduce, allToAll, reduceScatter, shapeAfter, sources, made, Shards, stepped, withShards}
+use Rattle.rules.specs.Collectives.{Step, allSlice, allGather, allReduce, allToAll, reduceScatter, shapeAfter, sources, made, Shards, withShards}
+use Rattle.sums.specs.Sums.{summed, summedBuffer}
 use Rattle.rules.specs.Limits.{mostDims, mostWords}
 use Rattle.rules.specs.Refusals.{accept}
 use Rattle.rules.specs.PlanFile.{judgeStep}
@@ -50,14 +51,14 @@ inPlace AllToAll = false
 inPlace ReduceScatter = false
 inPlace Unknown = true
 
--- What stands in the buffer of the old state where the new one stands in the other: a reduce-scatter has summed there, every other step has only read.
+-- What stands in the buffer of the old state where the new one stands in the other: a reduce-scatter has put each group's sum in place of its first
+-- member's shard, every other step has only read.
 abbrev pub spentBuffer : {W : Type 0} → (List W → W) → W → (mesh shape : List ℕ) → Step → List W → List W
 spentBuffer addAll z mesh shape (allSlice Ss) old = old
 spentBuffer addAll z mesh shape (allGather Gs) old = old
 spentBuffer addAll z mesh shape (allReduce L) old = old
 spentBuffer addAll z mesh shape (allToAll source target L) old = old
-spentBuffer addAll z mesh shape (reduceScatter Ss) old =
-    steppedBuffer addAll z mesh shape (allReduce (ascending (length mesh) (flat Ss))) (product shape) old old
+spentBuffer addAll z mesh shape (reduceScatter Ss) old = summedBuffer addAll z mesh shape (ascending (length mesh) (flat Ss)) 1 old
 
 -- the same of any shards that stood in it
 abbrev pub spentShards : {W : Type 0} → (List W → W) → (mesh : List ℕ) → Step → Shards W → List W → List W
@@ -65,4 +66,5 @@ spentShards addAll mesh (allSlice Ss) v old = old
 spentShards addAll mesh (allGather Gs) v old = old
 spentShards addAll mesh (allReduce L) v old = old
 spentShards addAll mesh (allToAll source target L) v old = old
-spentShards addAll mesh (reduceScatter Ss) v old = withShards mesh (stepped addAll mesh (allReduce (ascending (length mesh) (flat Ss))) v) old
+spentShards addAll mesh (reduceScatter Ss) v old =
+    withShards mesh (record { shape = v .shape; words = summed addAll mesh (ascending (length mesh) (flat Ss)) 1 (v .words) }) old

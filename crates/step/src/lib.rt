@@ -1,6 +1,6 @@
 // One step of a plan: from the words of the old state to those of the new one, by the step's kind. A reduction keeps the shape of the shards and is
-// done in place; a step that moves words goes over to another buffer; a reduce-scatter is the one and then the other. specs/Stepping.antt says what a
-// step asks for and leaves.
+// done in place; a step that moves words goes over to another buffer; a reduce-scatter sums in place, once a group, and slices each sum over to the
+// other buffer. specs/Stepping.antt says what a step asks for and leaves.
 ghost use mathlib.Core.Path.{_≡_};
 ghost use lib.ListN.{length, take};
 ghost use Rattle.rules.specs.Lists.{pick};
@@ -10,8 +10,10 @@ ghost use Rattle.types.specs.Types.{axesOf, dimsOf, stepOf};
 ghost use Rattle.sums.specs.Sums.{Reducing, reducedBuffer};
 ghost use Rattle.step.specs.Stepping.{Stepping, steppedBuffer, spentBuffer, inPlace};
 use dims::ascending;
+use moves::move_first;
 use moves::move_into;
 use sums::reduce_in;
+use sums::sum_first;
 use types::AxisList;
 use types::DimLists;
 use types::Kind;
@@ -40,7 +42,8 @@ fn reduce_here(here: &mut [u32], there: &mut [u32], mesh: &[u16], shape: &[u16],
     reduce_in(here, mesh, shape, axes);
 }
 
-// Reduce-scatter: summed in the buffer of the old state, by increasing axes, and sliced from there. The state between needs no room of its own.
+// Reduce-scatter: each group is summed into its first member's shard, by increasing axes, and each device's piece is cut from there. No other device
+// needs the whole sum, and no state between needs room of its own.
 fn scatter(
     here: &mut [u32],
     there: &mut [u32],
@@ -57,12 +60,12 @@ fn scatter(
 {
     let none = DimLists::empty();
     let along = ascending(lists, shape.len(), mesh.len());
-    reduce_in(here, mesh, shape, along);
-    move_into(here, there, mesh, shape, none, lists, words);
+    sum_first(here, mesh, shape, along);
+    move_first(here, there, mesh, shape, along, none, lists, words);
 }
 
 // From the state at the front of here, the new one, of shards of the given words: at the front of here where the step is done in place, else at the
-// front of there. The other words of that buffer stay. So does the other buffer, but that a reduce-scatter leaves its sums in here.
+// front of there. The other words of that buffer stay. So does the other buffer, but that a reduce-scatter leaves each group's sum at its first member.
 pub fn step_from(
     here: &mut [u32],
     there: &mut [u32],

@@ -1,9 +1,10 @@
 -- The tables of a reduction. A device's first place and a member's shift make up the place of that member's shard (`place-is`); so the groups are
--- as the code asks (`groups-are`), and what it leaves is the reduction of the rules (`reduced-is`). Assumes nothing.
-use Prim.Native.Nat.{ℕ, zero, suc, _+_, _*_, _/_, _%_, _≤_, _<_}
+-- as the code asks (`groups-asked`), and what it leaves has the sums of the rules (`summed-is`, `reduced-all`). Assumes nothing.
+use Prim.Native.Nat.{ℕ, zero, suc, _+_, _*_, _-_, _/_, _%_, _≤_, _<_}
 use mathlib.Core.Path.{_≡_, refl, sym, ap, ap₂, _∙_, subst}
 use mathlib.Core.Logic.{_⊎_, inl, inr}
-use mathlib.Core.List.{List, [], _∷_, map}
+use mathlib.Core.Bool.{Bool, true, false}
+use mathlib.Core.List.{List, [], _∷_, _++_, map}
 use native.Mathlib.Nat.{
   add-zero,
   zero-add,
@@ -11,32 +12,33 @@ use native.Mathlib.Nat.{
   zero-mul,
   mul-one,
   div-one,
-  zero-div,
-  zero-mod,
   mul-le-mul,
   mul-le-mul-right,
   le-refl,
   le-mul-of-pos-right,
   mul-comm,
   mod-lt,
+  div-add-mod',
 }
 use native.Mathlib.Decide.{ℕ-discrete, decLt}
 use native.Mathlib.Omega.{arith}
-use lib.ListN.{length, getD, set}
-use lib.Seq.{set-comm, getD-set-other}
-use Rattle.rules.specs.Lists.{tab, product, In, Distinct, Below}
+use borrow.Author.Tests.{lt-ltb, le-ltb}
+use lib.ListN.{length, getD, set, drop, List·getD-append}
+use lib.Seq.{set-comm, getD-set-other, ext-getD, getD-drop, getD-append-add, length-front, length-take-le}
+use Rattle.rules.specs.Lists.{tab, pick, product, In, Distinct, Below}
 use Rattle.rules.specs.Mesh.{number, coords, span, position, member, members, remaining, IsGroup}
 use Rattle.rules.specs.Spread.{tabulate, held}
 use Rattle.rules.specs.Collectives.{Place, made, reducePlaces, word}
 use Rattle.laws.proofs.Lists.{length-tab, getD-tab, tab-cong, map-tab}
-use Rattle.laws.proofs.Positions.{div-lt, pos-of-lt, span-append, below-member}
-use Rattle.laws.proofs.Buffers.{number-lt, coords-number, below-coords, number-coords}
+use Rattle.laws.proofs.Positions.{div-lt, pos-of-lt, span-append, position-lt, below-member}
+use Rattle.laws.proofs.Buffers.{number-lt, coords-number, below-coords, number-coords, tabulate-same}
 use Rattle.laws.proofs.Groups.{group-by-position, span-remaining}
 use Rattle.laws.proofs.Fronts.{part-in}
 use Rattle.strided.specs.Strided.{offset, mostPlaces, Counts}
 use Rattle.digits.specs.Digits.{mostRoom, meshStrides, dot, cleared, axisDigits, meshDigits, HasStrides}
 use Rattle.digits.proofs.Strides.{
   memberPart,
+  no-part,
   coords-length,
   strides-length,
   cleared-length,
@@ -50,7 +52,7 @@ use Rattle.digits.proofs.Strides.{
   nested-mesh,
 }
 use Rattle.mesh.proofs.Sizes.{group-pos}
-use Rattle.sums.specs.Sums.{groupWord, reducedWord, firstWords, shiftWords, Groups, Shifting, Firsts, Tables}
+use Rattle.sums.specs.Sums.{groupWord, reducedBuffer, summed, summedBuffer, firstWords, shiftWords, Some, Groups, Summed, Shifting, Firsts, Tables}
 
 -- ---- cleared strides
 
@@ -114,10 +116,6 @@ none-part mesh (a ∷ L) strides q h =
       none-part mesh L strides (q % span mesh L) (λ b i. h b (inr i)),
       mul-zero (q / span mesh L),
     )
-
-no-part : (mesh L strides : List ℕ) → memberPart mesh L strides 0 ≡ 0
-no-part mesh [] strides = refl
-no-part mesh (a ∷ L) strides = rw (zero-div (span mesh L), zero-mod (span mesh L), zero-mul (getD (cleared L strides) a 0), no-part mesh L strides)
 
 -- ---- the places
 
@@ -241,19 +239,19 @@ module _ (mesh L : List ℕ) (m : ℕ) (some : 0 < product mesh) (once : Distinc
           g .once p q (omega arith) k
           (sym (coords-number (g .of-mesh p (omega arith))) ∙ ap (coords mesh) e ∙ coords-number (g .of-mesh q k))
 
-  -- a device is a member of its own group
+  -- a device is the member of its own group at its position
   own-position : (d : ℕ) → d < product mesh
-      → (q : ℕ) × (q < span mesh L) × (getD (firstWords mesh L m) d 0 + getD (shiftWords mesh L m) q 0 ≡ d * m)
+      → (position mesh L (coords mesh d) < span mesh L)
+      × (getD (firstWords mesh L m) d 0 + getD (shiftWords mesh L m) (position mesh L (coords mesh d)) 0 ≡ d * m)
   own-position d h =
       let b : Below (coords mesh d) mesh = below-coords mesh d h in
-      let r = group-by-position mesh L once of-mesh b .has (coords mesh d) b (λ a off. refl) in
-      let q : ℕ = position mesh L (coords mesh d) in (
-        q,
+      let r = group-by-position mesh L once of-mesh b .has (coords mesh d) b (λ a off. refl) in (
         r .0,
-        place-is mesh L m some once d q h (r .0) ∙ ap (λ (x : List ℕ). number mesh x * m) (r .1) ∙ ap (λ (n : ℕ). n * m) (number-coords mesh d h),
+        place-is mesh L m some once d (position mesh L (coords mesh d)) h (r .0) ∙ ap (λ (x : List ℕ). number mesh x * m) (r .1)
+            ∙ ap (λ (n : ℕ). n * m) (number-coords mesh d h),
       )
 
-  pub groups-are : (words : ℕ) → product mesh * m ≤ words → Groups (firstWords mesh L m) (shiftWords mesh L m) m words
+  groups-are : (words : ℕ) → product mesh * m ≤ words → Groups (firstWords mesh L m) (shiftWords mesh L m) m words
   unfolding memberAt
   groups-are words room =
       let ld = firsts-length mesh L m some once in
@@ -285,12 +283,24 @@ module _ (mesh L : List ℕ) (m : ℕ) (some : 0 < product mesh) (once : Distinc
               place-is mesh L m some once d q hd hq,
               member-first mesh L m some once d q hd hq,
             );
-        position = λ d h.
-            let r = own-position d (subst (λ n. d < n) ld h) in
-            (r .0, rw lq (r .1), r .2);
       }
 
--- what the code leaves is the reduction of the rules, for elements of any type
+  -- all members of a group, or its first one, are some of them
+  getting : (all : Bool) → Some (pick all (span mesh L) 1) (shiftWords mesh L m)
+  getting true = record { some = group-pos mesh L some; members = omega (arith, shifts-length mesh L m some once) }
+  getting false = record { some = omega arith; members = omega (arith, shifts-length mesh L m some once, group-pos mesh L some) }
+
+  pub groups-asked : (words : ℕ) → product mesh * m ≤ words → (all : Bool) {firsts shifts : List ℕ} {k n : ℕ} → firsts ≡ firstWords mesh L m
+      → shifts ≡ shiftWords mesh L m → k ≡ span mesh L → n ≡ pick all k 1 → Groups firsts shifts m words × Some n shifts
+  groups-asked words room all ef es ek en = rw (ef, es, en, ek) (groups-are words room, getting all)
+
+  pub groups-leave : {W : Type 0} (addAll : List W → W) (z : W) {old new : List W} (all : Bool) {firsts shifts : List ℕ} {k n : ℕ}
+      → firsts ≡ firstWords mesh L m → shifts ≡ shiftWords mesh L m → k ≡ span mesh L → n ≡ pick all k 1
+      → Summed addAll z old firsts shifts m n (length firsts) new
+      → Summed addAll z old (firstWords mesh L m) (shiftWords mesh L m) m (pick all (span mesh L) 1) (product mesh) new
+  groups-leave addAll z all ef es ek en u = rw (ef, es, en, ek, firsts-length mesh L m some once) at u
+
+-- what the code leaves has the sums of the rules, for elements of any type
 module _ {W : Type 0} (addAll : List W → W) (z : W) (mesh shape L : List ℕ) (old : List W) (some : 0 < product mesh) (once : Distinct L) where
   word-is : (d o : ℕ) → d < product mesh → o < product shape
       → groupWord addAll z old (shiftWords mesh L (product shape)) (getD (firstWords mesh L (product shape)) d 0) o
@@ -309,13 +319,69 @@ module _ {W : Type 0} (addAll : List W → W) (z : W) (mesh shape L : List ℕ) 
       ∙ sym (ap (map at) (map-tab (λ y. record { device = y; index = i }) (span mesh L) (λ q. member mesh L q x))
       ∙ map-tab at (span mesh L) (λ q. record { device = member mesh L q x; index = i })))
 
-  pub reduced-is : tab (product mesh * product shape)
-      (reducedWord addAll z old (firstWords mesh L (product shape)) (shiftWords mesh L (product shape)) (product shape))
-      ≡ tabulate mesh shape (made addAll (reducePlaces mesh L) (held z mesh shape old))
-  unfolding reducedWord tabulate
-  reduced-is =
-      let m : ℕ = product shape in
-      tab-cong (product mesh * m) _ _ (λ p h. word-is (p / m) (p % m) (div-lt (product mesh) m h) (mod-lt p (pos-of-lt (product mesh) m h)))
+  -- the words of a device, by its position
+  pub summed-is : ((a : ℕ) → In a L → a < length mesh) → product mesh * product shape ≤ length old → {n : ℕ} (new : List W) → length new ≡ length old
+      → Summed addAll z old (firstWords mesh L (product shape)) (shiftWords mesh L (product shape)) (product shape) n (product mesh) new
+      → new ≡ summedBuffer addAll z mesh shape L n old
+  unfolding tabulate held
+  summed-is of-mesh room {n} new same u = ext-getD z new (tab w f ++ drop w old) (same ∙ sym whole) (λ p h. go p (decLt p w))
+    where
+      m : ℕ
+      m = product shape
+
+      w : ℕ
+      w = product mesh * m
+
+      f : ℕ → W
+      f p = summed addAll mesh L n (held z mesh shape old) (coords mesh (p / m)) (coords shape (p % m))
+
+      whole : length (tab w f ++ drop w old) ≡ length old
+      whole = length-front old (tab w f) w (length-tab w f ∙ sym (length-take-le w old room))
+
+      sum : ℕ → ℕ → W
+      sum d o = made addAll (reducePlaces mesh L) (held z mesh shape old) (coords mesh d) (coords shape o)
+
+      -- a device has the sum, or its own words, by its position
+      at : (d o : ℕ) → d < product mesh → o < m → Dec (position mesh L (coords mesh d) < n)
+          → getD new (d * m + o) z ≡ summed addAll mesh L n (held z mesh shape old) (coords mesh d) (coords shape o)
+      at d o hd ho (yes b) =
+          let q : ℕ = position mesh L (coords mesh d) in
+          let r = own-position mesh L m some once of-mesh d hd in
+          let ld = firsts-length mesh L m some once in
+          let first-lt : getD (firstWords mesh L m) d 0 < w =
+          omega (arith, r .1, part-in d (product mesh) m w hd (le-refl _)) in
+          ap (λ (k : ℕ). getD new (k + o) z) (sym (r .1)) ∙ u .done d q o (rw ld hd) b ho first-lt ∙ word-is d o hd ho
+          ∙ sym (ap (λ (t : Bool). pick t (sum d o) (held z mesh shape old (coords mesh d) (coords shape o))) (lt-ltb q n b))
+      at d o hd ho (no b) =
+          let q : ℕ = position mesh L (coords mesh d) in
+          let r = own-position mesh L m some once of-mesh d hd in
+          let ld = firsts-length mesh L m some once in
+          let lq = shifts-length mesh L m some once in
+          ap (λ (k : ℕ). getD new (k + o) z) (sym (r .1)) ∙ u .left d q o (rw ld hd) (rw lq (r .0)) ho (inl (omega (arith, b)))
+          ∙ ap (λ (k : ℕ). getD old (k + o) z) (r .1)
+          ∙ ap₂ (λ (a b : ℕ). getD old (a * m + b) z) (sym (number-coords mesh d hd)) (sym (number-coords shape o ho))
+          ∙ sym (ap (λ (t : Bool). pick t (sum d o) (held z mesh shape old (coords mesh d) (coords shape o))) (le-ltb q n (omega (arith, b))))
+
+      go : (p : ℕ) → Dec (p < w) → getD new p z ≡ getD (tab w f ++ drop w old) p z
+      go p (yes b) =
+          let hd : p / m < product mesh = div-lt (product mesh) m b in
+          let ho : p % m < m = mod-lt p (pos-of-lt (product mesh) m b) in
+          ap (λ (k : ℕ). getD new k z) (sym (div-add-mod' p m)) ∙ at (p / m) (p % m) hd ho (decLt (position mesh L (coords mesh (p / m))) n)
+          ∙ sym (List·getD-append (tab w f) (drop w old) z p (omega (arith, length-tab w f)) ∙ getD-tab w p f z b)
+      go p (no b) =
+          let e : p ≡ length (tab w f) + (p - w) = omega (arith, length-tab w f) in
+          let x : w + (p - w) ≡ p = omega arith in
+          u .behind p (rw (firsts-length mesh L m some once) (omega (arith, b)))
+          ∙ sym (ap (λ (k : ℕ). getD (tab w f ++ drop w old) k z) e ∙ getD-append-add (tab w f) (drop w old) (p - w) z ∙ getD-drop w old (p - w) z
+          ∙ ap (λ (k : ℕ). getD old k z) x)
+
+-- where all members have the sum, that is the reduction
+pub reduced-all : {W : Type 0} (addAll : List W → W) (z : W) (mesh shape L : List ℕ) (old : List W)
+    → summedBuffer addAll z mesh shape L (span mesh L) old ≡ reducedBuffer addAll z mesh shape L old
+reduced-all {W} addAll z mesh shape L old =
+    ap (λ (l : List W). l ++ drop (product mesh * product shape) old) (tabulate-same mesh shape _ _ (λ x i bx bi.
+    ap (λ (t : Bool). pick t (made addAll (reducePlaces mesh L) (held z mesh shape old) x i) (held z mesh shape old x i))
+    (lt-ltb (position mesh L x) (span mesh L) (position-lt mesh L bx))))
 
 -- a group has at most all devices
 pub group-few : (mesh L : List ℕ) → 0 < product mesh → Distinct L → ((a : ℕ) → In a L → a < length mesh) → span mesh L ≤ product mesh

@@ -1,15 +1,17 @@
 -- The reduction by whole shards, in one buffer: it keeps the shape, so each sum stands where its shard was, and half the memory of two buffers is
 -- touched. `firsts` has, for each device, where the shard of the first member of its group begins; `shifts` has how far after it the shard of the
--- member at each position begins. Each group is added once, in place of its first member's shard; the others repeat that. The elements
--- are of any type W: addAll is the sum of a group's elements, z is read outside the buffer, which no code does. Assumes nothing.
-use Prim.Native.Nat.{ℕ, _+_, _*_, _/_, _%_, _≤_, _<_}
-use mathlib.Core.Path.{_≡_}
+-- member at each position begins. Each group is added once, in place of its first member's shard; so many of the others as are to have the sum
+-- repeat that. The elements are of any type W: addAll is the sum of a group's elements, z is read outside the buffer, which no code does. Assumes
+-- nothing.
+use Prim.Native.Nat.{ℕ, _+_, _*_, _≤_, _<_}
+use mathlib.Core.Path.{_≡_, refl}
 use mathlib.Core.Logic.{_⊎_}
-use mathlib.Core.List.{List, [], _++_}
+use mathlib.Core.List.{List, [], _∷_, _++_}
 use lib.ListN.{length, getD, take, drop}
-use Rattle.rules.specs.Lists.{tab, product, In, Distinct}
-use Rattle.rules.specs.Mesh.{devices, span, OnMesh}
-use Rattle.rules.specs.Spread.{tabulate, held}
+use lib.Dec.{ltb}
+use Rattle.rules.specs.Lists.{tab, pick, product, In, Distinct}
+use Rattle.rules.specs.Mesh.{devices, span, position, OnMesh}
+use Rattle.rules.specs.Spread.{StateOf, tabulate, held, addWords}
 use Rattle.rules.specs.Collectives.{made, reducePlaces}
 use Rattle.rules.specs.Limits.{mostAxes, mostDevices, mostWords}
 use Rattle.strided.specs.Strided.{offset}
@@ -27,20 +29,41 @@ partWord addAll z old shifts at q o = addAll (tab q (λ p. getD old (at + getD s
 unfoldable pub groupWord : {W : Type 0} → (List W → W) → W → (old : List W) → (shifts : List ℕ) → ℕ → ℕ → W
 groupWord addAll z old shifts at o = addAll (tab (length shifts) (λ q. getD old (at + getD shifts q 0 + o) z))
 
--- word p of the reduced buffer, of shards of m words
-unfoldable pub reducedWord : {W : Type 0} → (List W → W) → W → (old : List W) → (firsts shifts : List ℕ) → ℕ → ℕ → W
-unfolding groupWord
-reducedWord addAll z old firsts shifts m p = groupWord addAll z old shifts (getD firsts (p / m) 0) (p % m)
-
 -- the buffer that a reduction leaves: the new state, and what was behind the old one
 abbrev pub reducedBuffer : {W : Type 0} → (List W → W) → W → (mesh shape L : List ℕ) → List W → List W
 reducedBuffer addAll z mesh shape L old =
     tabulate mesh shape (made addAll (reducePlaces mesh L) (held z mesh shape old)) ++ drop (devices mesh * product shape) old
 
+-- a state in which the first n members of each group have the group's sum, and the others their own words; and the buffer that has it at its front
+abbrev pub summed : {W : Type 0} → (List W → W) → (mesh L : List ℕ) → ℕ → StateOf W → StateOf W
+summed addAll mesh L n w x i = pick (ltb (position mesh L x) n) (made addAll (reducePlaces mesh L) w x i) (w x i)
+
+abbrev pub summedBuffer : {W : Type 0} → (List W → W) → W → (mesh shape L : List ℕ) → ℕ → List W → List W
+summedBuffer addAll z mesh shape L n old =
+    tabulate mesh shape (summed addAll mesh L n (held z mesh shape old)) ++ drop (devices mesh * product shape) old
+
+-- Four devices, groups along the first axis: the devices 0 and 1 have the sums, or all have them; what stands behind stays.
+first-case : summedBuffer addWords 0 (2 ∷ 2 ∷ []) (1 ∷ []) (0 ∷ []) 1 (1 ∷ 2 ∷ 3 ∷ 5 ∷ 9 ∷ []) ≡ 4 ∷ 7 ∷ 3 ∷ 5 ∷ 9 ∷ []
+unfolding tabulate held made reducePlaces addWords
+first-case = refl
+
+all-case : summedBuffer addWords 0 (2 ∷ 2 ∷ []) (1 ∷ []) (0 ∷ []) 2 (1 ∷ 2 ∷ 3 ∷ 5 ∷ 9 ∷ []) ≡ 4 ∷ 7 ∷ 4 ∷ 7 ∷ 9 ∷ []
+unfolding tabulate held made reducePlaces addWords
+all-case = refl
+
 -- what is left where the shards of a group's first n members have the words g: every other word is as it was
 pub record Shared {W : Type 0} (z : W) (old : List W) (shifts : List ℕ) (at m n : ℕ) (g : ℕ → W) (new : List W) : Type 0 where
   pub members : (q o : ℕ) → q < n → o < m → getD new (at + getD shifts q 0 + o) z ≡ g o
   pub others : (p : ℕ) → ((q : ℕ) → q < n → (p < at + getD shifts q 0) ⊎ (at + getD shifts q 0 + m ≤ p)) → getD new p z ≡ getD old p z
+
+-- what is left once the groups whose first member is before place d are summed: the first n members of each have its sum, and every other word is as
+-- it was
+pub record Summed {W : Type 0} (addAll : List W → W) (z : W) (old : List W) (firsts shifts : List ℕ) (m n d : ℕ) (new : List W) : Type 0 where
+  pub done : (e q o : ℕ) → e < length firsts → q < n → o < m → getD firsts e 0 < d * m
+      → getD new (getD firsts e 0 + getD shifts q 0 + o) z ≡ groupWord addAll z old shifts (getD firsts e 0) o
+  pub left : (e q o : ℕ) → e < length firsts → q < length shifts → o < m → (n ≤ q) ⊎ (d * m ≤ getD firsts e 0)
+      → getD new (getD firsts e 0 + getD shifts q 0 + o) z ≡ getD old (getD firsts e 0 + getD shifts q 0 + o) z
+  pub behind : (p : ℕ) → length firsts * m ≤ p → getD new p z ≡ getD old p z
 
 -- The tables, for shards of m words.
 unfoldable pub firstWords : (mesh L : List ℕ) → ℕ → List ℕ
@@ -67,8 +90,13 @@ pub record Group (shifts : List ℕ) (m at words : ℕ) : Type 0 where
   pub apart : (p q : ℕ) → p < q → q < length shifts → (getD shifts p 0 + m ≤ getD shifts q 0) ⊎ (getD shifts q 0 + m ≤ getD shifts p 0)
   pub inside : (q : ℕ) → q < length shifts → at + getD shifts q 0 + m ≤ words
 
--- all groups: a device's first member is a device that is the first of its own group, and not behind it; the members of a first one's group are
--- devices with that same first place; and each device is a member of its own group
+-- so many members of a group, at least its first one
+pub record Some (n : ℕ) (shifts : List ℕ) : Type 0 where
+  pub some : 0 < n
+  pub members : n ≤ length shifts
+
+-- all groups: a device's first member is a device that is the first of its own group, and not behind it; and the members of a first one's group are
+-- devices with that same first place
 pub record Groups (firsts shifts : List ℕ) (m words : ℕ) : Type 0 where
   pub room : length firsts * m ≤ words
   pub groups : (d : ℕ) → d < length firsts → Group shifts m (getD firsts d 0) words
@@ -76,7 +104,6 @@ pub record Groups (firsts shifts : List ℕ) (m words : ℕ) : Type 0 where
       → (e : ℕ) × (e * m ≤ d * m) × (getD firsts d 0 ≡ e * m) × (getD firsts e 0 ≡ e * m)
   pub members : (d q : ℕ) → d < length firsts → q < length shifts
       → (e : ℕ) × (e < length firsts) × (getD firsts d 0 + getD shifts q 0 ≡ e * m) × (getD firsts e 0 ≡ getD firsts d 0)
-  pub position : (d : ℕ) → d < length firsts → (q : ℕ) × (q < length shifts) × (getD firsts d 0 + getD shifts q 0 ≡ d * m)
 
 -- a list of axes on a mesh with strides, and the places that list its group
 pub record Shifting (shifts strides mesh L : List ℕ) : Type 0 where

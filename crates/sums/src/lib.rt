@@ -1,31 +1,31 @@
 // All-reduce: each device gets the word-by-word sum over its group, whole shards at a time. The shape stays, so the words are summed where they are,
 // which touches half the memory of two buffers: each group is added once, into its first member's shard, and the other members repeat that sum at
-// once, while it is in the cache. Nothing is divided. specs/Sums.antt says what the tables hold.
+// once, while it is in the cache. A reduce-scatter needs the sum at the first member alone. Nothing is divided. specs/Sums.antt says what the tables
+// hold.
 use digits::axis_digits;
 use digits::fill_strides;
 use digits::mesh_digits;
 use mesh::product_from;
 use types;
 ghost use mathlib.Core.Path.{_≡_};
-ghost use mathlib.Core.List.{[], _++_};
+ghost use mathlib.Core.List.{[]};
 ghost use Prim.Native.Nat.{_+_, _*_, _%_, _^_, _≤_, _<_};
-ghost use lib.ListN.{length, getD, take, drop};
-ghost use Rattle.rules.specs.Lists.{tab, product};
+ghost use lib.ListN.{length, getD, take};
+ghost use Rattle.rules.specs.Lists.{tab, pick, product};
 ghost use Rattle.rules.specs.Mesh.{span};
 ghost use Rattle.rules.specs.Spread.{addWords};
 ghost use Rattle.types.specs.Types.{axesOf};
 ghost use Rattle.strided.specs.Strided.{offset, mostPlaces, Counts};
 ghost use Rattle.digits.specs.Digits.{cleared, axisDigits, meshDigits};
-ghost use Rattle.sums.specs.Sums.{written, partWord, groupWord, reducedWord, reducedBuffer, firstWords, shiftWords};
-ghost use Rattle.sums.specs.Sums.{Behind, Group, Shared, Groups, Shifting, Firsts, Tables, Reducing};
+ghost use Rattle.sums.specs.Sums.{written, partWord, groupWord, reducedBuffer, summedBuffer, firstWords, shiftWords};
+ghost use Rattle.sums.specs.Sums.{Behind, Group, Some, Shared, Groups, Summed, Shifting, Firsts, Tables, Reducing};
 
 // The numbers of the digits of a group's axes, or of all devices.
 const ROOM: usize = 3 * types::Axis::MOST;
 
-// A group of so many members is reduced in blocks of words, and the words of each shard in a block.
-const MANY: usize = 32;
-
-const BLOCK: usize = 256;
+// The words of each shard that are summed before the sum is repeated: few enough that the sum stays in the nearest cache, and as many as that allows,
+// for each member is then read in long runs.
+const BLOCK: usize = 2048;
 
 // Adds the words of the shard at a to those of the shard at `at`, modulo 2^32.
 fn add_one(words: &mut [u32], at: usize, a: usize, m: usize)
@@ -99,65 +99,65 @@ fn repeat_shard(words: &mut [u32], first: usize, at: usize, m: usize)
     }
 }
 
-// The shard of a group's first member once more, for each other member.
-fn repeat_group(words: &mut [u32], shifts: &[usize], at: usize, m: usize)
+// The shard of a group's first member once more, for the others of its first n members.
+fn repeat_group(words: &mut [u32], shifts: &[usize], at: usize, m: usize, n: usize)
     requires { ⌜ Group (now shifts) m at (length (now words)) ⌝ }
-    ensures { λ _. ⌜ Shared 0 (now (words .entry)) (now (shifts .entry)) at m (length (now (shifts .entry)))
-        (λ o. getD (now (words .entry)) (at + o) 0) (now (words .exit)) ⌝ }
+    requires { ⌜ Some n (now shifts) ⌝ }
+    ensures { λ _. ⌜ Shared 0 (now (words .entry)) (now (shifts .entry)) at m n (λ o. getD (now (words .entry)) (at + o) 0) (now (words .exit)) ⌝ }
 {
     let mut q: usize = 1;
-    while q < shifts.len() {
+    while q < n {
         repeat_shard(words, at, at + shifts[q], m);
         q += 1;
     }
 }
 
-// So many words of each shard of one group: they become the sum over the group.
-fn reduce_block(words: &mut [u32], shifts: &[usize], at: usize, m: usize)
+// So many words of each shard of one group: those of its first n members become the sum over the group.
+fn reduce_block(words: &mut [u32], shifts: &[usize], at: usize, m: usize, n: usize)
     requires { ⌜ Group (now shifts) m at (length (now words)) ⌝ }
-    ensures { λ _. ⌜ Shared 0 (now (words .entry)) (now (shifts .entry)) at m (length (now (shifts .entry)))
+    requires { ⌜ Some n (now shifts) ⌝ }
+    ensures { λ _. ⌜ Shared 0 (now (words .entry)) (now (shifts .entry)) at m n
         (groupWord addWords 0 (now (words .entry)) (now (shifts .entry)) at) (now (words .exit)) ⌝ }
 {
     sum_group(words, shifts, at, m);
-    repeat_group(words, shifts, at, m);
+    repeat_group(words, shifts, at, m, n);
 }
 
-// How many words of each shard are summed before the sum is repeated: with many members fewer, so that the shards are still in the cache.
-fn block_words(members: usize, left: usize) -> usize
+// How many of the words that are left make up a block.
+fn block_words(left: usize) -> usize
     requires { ⌜ 0 < left ⌝ }
     ensures { λ r. ⌜ (0 < r) × (r ≤ left) ⌝ }
 {
-    if members < MANY {
-        return left;
-    }
     if left < BLOCK { left } else { BLOCK }
 }
 
-// One group: each member's shard becomes the sum over the group.
-fn reduce_group(words: &mut [u32], shifts: &[usize], at: usize, m: usize)
+// One group: the shards of its first n members become the sum over the group.
+fn reduce_group(words: &mut [u32], shifts: &[usize], at: usize, m: usize, n: usize)
     requires { ⌜ Group (now shifts) m at (length (now words)) ⌝ }
-    ensures { λ _. ⌜ Shared 0 (now (words .entry)) (now (shifts .entry)) at m (length (now (shifts .entry)))
+    requires { ⌜ Some n (now shifts) ⌝ }
+    ensures { λ _. ⌜ Shared 0 (now (words .entry)) (now (shifts .entry)) at m n
         (groupWord addWords 0 (now (words .entry)) (now (shifts .entry)) at) (now (words .exit)) ⌝ }
 {
     let mut done: usize = 0;
     while done < m {
-        let block = block_words(shifts.len(), m - done);
-        reduce_block(words, shifts, at + done, block);
+        let block = block_words(m - done);
+        reduce_block(words, shifts, at + done, block, n);
         done += block;
     }
 }
 
 // All groups, each when the first of its members is met.
-fn reduce_groups(words: &mut [u32], firsts: &[usize], shifts: &[usize], m: usize)
+fn reduce_groups(words: &mut [u32], firsts: &[usize], shifts: &[usize], m: usize, n: usize)
     requires { ⌜ Groups (now firsts) (now shifts) m (length (now words)) ⌝ }
-    ensures { λ _. ⌜ now (words .exit) ≡ tab (length (now (firsts .entry)) * m) (reducedWord addWords 0 (now (words .entry)) (now (firsts .entry))
-        (now (shifts .entry)) m) ++ drop (length (now (firsts .entry)) * m) (now (words .entry)) ⌝ }
+    requires { ⌜ Some n (now shifts) ⌝ }
+    ensures { λ _. ⌜ Summed addWords 0 (now (words .entry)) (now (firsts .entry)) (now (shifts .entry)) m n (length (now (firsts .entry)))
+        (now (words .exit)) ⌝ }
 {
     let mut d: usize = 0;
     while d < firsts.len() {
         let at = d * m;
         if firsts[d] == at {
-            reduce_group(words, shifts, at, m);
+            reduce_group(words, shifts, at, m, n);
         }
         d += 1;
     }
@@ -235,6 +235,13 @@ fn fill_tables(
     members
 }
 
+// How many members of a group get its sum: all of them, or the first one alone.
+fn getters(all: bool, members: usize) -> usize
+    ensures { λ r. ⌜ r ≡ pick all members 1 ⌝ }
+{
+    if all { members } else { 1 }
+}
+
 // All groups, by tables that are filled first.
 fn sum_with(
     words: &mut [u32],
@@ -244,21 +251,24 @@ fn sum_with(
     mesh: &[u16],
     axes: types::AxisList,
     m: usize,
+    all: bool,
 )
     requires { ⌜ Tables (now firsts) (now shifts) (now strides) (now mesh) (axesOf axes) m ⌝ }
     requires { ⌜ product (now mesh) * m ≤ length (now words) ⌝ }
-    ensures { λ _. ⌜ now (words .exit) ≡ tab (product (now (mesh .entry)) * m) (reducedWord addWords 0 (now (words .entry))
-        (firstWords (now (mesh .entry)) (axesOf axes) m) (shiftWords (now (mesh .entry)) (axesOf axes) m) m) ++ drop (product (now (mesh .entry)) * m)
-        (now (words .entry)) ⌝ }
+    ensures { λ _. ⌜ Summed addWords 0 (now (words .entry)) (firstWords (now (mesh .entry)) (axesOf axes) m)
+        (shiftWords (now (mesh .entry)) (axesOf axes) m) m (pick all (span (now (mesh .entry)) (axesOf axes)) 1) (product (now (mesh .entry)))
+        (now (words .exit)) ⌝ }
 {
     let members = fill_tables(firsts, shifts, strides, mesh, axes, m);
-    reduce_groups(words, firsts, &shifts[0..members], m);
+    let n = getters(all, members);
+    reduce_groups(words, firsts, &shifts[0..members], m, n);
 }
 
-// All-reduce: the new state at the front of words, in place of the old one; the other words stay.
-pub fn reduce_in(words: &mut [u32], mesh: &[u16], shape: &[u16], axes: types::AxisList)
+// The sum of each group in place of the shards of all its members, or of its first one's alone; the other words stay.
+fn sum_into(words: &mut [u32], mesh: &[u16], shape: &[u16], axes: types::AxisList, all: bool)
     requires { ⌜ Reducing (now mesh) (now shape) (axesOf axes) (length (now words)) ⌝ }
-    ensures { λ _. ⌜ now (words .exit) ≡ reducedBuffer addWords 0 (now (mesh .entry)) (now (shape .entry)) (axesOf axes) (now (words .entry)) ⌝ }
+    ensures { λ _. ⌜ now (words .exit) ≡ summedBuffer addWords 0 (now (mesh .entry)) (now (shape .entry)) (axesOf axes)
+        (pick all (span (now (mesh .entry)) (axesOf axes)) 1) (now (words .entry)) ⌝ }
 {
     let m = product_from(shape, 0);
     let count = product_from(mesh, 0);
@@ -274,5 +284,22 @@ pub fn reduce_in(words: &mut [u32], mesh: &[u16], shape: &[u16], axes: types::Ax
         mesh,
         axes,
         m,
+        all,
     );
+}
+
+// All-reduce: the new state at the front of words, in place of the old one; the other words stay.
+pub fn reduce_in(words: &mut [u32], mesh: &[u16], shape: &[u16], axes: types::AxisList)
+    requires { ⌜ Reducing (now mesh) (now shape) (axesOf axes) (length (now words)) ⌝ }
+    ensures { λ _. ⌜ now (words .exit) ≡ reducedBuffer addWords 0 (now (mesh .entry)) (now (shape .entry)) (axesOf axes) (now (words .entry)) ⌝ }
+{
+    sum_into(words, mesh, shape, axes, true);
+}
+
+// The sum of each group in place of its first member's shard; the other words stay.
+pub fn sum_first(words: &mut [u32], mesh: &[u16], shape: &[u16], axes: types::AxisList)
+    requires { ⌜ Reducing (now mesh) (now shape) (axesOf axes) (length (now words)) ⌝ }
+    ensures { λ _. ⌜ now (words .exit) ≡ summedBuffer addWords 0 (now (mesh .entry)) (now (shape .entry)) (axesOf axes) 1 (now (words .entry)) ⌝ }
+{
+    sum_into(words, mesh, shape, axes, false);
 }

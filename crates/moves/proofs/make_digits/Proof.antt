@@ -6,17 +6,18 @@ use lib.ListN.{length, drop}
 use denote.Ref.{now}
 use Rattle.rules.specs.Lists.{product}
 use Rattle.strided.proofs.Joins.{digit-tail}
-use Rattle.digits.specs.Digits.{meshStrides, meshDigits, Devices}
-use Rattle.moves.specs.Moves.{lists, movedShape, DimensionsAt}
+use Rattle.types.specs.Types.{axesOf}
+use Rattle.digits.specs.Digits.{meshDigits, Devices}
+use Rattle.moves.specs.Moves.{lists, movedShape, firstStrides, DimensionsAt}
 use Rattle.moves.proofs.Whole.{shape-asked, strides-asked, dims-asked, adding-asked, mesh-asked, digits-are}
 use Rattle.moves.proofs.make_digits.Statement.{statement}
 use Rattle.moves.proofs.make_digits.Tie as tie
 
 -- the places behind each call, from the last one back
-abbrev filled : tie.After-fill-strides → tie.Start
+abbrev filled : tie.After-read-strides → tie.Start
 filled c = c .before .before .before .before .before .before .before .before
 
-abbrev shaped : tie.After-shape-digits → tie.After-fill-strides
+abbrev shaped : tie.After-shape-digits → tie.After-read-strides
 shaped c = c .before .before .before .before .before .before
 
 abbrev added : tie.After-add-strides → tie.After-shape-digits
@@ -33,11 +34,11 @@ dims : (c : tie.After-shape-digits)
     let Gs = lists shape (s .args .gathers) in
     let Ss = lists shape (s .args .slices) in
     let r = c .shape-digits in
-    DimensionsAt mesh shape Gs Ss (meshStrides mesh (product shape)) (now (s .args .added)) (r .last .0) (r .last .1 .0) (r .last .1 .1 .0) (r .result)
+    DimensionsAt mesh shape Gs Ss (firstStrides mesh shape (axesOf (s .args .along))) (now (s .args .added)) (r .last .0) (r .last .1 .0) (r .last .1 .1 .0) (r .result)
     (product (movedShape mesh shape Gs Ss)) (product shape) 0)
 dims c =
     rw (
-      c .before .before .before .before .before .before .fill-strides .ensures,
+      c .before .before .before .before .before .before .read-strides .ensures,
       c .before .before .before .before .before .before .before .before .product-from .ensures,
     ) at (c .shape-digits .ensures)
 
@@ -57,8 +58,8 @@ make-digits-spec =
     (λ c κs. rw (c .before .product-from .ensures) (strides-asked (c .before .before .before .before .before .before .before .pre)))
     (λ c κs. let f = c .before .before .before .before .before in
     let s = filled f in
-    rw (f .fill-strides .ensures, f .before .before .product-from .ensures)
-    (dims-asked (s .pre) (meshStrides (now (s .args .mesh)) (product (now (s .args .shape)))) refl))
+    rw (f .read-strides .ensures, f .before .before .product-from .ensures)
+    (dims-asked (s .pre) (firstStrides (now (s .args .mesh)) (now (s .args .shape)) (axesOf (s .args .along))) refl))
     (λ c κs. let x = c .before .before .before .before .before .before .before .before in
     adding-asked (filled (shaped x) .pre) (dims x) (x .shape-digits .kept .1 .1 .0))
     (λ c κs. ready (c .before .before .before .before))
@@ -70,7 +71,7 @@ make-digits-spec =
     (λ c. c .before .before .mesh-digits .kept .0 ∙ added (made (c .before .before)) .shape-digits .kept .0)
     (λ c. let a = made (c .before .before) in
     let x = added a in
-    a .add-strides .kept .0 ∙ x .shape-digits .kept .1 .0 ∙ shaped x .fill-strides .kept .0)
+    a .add-strides .kept .0 ∙ x .shape-digits .kept .1 .0 ∙ shaped x .read-strides .kept .0)
     (λ c. added (made (c .before .before)) .shape-digits .kept .1 .1 .0)
     (λ c. let m = c .before .before in
     let a = made m in

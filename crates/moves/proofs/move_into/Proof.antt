@@ -1,13 +1,5 @@
 use borrow.Author.Needs.{needs}
-use native.Mathlib.Omega.{arith}
-use Prim.Native.Nat.{ℕ, _-_}
-use native.Mathlib.Nat.{sub-zero}
-use mathlib.Core.Path.{refl, ap, _∙_}
-use lib.ListN.{length, take, replicate}
-use denote.Ref.{now}
-use Rattle.rules.specs.Limits.{mostAxes}
-use Rattle.laws.proofs.Lists.{take-replicate}
-use Rattle.laws.proofs.Fronts.{lent-length}
+use Rattle.moves.proofs.Whole.{own-along}
 use Rattle.moves.proofs.move_into.Statement.{statement}
 use Rattle.moves.proofs.move_into.Tie as tie
 
@@ -15,23 +7,9 @@ pub move-into-spec : {M : Type 1} → statement M
 move-into-spec =
     tie.close
     (tie.spec
+    (λ c κs. search needs)
+    (λ c κs. let s = c .before .before .before .before .before .before in
+    (s .pre .0, (own-along (c .before .empty .ensures), (s .pre .1 .0, s .pre .1 .1))))
     (λ c. search needs)
-    (λ c. search needs)
-    (λ c. search needs)
-    (λ c. omega (arith, c .before .before .before .before .before .before .pre .0 .on .axes-few))
-    (λ c. search needs)
-    (λ c. search needs)
-    (λ c. omega (arith, c .before .before .before .before .before .before .before .pre .0 .on .axes-few))
-    (λ c κs. let s = c .before .before .before .before .before .before .before .before in
-    let n = length (now (s .args .mesh)) in (
-      record {
-        step = s .pre .0;
-        room = refl;
-        strides-places = lent-length _ _ (s .pre .0 .on .axes-few);
-        none = ap (λ k. take k (replicate mostAxes 0)) (sub-zero n) ∙ take-replicate {A = ℕ} 0 n mostAxes (s .pre .0 .on .axes-few);
-        words-are = s .pre .1 .0;
-      },
-      s .pre .1 .1,
-    ))
-    (λ c. search needs)
-    (λ c. search needs))
+    (λ c. let s = c .before .before .before .before .before .before .before .before .before in
+    rw (c .before .before .before .before .empty .ensures) at (c .before .before .move-first .ensures)))

@@ -10,15 +10,15 @@ scatter-spec =
     tie.close
     (tie.spec
     (λ c κs. search needs)
-    (λ c κs. let s = c .before .before .before .before .before in axes-asked (s .args .lists) (s .pre))
+    (λ c κs. let s = c .before .before .before .before .before in
+    axes-asked (s .args .lists) (s .pre))
     (λ c κs. let s = c .before .before .before .before .before .before .before in
     sums-asked (s .args .lists) (s .pre) (c .before .ascending .ensures))
     (λ c κs. let s = c .before .before .before .before .before .before .before .before .before .before .before .before in
-    rw (c .before .before .before .before .reduce-in .kept .0)
-    (slice-asked (s .args .lists) (s .pre) _ (c .before .before .before .before .before .before .before .empty .ensures)))
+    rw (c .before .before .before .before .sum-first .kept .0) (slice-asked (s .args .lists) (s .pre) (c .before .before .before .before .before .before .ascending .ensures) _ (c .before .before .before .before .before .before .before .empty .ensures)))
     (λ c. search needs)
     (λ c. search needs)
     (λ c. let r = c .before .before .before .before .before .before .before in
-    let s = r .before .before .before .before .before .before .before .before in
-    scatter-leaves (s .args .lists) (s .pre) addWords one-word 0 (now (s .args .here)) (now (s .args .there)) (r .before .before .ascending .ensures) _
-    (r .before .before .before .empty .ensures) (r .reduce-in .ensures) (c .before .before .move-into .ensures)))
+    let s = c .before .before .before .before .before .before .before .before .before .before .before .before .before .before .before in
+    scatter-leaves (s .args .lists) (s .pre) (r .before .before .ascending .ensures) _ (r .before .before .before .empty .ensures) addWords one-word 0 (now (s .args .here))
+    (now (s .args .there)) (r .sum-first .ensures) (c .before .before .move-first .ensures)))

@@ -11,11 +11,11 @@ use Rattle.sums.proofs.repeat_group.Statement.{statement}
 use Rattle.sums.proofs.repeat_group.Tie as tie
 
 abbrev Inv-loop : tie.InvT-loop
-Inv-loop words₀ shifts at m q₀ words q = (1 ≤ q) × (q ≤ length shifts) × Shared 0 words₀ shifts at m q (λ o. getD words₀ (at + o) 0) words
+Inv-loop words₀ shifts at m n q₀ words q = (1 ≤ q) × (q ≤ n) × Shared 0 words₀ shifts at m q (λ o. getD words₀ (at + o) 0) words
     × (length words ≡ length words₀)
 
 abbrev μ-loop : tie.MeasureT-loop
-μ-loop words₀ shifts at m q₀ words q = length shifts - q
+μ-loop words₀ shifts at m n q₀ words q = n - q
 
 pub repeat-group-spec : {M : Type 1} → statement M
 repeat-group-spec =
@@ -24,14 +24,17 @@ repeat-group-spec =
     Inv-loop
     μ-loop
     (λ c. let s = c .before .before in
-    (omega arith, omega (arith, s .pre .some), share-start addWords 0 (now (s .args .words)) (s .pre), refl))
-    (λ c. omega arith)
-    (λ c. omega arith)
+    (omega arith, omega (arith, s .pre .1 .some), share-start addWords 0 (now (s .args .words)) (s .pre .0), refl))
+    (λ c. let s = c .before .before .before .before .before in
+    omega (arith, s .pre .1 .members))
     (λ c. let s = c .before .before .before .before .before .before in
-    omega (arith, s .pre .inside (c .before .before .before .loop .q) (c .before .before .loop-test .taken)))
+    omega (arith, s .pre .1 .members))
+    (λ c. let s = c .before .before .before .before .before .before in
+    omega (arith, s .pre .0 .inside (c .before .before .before .loop .q) (omega (arith, c .before .before .loop-test .taken, s .pre .1 .members))))
     (λ c κs. let s = c .before .before .before .before .before .before in
     let l = c .before .before .before in
-    rw (l .loop .inv .3) (behind-first (now (s .args .words)) (s .pre) (l .loop .q) (omega arith) (c .before .before .loop-test .taken)))
+    rw (l .loop .inv .3) (behind-first (now (s .args .words)) (s .pre .0) (l .loop .q) (omega arith)
+    (omega (arith, c .before .before .loop-test .taken, s .pre .1 .members))))
     (λ c. omega arith)
     (λ c. omega arith)
     (λ c. let s = c .before .before .before .before .before .before .before .before .before in
@@ -40,11 +43,11 @@ repeat-group-spec =
     let r = c .before .before .repeat-shard in (
       omega arith,
       omega (arith, c .before .before .before .before .before .loop-test .taken),
-      rw (r .ensures) (share-step addWords 0 w (s .pre) (l .loop .q) (λ o. getD w (s .args .at + o) 0) (l .loop .words) (omega arith)
-          (c .before .before .before .before .before .loop-test .taken) (l .loop .inv .3) (l .loop .inv .2)),
+      rw (r .ensures) (share-step addWords 0 w (s .pre .0) (l .loop .q) (λ o. getD w (s .args .at + o) 0) (l .loop .words) (omega arith)
+          (omega (arith, c .before .before .before .before .before .loop-test .taken, s .pre .1 .members)) (l .loop .inv .3) (l .loop .inv .2)),
       r .kept .0 ∙ l .loop .inv .3,
     ))
     (λ c. c .before .loop .inv .3)
     (λ c. let l = c .before in
-    let e : l .loop .q ≡ length (now (c .before .before .before .before .args .shifts)) = omega arith in
+    let e : l .loop .q ≡ c .before .before .before .before .args .n = omega arith in
     rw e at (l .loop .inv .2)))
