@@ -1,19 +1,16 @@
 -- A table times a number: factors are multiplied (`scaled-scaled`); a table that has a faithful spread of words is one of words at all its indexes
--- (`table-words`), so that 1 times it is the table (`unscaled`); and steps that reduce unreduced axes alone have factor 1 (`factor-one`). Assumes nothing.
-use Prim.Native.Nat.{ℕ, zero, suc, _+_, _*_, _%_, _^_, _<_}
+-- (`table-words`), so that 1 times it is the table (`unscaled`); and a step that reduces unreduced axes alone has factor 1 (`step-one`). Assumes nothing.
+use Prim.Native.Nat.{ℕ, _+_, _*_, _%_, _^_, _<_}
 use mathlib.Core.Path.{_≡_, refl, sym, ap, ap₂, _∙_, subst, fun-ext}
 use mathlib.Core.List.{List, [], _∷_, _++_, map}
 use native.Mathlib.Nat.{mod-mod, mod-eq-of-lt, mul-comm, mul-assoc, one-mul, zero-mul, zero-add}
-use native.Mathlib.Omega.{arith}
-use lib.ListN.{length, take, drop}
-use Rattle.rules.specs.Lists.{each, inTurn, flat, without, In, Distinct, Below, none, more}
+use lib.ListN.{length}
+use Rattle.rules.specs.Lists.{each, flat, In, Distinct, Below, none, more}
 use Rattle.rules.specs.Mesh.{span, members}
 use Rattle.rules.specs.Sharding.{Sharding, varying, firstIndexes}
 use Rattle.rules.specs.Spread.{StateOf, Faithful, addWords, from}
-use Rattle.rules.specs.Collectives.{Step, owner, within, after}
-use Rattle.rules.specs.PlanFile.{Plan, announced}
-use Rattle.rules.specs.Factor.{scaled, reducedAxes, stepFactor, factorOf, factorAfter}
-use Rattle.laws.specs.Demands.{FactorOne}
+use Rattle.rules.specs.Collectives.{Step, owner, within}
+use Rattle.rules.specs.Factor.{scaled, reducedAxes, stepFactor}
 use Rattle.laws.proofs.Lists.{all-map, in-right, without-all, below-length}
 use Rattle.laws.proofs.Shapes.{Cut, uncut, cut, piece-below, below-owner, below-within, first-owner}
 use Rattle.laws.proofs.Sources.{WordsIn}
@@ -85,16 +82,3 @@ unscaled {mesh} c words F = record {
 pub step-one : (mesh : List ℕ) (t : Step) (s : Sharding) → ((a : ℕ) → In a (reducedAxes t) → In a (s .unreduced)) → stepFactor mesh t s ≡ 1
 step-one mesh t s h =
     ap (span mesh) (without-all (varying s) (reducedAxes t) (λ a i. in-right a (flat (s .dims)) (s .unreduced) (h a i)))
-
--- Where every axis that is reduced was unreduced just before its step, the factor is 1.
-pub factor-one : FactorOne
-unfolding factorAfter announced
-factor-one p k h = go k (p .steps) (p .start) h
-  where
-    go : (k : ℕ) (ts : List Step) (s : Sharding)
-        → ((j : ℕ) (t : Step) (rest : List Step) → j < k → drop j ts ≡ t ∷ rest → (a : ℕ) → In a (reducedAxes t) → In a (inTurn after (take j ts) s .unreduced))
-        → factorOf (p .mesh) (take k ts) s ≡ 1
-    go zero ts s h = refl
-    go (suc k) [] s h = refl
-    go (suc k) (t ∷ ts) s h =
-        ap₂ _*_ (step-one (p .mesh) t s (h 0 t ts (omega arith) refl)) (go k ts (after t s) (λ j t′ rest l e. h (suc j) t′ rest (omega arith) e))

@@ -7,11 +7,12 @@ use mathlib.Core.List.{List, [], _∷_, _++_}
 use native.Mathlib.Omega.{arith}
 use lib.ListN.{length, take, drop, take-append-drop}
 use lib.Dec.{T, T-not, eqb, ltb, leb, eqb→eq, eqb-refl, ltb→lt, leb→le}
-use Rattle.rules.specs.Lists.{each, both, mem, ascending, In, Distinct}
+use Rattle.rules.specs.Lists.{each, both, flat, mem, ascending, In, Distinct}
 use Rattle.rules.specs.Collectives.{cutTail}
 use Rattle.rules.specs.Refusals.{Judged, accept, refuse, _>>=_, _>>_, needAt}
-use Rattle.rules.specs.PlanFile.{some, allBelow, fresh, same, isTail, increasingFrom, noneIn, allIn, twoDims, judgeNamed}
-use Rattle.laws.proofs.Lists.{T?, T-and, and-T, T→true, nT→false, mem-in, in-mem, not-mem, mem-not, of-ascending, in-ascending}
+use Rattle.rules.specs.PlanFile.{some, allBelow, fresh, same, isTail, increasingFrom, noneIn, allIn, twoDims, judgeKind, judgeNamed, judgeStep}
+use Rattle.laws.specs.Demands.{ReducesJudged}
+use Rattle.laws.proofs.Lists.{T?, T-and, and-T, T→true, nT→false, mem-in, in-mem, not-mem, mem-not, in-left, in-right, in-append, of-ascending, in-ascending}
 
 -- ---- tests in order
 
@@ -137,6 +138,20 @@ none-fresh L U d = ⊎-elim
     (λ t. T→true (noneIn L U) (off-noneIn L U (fresh-distinct U L t .1)) ∙ sym (T→true (fresh U L) t))
     (λ t. nT→false (noneIn L U) (λ n. T-not (fresh U L) t (distinct-fresh U L d (noneIn-off L U n))) ∙ sym (nT→false (fresh U L) (T-not (fresh U L) t)))
     (T? (fresh U L))
+
+-- when an all-reduce is 27
+pub reduces-judged : ReducesJudged
+unfolding judgeStep judgeKind
+reduces-judged = record {
+  passes = λ mesh sizes k L s n b i off.
+      let U : List ℕ = flat (s .dims) ++ s .replicated in
+      let t : T (noneIn L U) = off-noneIn L U (λ a l u. ⊎-elim (off a l .0) (off a l .1) (in-append a (flat (s .dims)) (s .replicated) u)) in
+      rw (T→true (some L) n, T→true (allBelow (length mesh) L) b, T→true (increasingFrom 0 L) i, T→true (noneIn L U) t) refl;
+  refused = λ mesh sizes k L s n b i a l u.
+      let U : List ℕ = flat (s .dims) ++ s .replicated in
+      let j : In a U = ⊎-elim (in-left a (flat (s .dims)) (s .replicated)) (in-right a (flat (s .dims)) (s .replicated)) u in
+      rw (T→true (some L) n, T→true (allBelow (length mesh) L) b, T→true (increasingFrom 0 L) i, nT→false (noneIn L U) (λ t. noneIn-off L U t a l j)) refl;
+}
 
 in-allIn : (L U : List ℕ) → ((a : ℕ) → In a L → In a U) → T (allIn L U)
 unfolding allIn

@@ -10,7 +10,7 @@ use Rattle.rules.specs.WorkedScatters as scattered
 use Rattle.rules.specs.WorkedFactors as factored
 use Rattle.laws.specs.Promises.{RulesPromise}
 use Rattle.laws.proofs.Whole as whole
-use Rattle.laws.proofs.Factor as factor
+use Rattle.laws.proofs.Judging as judging
 use Rattle.laws.proofs.Refusing as refusing
 use Rattle.laws.proofs.Repeats as repeats
 use Rattle.laws.proofs.Accepted as accepted
@@ -22,12 +22,13 @@ use Rattle.laws.proofs.Sums as sums
 pub rules-promise : RulesPromise
 rules-promise = record {
   whole-plan = whole.whole-plan;
-  factor-one = factor.factor-one;
+  factor-one = whole.factor-one;
   times-one = whole.times-one;
   spreadable = whole.spreadable;
   startable = whole.startable;
   room-limit = whole.room-limit;
   replicated-stays = whole.replicated-stays;
+  reduces-judged = judging.reduces-judged;
   steps-counted = accepted.steps-counted;
   blocks-come-back = repeats.blocks-come-back;
   room-in-one-pass = accepted.room-in-one-pass;

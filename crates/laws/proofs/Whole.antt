@@ -37,7 +37,7 @@ use Rattle.rules.specs.PlanFile.{Plan, judge, judgeBy, announced, announcedShap
 use Rattle.rules.specs.Factor.{scaled, reducedAxes, stepFactor, factorOf, factorAfter}
 use Rattle.rules.specs.Calls.{shardsAfter, lastState, runnable, Ran, runLeaves, runOf}
 use Rattle.rules.specs.Ledger.{fileOf}
-use Rattle.laws.specs.Demands.{Words, Fits, SpreadAt, returned, startWords, WholePlan, TimesOne, Spreadable, Startable, RoomLimit, ReplicatedStays}
+use Rattle.laws.specs.Demands.{Words, Fits, SpreadAt, returned, startWords, WholePlan, FactorOne, TimesOne, Spreadable, Startable, RoomLimit, ReplicatedStays}
 use Rattle.laws.proofs.Lists.{T?, T→true, in-left, in-right, distinct-split, length-tab, getD-tab}
 use Rattle.laws.proofs.Positions.{pos-of-lt, div-lt}
 use Rattle.laws.proofs.Buffers.{below-coords}
@@ -203,6 +203,30 @@ module _ {p : Plan} (a : AcceptedPlan p) where
       steps-spread (p .mesh) (p .sizes) (a .within .sizes-pos) (take k (p .steps)) (p .start) table _ (a .start-is)
       (fine-take (p .mesh) (p .sizes) k (p .start) (p .steps) (a .fine)) refl (λ x i bx bi. ws _) F
 
+  -- where every axis that an all-reduce names was unreduced just before its step; those of a reduce-scatter always were
+  plan-factor-one : (k : ℕ)
+      → ((j : ℕ) (L : List ℕ) (rest : List Step) → j < k → drop j (p .steps) ≡ allReduce L ∷ rest → (b : ℕ) → In b L → In b (announced p j .unreduced))
+      → factorAfter p k ≡ 1
+  unfolding factorAfter announced
+  plan-factor-one k h = go k (p .steps) (p .start) (a .fine) h
+    where
+      owed : (t : Step) (s : Sharding) → AcceptedStep (p .mesh) (p .sizes) t s → ((L : List ℕ) → t ≡ allReduce L → (b : ℕ) → In b L → In b (s .unreduced))
+          → (b : ℕ) → In b (reducedAxes t) → In b (s .unreduced)
+      owed (allSlice Ss) s f h b i = absurd i
+      owed (allGather Gs) s f h b i = absurd i
+      owed (allReduce L) s f h b i = h L refl b i
+      owed (allToAll source target L) s f h b i = absurd i
+      owed (reduceScatter Ss) s f h b i = f .by-kind .unreduced b i
+
+      go : (k : ℕ) (ts : List Step) (s : Sharding) → Fine (p .mesh) (p .sizes) s ts
+          → ((j : ℕ) (L : List ℕ) (rest : List Step) → j < k → drop j ts ≡ allReduce L ∷ rest → (b : ℕ) → In b L → In b (inTurn after (take j ts) s .unreduced))
+          → factorOf (p .mesh) (take k ts) s ≡ 1
+      go zero ts s f h = refl
+      go (suc k) [] s f h = refl
+      go (suc k) (t ∷ ts) s f h =
+          ap₂ _*_ (step-one (p .mesh) t s (owed t s (f .0) (λ L e. h 0 L ts (omega arith) (ap (λ (z : Step). z ∷ ts) e))))
+          (go k ts (after t s) (f .1) (λ j L rest l e. h (suc j) L rest (omega arith) e))
+
   -- 1 times a table that has a faithful spread is that table
   plan-times-one : (table : List ℕ → ℕ) (work : List ℕ) → Words work → SpreadAt p table 0 (shardsAfter p work 0 .words)
       → (k : ℕ) (w : StateOf ℕ) → SpreadAt p (scaled 1 table) k w → SpreadAt p table k w
@@ -286,7 +310,14 @@ whole-plan file p e work spare words =
       spreads = λ table F k h. plan-spreads a table work words F k;
       returns = λ f table F.
           faithful-cong (λ x i bx bi. sym (holds a file e work spare f x i bx bi)) (plan-spreads a table work words F (length (p .steps)));
+      same-table = λ f table F one.
+          plan-times-one a table work words F (length (p .steps)) (returned p (runOf file work spare))
+          (faithful-cong (λ x i bx bi. sym (holds a file e work spare f x i bx bi))
+          (subst (λ (c : ℕ). SpreadAt p (scaled c table) (length (p .steps)) (lastWords p work)) one (plan-spreads a table work words F (length (p .steps)))));
     }
+
+pub factor-one : FactorOne
+factor-one file p e = plan-factor-one (accepted file p e)
 
 pub times-one : TimesOne
 times-one file p e table work = plan-times-one (accepted file p e) table work

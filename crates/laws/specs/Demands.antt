@@ -7,14 +7,19 @@ use mathlib.Core.Logic.{_↔_, _⊎_}
 use mathlib.Core.Bool.{Bool}
 use mathlib.Core.List.{List, [], _∷_, _++_}
 use lib.ListN.{length, getD, take, drop, replicate}
+use lib.Dec.{T}
 use Rattle.rules.specs.Lists.{tab, flat, inTurn, product, total, In, Distinct, All, Below}
 use Rattle.rules.specs.Mesh.{devices, SameGroup, IsGroup}
 use Rattle.rules.specs.Spread.{StateOf, Faithful, addWords, heldBy}
 use Rattle.rules.specs.Sharding.{Sharding, shardSizes, IsSharding}
-use Rattle.rules.specs.Collectives.{Step, stepAxes, WithoutRemainder, stepped, after}
+use Rattle.rules.specs.Collectives.{Step, allReduce, stepAxes, WithoutRemainder, reduced, stepped, after}
 use Rattle.rules.specs.Limits.{mostRun}
 use Rattle.rules.specs.Refusals.{accept, refuse}
 use Rattle.rules.specs.PlanFile.{
+  some,
+  allBelow,
+  increasingFrom,
+  judgeStep,
   Record,
   plain,
   repeat,
@@ -30,7 +35,7 @@ use Rattle.rules.specs.PlanFile.{
   announcedShape,
   room,
 }
-use Rattle.rules.specs.Factor.{scaled, reducedAxes, factorAfter}
+use Rattle.rules.specs.Factor.{scaled, factorAfter}
 use Rattle.rules.specs.Calls.{checkOf, placeOf, groupsOf, groupsOrderedOf, shardsAfter, lastState, Ran, runOf}
 
 -- ---- demand 3
@@ -86,17 +91,20 @@ pub record Demand3 (p : Plan) (work spare : List ℕ) (ran : Ran) : Type 0 where
       → (k : ℕ) → k ≤ length (p .steps) → SpreadAt p (scaled (factorAfter p k) table) k (shardsAfter p work k .words)
   pub returns : Fits p work spare → (table : List ℕ → ℕ) → SpreadAt p table 0 (shardsAfter p work 0 .words)
       → SpreadAt p (scaled (factorAfter p (length (p .steps))) table) (length (p .steps)) (returned p ran)
+  -- and where that factor is 1, "of that same table" (01)
+  pub same-table : Fits p work spare → (table : List ℕ → ℕ) → SpreadAt p table 0 (shardsAfter p work 0 .words) → factorAfter p (length (p .steps)) ≡ 1
+      → SpreadAt p table (length (p .steps)) (returned p ran)
 
 -- "For any plan that the check passed, whatever its steps, and any two buffers": of 32-bit words
 abbrev pub WholePlan : Type 0
 WholePlan = (file : List ℕ) (p : Plan) → judge file ≡ accept p → (work spare : List ℕ) → Words work → Demand3 p work spare (runOf file work spare)
 
--- Where every axis that is reduced in the first k plain steps was unreduced just before its step, the factor is 1: of every plan, so that "that same table"
--- of document 01 is what demand 3 says of every plan that 01 accepts.
+-- Where every axis that an all-reduce names in the first k plain steps was unreduced just before its step, the factor is 1; so "that same table" of document
+-- 01 is what demand 3 says of every plan that 01 accepts.
 abbrev pub FactorOne : Type 0
 FactorOne =
-    (p : Plan) (k : ℕ)
-    → ((j : ℕ) (t : Step) (rest : List Step) → j < k → drop j (p .steps) ≡ t ∷ rest → (a : ℕ) → In a (reducedAxes t) → In a (announced p j .unreduced))
+    (file : List ℕ) (p : Plan) → judge file ≡ accept p → (k : ℕ)
+    → ((j : ℕ) (L : List ℕ) (rest : List Step) → j < k → drop j (p .steps) ≡ allReduce L ∷ rest → (a : ℕ) → In a L → In a (announced p j .unreduced))
     → factorAfter p k ≡ 1
 
 -- 1 times a table is that table, where a buffer of words is a faithful spread of it under an accepted plan's start: all its entries are words then.
@@ -124,6 +132,14 @@ RoomLimit = (file : List ℕ) (p : Plan) → judge file ≡ accept p → room p 
 -- 02, Ask 3: "No step changes the list": of every plan, after any number of its steps
 abbrev pub ReplicatedStays : Type 0
 ReplicatedStays = (p : Plan) (k : ℕ) → announced p k .replicated ≡ p .start .replicated
+
+-- 02, Ask 6: "27 for kind 3 is now given only for those two cases", an axis that "splits a dimension or is explicitly replicated": of an all-reduce of axes
+-- that pass 21, 22 and 26, whatever the sharding; and otherwise it is accepted.
+pub record ReducesJudged : Type 0 where
+  pub passes : (mesh sizes : List ℕ) (k : ℕ) (L : List ℕ) (s : Sharding) → T (some L) → T (allBelow (length mesh) L) → T (increasingFrom 0 L)
+      → ((a : ℕ) → In a L → ¬ In a (flat (s .dims)) × ¬ In a (s .replicated)) → judgeStep mesh sizes k (allReduce L) s ≡ accept (reduced L s)
+  pub refused : (mesh sizes : List ℕ) (k : ℕ) (L : List ℕ) (s : Sharding) → T (some L) → T (allBelow (length mesh) L) → T (increasingFrom 0 L)
+      → (a : ℕ) → In a L → In a (flat (s .dims)) ⊎ In a (s .replicated) → judgeStep mesh sizes k (allReduce L) s ≡ refuse 27 k
 
 -- ---- repeats (02, Ask 11)
 

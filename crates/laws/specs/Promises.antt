@@ -10,6 +10,7 @@ use Rattle.laws.specs.Demands.{
   Startable,
   RoomLimit,
   ReplicatedStays,
+  ReducesJudged,
   StepsCounted,
   BlocksComeBack,
   RoomInOnePass,
@@ -28,7 +29,7 @@ use Rattle.rules.specs.WorkedRepeats.{repeats, RepeatsRead}
 use Rattle.rules.specs.WorkedScatters.{scatters, ScattersRead}
 use Rattle.rules.specs.WorkedFactors.{factors, FactorsCounted}
 
--- Demand 3 for every plan that passes, where its factor is 1 and what 1 times a table is, and that it speaks of something; the room's limit; that the replicated list stays; what repeats come to; the
+-- Demand 3 for every plan that passes, where its factor is 1 and what 1 times a table is, and that it speaks of something; the room's limit; that the replicated list stays; when an all-reduce is 27; what repeats come to; the
 -- numbers of refusals; what readers that take less answer; a step's locality; what a group and a sum of words are; the ledger W1 to W10, and cases
 -- beside it; a file or a call for each refusal number; groups, a rearrangement and a spread on the smallest meshes; each limit from both sides; files of
 -- the later editions; files with repeats; files with reduce-scatters; files that reduce replicated axes.
@@ -40,6 +41,7 @@ pub record RulesPromise : Type 1 where
   pub startable : Startable
   pub room-limit : RoomLimit
   pub replicated-stays : ReplicatedStays
+  pub reduces-judged : ReducesJudged
   pub steps-counted : StepsCounted
   pub blocks-come-back : BlocksComeBack
   pub room-in-one-pass : RoomInOnePass

@@ -16,14 +16,14 @@ use Rattle.rules.specs.Collectives.{Step, allSlice, allGather, allReduce, stepA
 use Rattle.rules.specs.Limits.{mostAxes, mostDims, everyKind, mostDevices, mostWords, mostSteps, mostBytes, mostRun}
 use Rattle.rules.specs.Refusals.{Judged, accept, _>>=_, _>>_}
 use Rattle.rules.specs.PlanFile.{axesAllowed, rankAllowed, judgeSizes, same, some, allIn, plain, outermostAt, Plan, judge, announced, announcedShape}
-use Rattle.rules.specs.Factor.{scaled, stepFactor, factorOf, factorAfter}
+use Rattle.rules.specs.Factor.{stepFactor, factorOf, factorAfter}
 use Rattle.rules.specs.Calls.{shardsAfter, runOf}
 use Rattle.laws.specs.Demands.{Words, SpreadAt, returned, Demand3, Fits as RoomIn}
 use Rattle.laws.proofs.Lists.{T-and, T→true, both-length, of-without}
 use Rattle.laws.proofs.Judging.{accept-inj, need-inv, need-true, then-inv, allIn-in, same-eq}
 use Rattle.laws.proofs.Accepted.{SizesFacts, sizes-facts}
 use Rattle.laws.proofs.Factor.{step-one}
-use Rattle.laws.proofs.Whole.{whole-plan, times-one}
+use Rattle.laws.proofs.Whole.{whole-plan}
 use Rattle.records.specs.Records.{known, Records, outermost, outermostFrom, u16sBytes, listBytes, listsBytes, editionOf, replicatedBytes, shardingBytes, stepsBytes, stepsStart, fileLength, fileOf}
 use Rattle.records.specs.Writing.{judgeCounts, judgeSharding, judgeOrder, orderOf, judgeOpening, judgeRecords}
 use Rattle.records.specs.RoundTrip.{Shorts, AllShort, Fits}
@@ -213,9 +213,7 @@ module _ (mesh order sizes : List ℕ) (start goal : Sharding) where
     unfolding announced announcedShape shardsAfter
     arrives e table work spare words room spread =
         let d : Demand3 plan work spare (runOf (fileOf made) work spare) = whole-plan (fileOf made) plan e work spare words in
-        let r : SpreadAt plan table (length (plan .steps)) (returned plan (runOf (fileOf made) work spare)) =
-        times-one (fileOf made) plan e table work words spread (length (plan .steps)) _
-        (subst (λ (c : ℕ). SpreadAt plan (scaled c table) (length (plan .steps)) (returned plan (runOf (fileOf made) work spare))) one (d .returns room table spread)) in
+        let r = d .same-table room table spread one in
         subst (λ (z : Sharding). Faithful addWords mesh z (shardSizes mesh sizes (z .dims)) table
         (heldBy 0 (plan .order) mesh (shardSizes mesh sizes (z .dims)) (runOf (fileOf made) work spare .work))) ends r
 

@@ -5,10 +5,11 @@ use mathlib.Core.Path.{_≡_, refl}
 use mathlib.Core.List.{List, [], _∷_}
 use lib.ListN.{length}
 use Rattle.rules.specs.Lists.{tab, All, done, _&_}
+use Rattle.rules.specs.Collectives.{allSlice, allGather, allToAll}
 use Rattle.rules.specs.Refusals.{Judged, accept, refuse, _>>=_}
 use Rattle.rules.specs.PlanFile.{judge, judgeBy}
 use Rattle.rules.specs.Calls.{checkOf, runOf}
-use Rattle.rules.specs.Factor.{scaled, factorAfter}
+use Rattle.rules.specs.Factor.{scaled, reducedAxes, factorAfter}
 use Rattle.rules.specs.Ledger.{Case, checked, Holds, fileIn, fileOf, passed, leaves, w7}
 use Rattle.rules.specs.WorkedEditions.{second}
 use Rattle.rules.specs.WorkedRepeats.{slice, gather, reduce, times}
@@ -54,17 +55,31 @@ factors =
     ∷ checked (on2x3 (0 ∷ []) (reduceBoth ∷ [])) (passed 36 6 1 ([] ∷ []) [] (6 ∷ []))
     ∷ checked (on2x3 (0 ∷ []) (reduceSecond ∷ [])) (passed 36 6 1 ([] ∷ []) (0 ∷ []) (6 ∷ []))
     ∷ checked (on2x3 [] (reduceBoth ∷ sliceSecond ∷ [])) (passed 36 6 2 ((1 ∷ []) ∷ []) [] (2 ∷ []))
-    -- 26 goes first; 27 of an axis that splits a dimension, before or behind one that may be reduced, and again only while it does; 22 before both
+    -- 26 goes first, of an axis named twice too; 27 of an axis that splits a dimension, before or behind one that may be reduced, and again only while it
+    -- does; 22 before both
     ∷ checked (on2x3 [] ((3 ∷ 2 ∷ 1 ∷ 0 ∷ []) ∷ [])) (refuse 26 1)
+    ∷ checked (on2x3 [] ((3 ∷ 2 ∷ 0 ∷ 0 ∷ []) ∷ [])) (refuse 26 1)
     ∷ checked (on2x3 [] (sliceSecond ∷ reduceBoth ∷ [])) (refuse 27 2)
     ∷ checked (on2x3 (1 ∷ []) (slice ∷ reduceBoth ∷ [])) (refuse 27 2)
     ∷ checked (on2x3 [] (sliceSecond ∷ gatherSecond ∷ reduceBoth ∷ [])) (passed 36 6 3 ([] ∷ []) [] (6 ∷ []))
-    ∷ checked (on2x3 [] (sliceSecond ∷ (3 ∷ 2 ∷ 0 ∷ 2 ∷ []) ∷ [])) (refuse 22 2)
+    ∷ checked (on2x3 [] (sliceSecond ∷ (3 ∷ 2 ∷ 1 ∷ 2 ∷ []) ∷ [])) (refuse 22 2)
+    -- 27 of any dimension's axes, of size 1 too; where one axis splits and another is unreduced, a third may be reduced; so in a table of two dimensions
+    ∷ checked (fileOf (2 ∷ []) (2 ∷ 2 ∷ []) ([] ∷ (0 ∷ []) ∷ [] ∷ []) (reduce ∷ [])) (refuse 27 1)
+    ∷ checked (fileOf (1 ∷ 2 ∷ []) (2 ∷ []) ((0 ∷ []) ∷ [] ∷ []) (reduce ∷ [])) (refuse 27 1)
+    ∷ checked (fileOf (2 ∷ 2 ∷ 3 ∷ []) (2 ∷ []) ((0 ∷ []) ∷ (1 ∷ []) ∷ []) ((3 ∷ 1 ∷ 2 ∷ []) ∷ [])) (passed 12 12 1 ((0 ∷ []) ∷ []) (1 ∷ []) (1 ∷ []))
+    ∷ checked (fileOf (2 ∷ []) (2 ∷ 2 ∷ []) ([] ∷ [] ∷ [] ∷ []) (reduce ∷ [])) (passed 8 2 1 ([] ∷ [] ∷ []) [] (2 ∷ 2 ∷ []))
     -- 27 of an explicitly replicated axis, alone, beside an unreduced one, and beside one that nothing names
     ∷ checked (second [] [] (1 ∷ []) (reduceSecond ∷ [])) (refuse 27 1)
     ∷ checked (second [] (0 ∷ []) (1 ∷ []) (reduceBoth ∷ [])) (refuse 27 1)
     ∷ checked (second [] [] (1 ∷ []) (reduceBoth ∷ [])) (refuse 27 1)
     ∷ checked (second [] [] (0 ∷ []) (reduceBoth ∷ [])) (refuse 27 1)
+    -- of the second of two, of the third axis of a list, and where another axis splits a dimension; beside one, an axis that nothing names is reduced
+    ∷ checked (second [] [] (0 ∷ 1 ∷ []) (reduceSecond ∷ [])) (refuse 27 1)
+    ∷ checked (fileIn 2 (2 ∷ 2 ∷ 2 ∷ []) [] (1 ∷ []) ([] ∷ [] ∷ (2 ∷ []) ∷ []) ((3 ∷ 3 ∷ 0 ∷ 1 ∷ 2 ∷ []) ∷ [])) (refuse 27 1)
+    ∷ checked (second (0 ∷ []) [] (1 ∷ []) (reduceSecond ∷ [])) (refuse 27 1)
+    ∷ leaves (second [] [] (1 ∷ []) (reduce ∷ [])) 16 (tab 16 (λ k. k + 1)) (
+    10 ∷ 12 ∷ 14 ∷ 16 ∷ 18 ∷ 20 ∷ 22 ∷ 24 ∷ 10 ∷ 12 ∷ 14 ∷ 16 ∷ 18 ∷ 20 ∷ 22 ∷ 24 ∷ []
+    )
     -- inside a block, in each of its rounds: the sharding comes back
     ∷ leaves (oneWord (times 3 (reduce ∷ []) ∷ [])) 2 (7 ∷ 7 ∷ []) (56 ∷ 56 ∷ [])
     -- under an order of the devices
@@ -77,7 +92,8 @@ pub factored : All Holds factors
 unfolding fileIn fileOf checkOf runOf
 factored =
     refl & refl & refl & refl & refl & refl & refl & refl & refl & refl
-    & refl & refl & refl & refl & refl & refl & refl & refl & refl & refl & done
+    & refl & refl & refl & refl & refl & refl & refl & refl & refl & refl
+    & refl & refl & refl & refl & refl & refl & refl & refl & refl & done
 
 -- ---- factors
 
@@ -99,6 +115,7 @@ pub record FactorsCounted : Type 0 where
   pub others : factorsOf (on2x3 [] (sliceSecond ∷ reduce ∷ gatherSecond ∷ reduceSecond ∷ [])) ≡ accept (1 ∷ 1 ∷ 2 ∷ 2 ∷ 6 ∷ [])
   pub scatter : factorsOf (on2x3 (0 ∷ []) ((5 ∷ 1 ∷ 0 ∷ []) ∷ reduceSecond ∷ [])) ≡ accept (1 ∷ 1 ∷ 3 ∷ [])
   pub block : factorsOf (oneWord (times 3 (reduce ∷ []) ∷ [])) ≡ accept (1 ∷ 2 ∷ 4 ∷ 8 ∷ [])
+  pub moves : (reducedAxes (allSlice ((0 ∷ []) ∷ [])) ≡ []) × (reducedAxes (allGather ((0 ∷ []) ∷ [])) ≡ []) × (reducedAxes (allToAll 0 1 (0 ∷ [])) ≡ [])
   pub block-of-32 : _>>=_ (judge (oneWord (times 32 (reduce ∷ []) ∷ []))) (λ p. accept (factorAfter p 32)) ≡ accept 4294967296
   -- a file that the judgement refuses has none
   pub none : factorsOf (on2x3 [] (slice ∷ reduce ∷ [])) ≡ refuse 27 2
@@ -120,6 +137,7 @@ factors-counted = record {
   others = refl;
   scatter = refl;
   block = refl;
+  moves = (refl, refl, refl);
   block-of-32 = refl;
   none = refl;
   modulo = refl;
