@@ -15,7 +15,7 @@ use Rattle.rules.specs.PlanFile.{Plan, announced}
 use Rattle.rules.specs.Factor.{scaled, reducedAxes, stepFactor, factorOf, factorAfter}
 use Rattle.laws.specs.Demands.{FactorOne}
 use Rattle.laws.proofs.Lists.{all-map, in-right, without-all, below-length}
-use Rattle.laws.proofs.Shapes.{Cut, uncut, cut, piece-below, below-owner, below-within, first-owner}
+use Rattle.laws.proofs.Shapes.{Cut, piece-below, below-owner, below-within, owner-index}
 use Rattle.laws.proofs.Sources.{WordsIn}
 use Rattle.laws.proofs.Sums.{sum-const, sum-mod, all-members, addWords-lt}
 
@@ -53,23 +53,8 @@ module _ {mesh : List ℕ} {s : Sharding} {shape : List ℕ} {table : List ℕ �
       → (x : List ℕ) → Below x mesh → (i : List ℕ) → Below i sizes → table i < 2 ^ 32
   table-words c once of-mesh x bx i bi =
       let Gs : List (List ℕ) = s .dims in
-      subst (λ (j : List ℕ). table j < 2 ^ 32)
-      (ap (λ (l : List (List ℕ)). from (firstIndexes mesh l shape (owner mesh Gs shape i x)) (within shape i)) (sym (joined-none Gs))
-      ∙ first-owner mesh (map (λ G. []) Gs) x c bi (λ a u. rw (below-length bx) (of-mesh a u)) (λ a u. unnamed Gs a) once
-      ∙ from-zero c bi)
+      subst (λ (j : List ℕ). table j < 2 ^ 32) (owner-index mesh x c bi (λ a u. rw (below-length bx) (of-mesh a u)) once)
       (block-word (owner mesh Gs shape i x) (within shape i) (below-owner mesh c bi bx) (below-within mesh c bi))
-    where
-      joined-none : (Gs : List (List ℕ)) → each _++_ (map (λ G. []) Gs) Gs ≡ Gs
-      joined-none [] = refl
-      joined-none (G ∷ Gs) = ap (λ (l : List (List ℕ)). G ∷ l) (joined-none Gs)
-
-      unnamed : (Gs : List (List ℕ)) (a : ℕ) → ¬ In a (flat (map (λ (G : List ℕ). []) Gs))
-      unnamed (G ∷ Gs) a i = unnamed Gs a i
-
-      from-zero : {Gs : List (List ℕ)} {wholes pieces i : List ℕ} → Cut mesh Gs wholes pieces → Below i wholes
-          → from (firstIndexes mesh (map (λ (G : List ℕ). []) Gs) wholes x) i ≡ i
-      from-zero uncut none = refl
-      from-zero {wholes = n ∷ wholes} (cut e c) (more {x = j} {xs = i} l b) = ap₂ _∷_ (ap (λ (z : ℕ). z + j) (zero-mul n) ∙ zero-add j) (from-zero c b)
 
 -- a spread of 1 times a table of words is one of the table
 pub unscaled : {mesh : List ℕ} {s : Sharding} {sizes shape : List ℕ} {table : List ℕ → ℕ} {w : StateOf ℕ} → Cut mesh (s .dims) sizes shape

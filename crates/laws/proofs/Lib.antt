@@ -9,6 +9,7 @@ pub mod Fronts
 pub mod Sums
 pub mod Sources
 pub mod Factor
+pub mod Tables
 pub mod Spreads
 pub mod Judging
 pub mod Orders
