@@ -1,4 +1,4 @@
--- A table times a number: factors are multiplied (`scaled-scaled`); a table that has a faithful spread of words is one of words at all its indexes
+-- A table times a number: factors are multiplied (`scaled-scaled`), and count modulo 2 ^ 32 (`scaled-mod`); a table that has a faithful spread of words is one of words at all its indexes
 -- (`table-words`), so that 1 times it is the table (`unscaled`); and steps that reduce unreduced axes alone have factor 1 (`factor-one`). Assumes nothing.
 use Prim.Native.Nat.{ℕ, zero, suc, _+_, _*_, _%_, _^_, _<_}
 use mathlib.Core.Path.{_≡_, refl, sym, ap, ap₂, _∙_, subst, fun-ext}
@@ -29,6 +29,12 @@ pub scaled-scaled : (c d : ℕ) (table : List ℕ → ℕ) → scaled c (scaled 
 unfolding scaled
 scaled-scaled c d table =
     fun-ext (λ i. mul-mod c (d * table i) (2 ^ 32) ∙ ap (λ (z : ℕ). z % 2 ^ 32) (sym (mul-assoc c d (table i)) ∙ ap (λ (z : ℕ). z * table i) (mul-comm c d)))
+
+-- a factor counts modulo 2 ^ 32
+pub scaled-mod : (c : ℕ) (table : List ℕ → ℕ) (i : List ℕ) → scaled (c % 2 ^ 32) table i ≡ scaled c table i
+unfolding scaled
+scaled-mod c table i =
+    ap (λ (z : ℕ). z % 2 ^ 32) (mul-comm (c % 2 ^ 32) (table i)) ∙ mul-mod (table i) c (2 ^ 32) ∙ ap (λ (z : ℕ). z % 2 ^ 32) (mul-comm (table i) c)
 
 -- ---- 1 times a table
 

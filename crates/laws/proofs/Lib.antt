@@ -23,6 +23,8 @@ pub mod Readers
 pub mod Room
 pub mod Next
 pub mod Whole
+pub mod Apart
+pub mod Routes
 pub mod Refusing
 pub mod Locality
 pub mod Stands

@@ -11,6 +11,7 @@ use Rattle.rules.specs.WorkedFactors as factored
 use Rattle.laws.specs.Promises.{RulesPromise}
 use Rattle.laws.proofs.Whole as whole
 use Rattle.laws.proofs.Factor as factor
+use Rattle.laws.proofs.Routes as routes
 use Rattle.laws.proofs.Refusing as refusing
 use Rattle.laws.proofs.Repeats as repeats
 use Rattle.laws.proofs.Accepted as accepted
@@ -26,6 +27,10 @@ rules-promise = record {
   times-one = whole.times-one;
   spreadable = whole.spreadable;
   startable = whole.startable;
+  routes-meet = routes.routes-meet;
+  routes-meet-unreduced = routes.routes-meet-unreduced;
+  gather-undoes-slice = routes.gather-undoes-slice;
+  there-and-back = routes.there-and-back;
   room-limit = whole.room-limit;
   replicated-stays = whole.replicated-stays;
   steps-counted = accepted.steps-counted;

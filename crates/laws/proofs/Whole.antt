@@ -196,7 +196,7 @@ module _ {p : Plan} (a : AcceptedPlan p) where
       steps-shape (p .mesh) (p .sizes) (a .within .sizes-pos) addWords (take k (p .steps)) (p .start) _ (a .start-is)
       (fine-take (p .mesh) (p .sizes) k (p .start) (p .steps) (a .fine)) refl
 
-  plan-spreads : (table : List ℕ → ℕ) (work : List ℕ) → Words work → SpreadAt p table 0 (shardsAfter p work 0 .words)
+  pub plan-spreads : (table : List ℕ → ℕ) (work : List ℕ) → Words work → SpreadAt p table 0 (shardsAfter p work 0 .words)
       → (k : ℕ) → SpreadAt p (scaled (factorAfter p k) table) k (shardsAfter p work k .words)
   unfolding shardsAfter announcedShape announced heldBy factorAfter
   plan-spreads table work ws F k =
@@ -238,7 +238,7 @@ module _ {p : Plan} (a : AcceptedPlan p) where
     unfolding shardsAfter
     begins = refl
 
-    in-order : (k : ℕ) (t : Step) (rest : List Step) → drop k (p .steps) ≡ t ∷ rest
+    pub in-order : (k : ℕ) (t : Step) (rest : List Step) → drop k (p .steps) ≡ t ∷ rest
         → shardsAfter p work (k + 1) ≡ stepped addWords (p .mesh) t (shardsAfter p work k)
     unfolding shardsAfter
     in-order k t rest d = in-turn-next (stepped addWords (p .mesh)) k t (p .steps) rest _ d

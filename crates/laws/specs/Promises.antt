@@ -18,6 +18,7 @@ use Rattle.laws.specs.Demands.{
   GroupByPosition,
   SumOfWords,
 }
+use Rattle.laws.specs.Routes.{RoutesMeet, RoutesMeetUnreduced, GatherUndoesSlice, ThereAndBack}
 use Rattle.rules.specs.Ledger.{Holds, ledger, beside as besideIt}
 use Rattle.rules.specs.WorkedRefusals.{refusals}
 use Rattle.rules.specs.WorkedGroups.{InGroups}
@@ -38,6 +39,10 @@ pub record RulesPromise : Type 1 where
   pub times-one : TimesOne
   pub spreadable : Spreadable
   pub startable : Startable
+  pub routes-meet : RoutesMeet
+  pub routes-meet-unreduced : RoutesMeetUnreduced
+  pub gather-undoes-slice : GatherUndoesSlice
+  pub there-and-back : ThereAndBack
   pub room-limit : RoomLimit
   pub replicated-stays : ReplicatedStays
   pub steps-counted : StepsCounted
