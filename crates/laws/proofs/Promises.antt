@@ -8,6 +8,7 @@ use Rattle.rules.specs.WorkedOrders as cabled
 use Rattle.rules.specs.WorkedRepeats as repeated
 use Rattle.rules.specs.WorkedScatters as scattered
 use Rattle.rules.specs.WorkedFactors as factored
+use Rattle.rules.specs.WorkedRoutes as routed
 use Rattle.laws.specs.Promises.{RulesPromise}
 use Rattle.laws.proofs.Whole as whole
 use Rattle.laws.proofs.Factor as factor
@@ -29,6 +30,7 @@ rules-promise = record {
   startable = whole.startable;
   routes-meet = routes.routes-meet;
   routes-meet-unreduced = routes.routes-meet-unreduced;
+  table-decides = routes.table-decides;
   gather-undoes-slice = routes.gather-undoes-slice;
   there-and-back = routes.there-and-back;
   room-limit = whole.room-limit;
@@ -62,4 +64,6 @@ rules-promise = record {
   scatters-read = scattered.scatters-read;
   factored = factored.factored;
   factors-counted = factored.factors-counted;
+  routed = routed.routed;
+  routes-compared = routed.routes-compared;
 }

@@ -1,14 +1,14 @@
 -- Two routes, one table (document 02, Ask 14). The last state of an accepted plan, from a faithful spread, is a function of what two routes have in common
--- (`last-is`), so they meet (`routes-meet-unreduced`, `routes-meet`). An all-gather undoes the all-slice of its lists (`gather-undoes-slice`,
+-- (`last-is`), so they meet (`routes-meet-unreduced`, `routes-meet`); with no unreduced axes it is made of the table's blocks (`table-decides`). An all-gather undoes the all-slice of its lists (`gather-undoes-slice`,
 -- `there-and-back`). Assumes nothing.
 use Prim.Native.Nat.{ℕ, zero, _+_, _-_, _*_, _%_, _^_, _<_, _≤_}
 use mathlib.Core.Path.{_≡_, refl, sym, ap, ap₂, _∙_, subst}
-use mathlib.Core.List.{List, [], _∷_, _++_}
+use mathlib.Core.List.{List, [], _∷_, _++_, map}
 use native.Mathlib.Omega.{arith}
 use lib.ListN.{length, getD, take, drop, replicate, length-append, length-replicate}
 use lib.Seq.{take-at, drop-drop, length-take-le}
 use Rattle.rules.specs.Lists.{each, flat, inTurn, product, In, Below}
-use Rattle.rules.specs.Mesh.{devices}
+use Rattle.rules.specs.Mesh.{devices, members}
 use Rattle.rules.specs.Sharding.{Sharding, varying, shardSizes, firstIndexes, IsSharding}
 use Rattle.rules.specs.Spread.{StateOf, Faithful, addWords, from, tabulateBy, heldBy}
 use Rattle.rules.specs.Collectives.{Step, allSlice, allGather, sliced, gathered, cutTail, owner, within, after, slicePlace, gatherPlace, single, sources, made, Shards, stepped}
@@ -17,7 +17,7 @@ use Rattle.rules.specs.PlanFile.{Plan, judge, announced, announcedShape}
 use Rattle.rules.specs.Factor.{scaled, factorAfter}
 use Rattle.rules.specs.Calls.{shardsAfter, lastState, Ran, runOf}
 use Rattle.laws.specs.Demands.{Words, Fits, SpreadAt, startWords}
-use Rattle.laws.specs.Routes.{lastSharding, endWords, wholeFactor, TwoRoutes, EqualEnds, EndsAgree, RoutesMeet, RoutesMeetUnreduced, GivesBack, GatherUndoesSlice, RunGivesBack, ThereAndBack}
+use Rattle.laws.specs.Routes.{lastSharding, endWords, wholeFactor, NoneUnreduced, LeaveEqual, RoutesMeet, RoutesMeetUnreduced, TableDecides, GatherUndoesSlice, ThereAndBack}
 use Rattle.laws.proofs.Lists.{in-left, below-length}
 use Rattle.laws.proofs.Orders.{tabulate-same-by, tabulate-held-by, held-front}
 use Rattle.laws.proofs.Shapes.{Cut, owner-other, below-owner, owner-index}
@@ -70,36 +70,6 @@ module _ {p : Plan} (a : AcceptedPlan p) where
 
 -- ---- two routes
 
--- the mesh, order, sizes and start of a plan
-pub record Front : Type 0 where
-  pub mesh : List ℕ
-  pub order : List ℕ
-  pub sizes : List ℕ
-  pub start : Sharding
-
-abbrev frontOf : Plan → Front
-frontOf p = record { mesh = p .mesh; order = p .order; sizes = p .sizes; start = p .start }
-
-abbrev startShape : Front → List ℕ
-startShape t = shardSizes (t .mesh) (t .sizes) (t .start .dims)
-
-one-front : {p q : Plan} → TwoRoutes p q → frontOf p ≡ frontOf q
-one-front r = λ k. record { mesh = r .one-mesh k; order = r .one-order k; sizes = r .one-size k; start = r .one-start k }
-
-module _ {p q : Plan} (a : AcceptedPlan p) (b : AcceptedPlan q) (r : TwoRoutes p q) where
-  routes-end : (work work′ : List ℕ) → Words work → take (startWords p) work′ ≡ take (startWords p) work
-      → (table : List ℕ → ℕ) → SpreadAt p table 0 (shardsAfter p work 0 .words) → lastState p work ≡ lastState q work′
-  unfolding shardsAfter announcedShape announced
-  routes-end work work′ ws e table F =
-      let alike : Alike (q .mesh) (q .start) (announcedShape q 0) (heldBy 0 (q .order) (q .mesh) (announcedShape q 0) work) =
-      subst (λ (t : Front). Alike (t .mesh) (t .start) (startShape t) (heldBy 0 (t .order) (t .mesh) (startShape t) work)) (one-front r) (F .same) in
-      let front : take (startWords q) work ≡ take (startWords q) work′ =
-      subst (λ (t : Front). take (devices (t .mesh) * product (startShape t)) work ≡ take (devices (t .mesh) * product (startShape t)) work′) (one-front r) (sym e) in
-      let between : endOf (p .mesh) (p .order) (p .sizes) (p .start) (lastSharding p) (wholeFactor p % 2 ^ 32) work
-      ≡ endOf (q .mesh) (q .order) (q .sizes) (q .start) (lastSharding q) (wholeFactor q % 2 ^ 32) work =
-      λ k. endOf (r .one-mesh k) (r .one-order k) (r .one-size k) (r .one-start k) (r .one-end k) (r .one-factor k) work in
-      last-is a work ws (F .same) ∙ between ∙ sym (last-is b work ws alike) ∙ last-front b work work′ front
-
 -- a buffer of a state and zeros behind it is decided by the state and the length
 zeros-behind : (u v : List ℕ) (m n : ℕ) → u ≡ v → length (u ++ replicate m 0) ≡ length (v ++ replicate n 0) → u ++ replicate m 0 ≡ v ++ replicate n 0
 zeros-behind u v m n e l =
@@ -114,11 +84,12 @@ zeros-behind u v m n e l =
     ) in
     ap₂ (λ (w : List ℕ) (j : ℕ). w ++ replicate j 0) e k
 
-pub routes-meet-unreduced : RoutesMeetUnreduced
-routes-meet-unreduced f g p q ef eg r any work spare work′ spare′ ws e table F ends ends′ =
+-- runs to one last state leave it in front of zeros
+leave-equal : (p q : Plan) (work work′ : List ℕ) → (AcceptedPlan p → AcceptedPlan q → lastState p work ≡ lastState q work′) → LeaveEqual p q work work′
+leave-equal p q work work′ meet f g ef eg spare spare′ ends ends′ =
     let a : AcceptedPlan p = accepted f p ef in
     let b : AcceptedPlan q = accepted g q eg in
-    let same : lastState p work ≡ lastState q work′ = routes-end a b r work work′ ws e table F in
+    let same : lastState p work ≡ lastState q work′ = meet a b in
     let one = work-left a f ef work spare (run-ends f p ef work spare .0 ends) in
     let two = work-left b g eg work′ spare′ (run-ends g q eg work′ spare′ .0 ends′) in
     record {
@@ -133,8 +104,60 @@ routes-meet-unreduced f g p q ef eg r any work spare work′ spare′ ws e table
           ∙ sym two;
     }
 
+-- the mesh, order, sizes and start of a plan
+record Front : Type 0 where
+  pub mesh : List ℕ
+  pub order : List ℕ
+  pub sizes : List ℕ
+  pub start : Sharding
+
+abbrev frontOf : Plan → Front
+frontOf p = record { mesh = p .mesh; order = p .order; sizes = p .sizes; start = p .start }
+
+abbrev startShape : Front → List ℕ
+startShape t = shardSizes (t .mesh) (t .sizes) (t .start .dims)
+
+pub routes-meet-unreduced : RoutesMeetUnreduced
+unfolding shardsAfter announcedShape announced
+routes-meet-unreduced p q work work′ r s = leave-equal p q work work′ (λ a b.
+    let same : frontOf p ≡ frontOf q = λ k. record { mesh = r .one-mesh k; order = r .one-order k; sizes = r .one-size k; start = s .one-start k } in
+    let alike : Alike (q .mesh) (q .start) (announcedShape q 0) (heldBy 0 (q .order) (q .mesh) (announcedShape q 0) work) =
+    subst (λ (t : Front). Alike (t .mesh) (t .start) (startShape t) (heldBy 0 (t .order) (t .mesh) (startShape t) work)) same (s .faithful .same) in
+    let front : take (startWords q) work ≡ take (startWords q) work′ =
+    subst (λ (t : Front). take (devices (t .mesh) * product (startShape t)) work ≡ take (devices (t .mesh) * product (startShape t)) work′) same (s .one-front) in
+    let between : endOf (p .mesh) (p .order) (p .sizes) (p .start) (lastSharding p) (wholeFactor p % 2 ^ 32) work
+    ≡ endOf (q .mesh) (q .order) (q .sizes) (q .start) (lastSharding q) (wholeFactor q % 2 ^ 32) work =
+    λ k. endOf (r .one-mesh k) (r .one-order k) (r .one-size k) (s .one-start k) (r .one-end k) (r .one-factor k) work in
+    last-is a work (s .words) (s .faithful .same) ∙ between ∙ sym (last-is b work (s .words) alike) ∙ last-front b work work′ front)
+
 pub routes-meet : RoutesMeet
-routes-meet f g p q ef eg r none = routes-meet-unreduced f g p q ef eg r tt
+routes-meet p q work work′ r none s = routes-meet-unreduced p q work work′ r s
+
+-- ---- the table decides
+
+-- the buffer of a table's blocks, times a factor
+abbrev blocksOf : (mesh order sizes : List ℕ) (last : Sharding) (c : ℕ) (table : List ℕ → ℕ) → List ℕ
+blocksOf mesh order sizes last c table =
+    tabulateBy order mesh (shardSizes mesh sizes (last .dims))
+    (λ x i. scaled c table (from (firstIndexes mesh (last .dims) (shardSizes mesh sizes (last .dims)) x) i))
+
+-- where no axis is unreduced, each device has its block
+last-blocks : {p : Plan} → AcceptedPlan p → NoneUnreduced p → (work : List ℕ) → Words work → (table : List ℕ → ℕ)
+    → SpreadAt p table 0 (shardsAfter p work 0 .words) → lastState p work ≡ blocksOf (p .mesh) (p .order) (p .sizes) (lastSharding p) (wholeFactor p % 2 ^ 32) table
+unfolding announcedShape members addWords
+last-blocks {p} a none work ws table F =
+    last-buffer a work
+    ∙ tabulate-same-by (p .mesh) (p .order) (a .ordered) (lastShape p) (lastWords p work) _ (λ x i bx bi.
+    sym (ap (λ (U : List ℕ). addWords (map (λ y. lastWords p work y i) (members (p .mesh) U x))) none)
+    ∙ plan-spreads a table work ws F (length (p .steps)) .sums x i bx bi ∙ sym (scaled-mod (wholeFactor p) table _))
+
+pub table-decides : TableDecides
+table-decides p q work work′ r none ws ws′ table F G = leave-equal p q work work′ (λ a b.
+    let none′ : NoneUnreduced q = subst (λ (s : Sharding). s .unreduced ≡ []) (r .one-end) none in
+    let between : blocksOf (p .mesh) (p .order) (p .sizes) (lastSharding p) (wholeFactor p % 2 ^ 32) table
+    ≡ blocksOf (q .mesh) (q .order) (q .sizes) (lastSharding q) (wholeFactor q % 2 ^ 32) table =
+    λ k. blocksOf (r .one-mesh k) (r .one-order k) (r .one-size k) (r .one-end k) (r .one-factor k) table in
+    last-blocks a none work ws table F ∙ between ∙ sym (last-blocks b none′ work′ ws′ table G))
 
 -- ---- there and back
 

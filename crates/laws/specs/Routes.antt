@@ -27,13 +27,12 @@ endWords p = devices (p .mesh) * product (announcedShape p (length (p .steps)))
 abbrev pub wholeFactor : Plan → ℕ
 wholeFactor p = factorAfter p (length (p .steps))
 
--- "two .. plans with the same mesh, device order, table sizes and starting sharding, which end in the same sharding .. and whose factors in the sense of
--- Ask 6 are the same number modulo 2^32"
-pub record TwoRoutes (p q : Plan) : Type 0 where
+-- "two .. plans with the same mesh, device order, table sizes .., which end in the same sharding .. and whose factors in the sense of Ask 6 are the same
+-- number modulo 2^32"
+pub record OneEnd (p q : Plan) : Type 0 where
   pub one-mesh : p .mesh ≡ q .mesh
   pub one-order : p .order ≡ q .order
   pub one-size : p .sizes ≡ q .sizes
-  pub one-start : p .start ≡ q .start
   pub one-end : lastSharding p ≡ lastSharding q
   pub one-factor : wholeFactor p % 2 ^ 32 ≡ wholeFactor q % 2 ^ 32
 
@@ -48,23 +47,36 @@ pub record EqualEnds (p q : Plan) (work work′ : List ℕ) (ran ran′ : Ran) :
   pub fronts : take (endWords p) (ran .work) ≡ take (endWords p) (ran′ .work)
   pub buffers : length (ran .work) ≡ length (ran′ .work) → ran .work ≡ ran′ .work
 
--- "two accepted plans .. leave equal last states from the same faithful spread, where both runs reach the end": of plans with a further property. The
--- spread stands in front of two buffers of words, whose lengths may differ, as the rooms of the plans do; or in one.
-abbrev pub EndsAgree : (Plan → Type 0) → Type 0
-EndsAgree Further =
-    (f g : List ℕ) (p q : Plan) → judge f ≡ accept p → judge g ≡ accept q → TwoRoutes p q → Further p
-    → (work spare work′ spare′ : List ℕ) → Words work → take (startWords p) work′ ≡ take (startWords p) work
-    → (table : List ℕ → ℕ) → SpreadAt p table 0 (shardsAfter p work 0 .words)
-    → runOf f work spare .outcome ≡ accept tt → runOf g work′ spare′ .outcome ≡ accept tt
+-- "two accepted plans .. leave equal last states .., where both runs reach the end": the plans p and q, from the words in work and in work′
+abbrev pub LeaveEqual : (p q : Plan) (work work′ : List ℕ) → Type 0
+LeaveEqual p q work work′ =
+    (f g : List ℕ) → judge f ≡ accept p → judge g ≡ accept q
+    → (spare spare′ : List ℕ) → runOf f work spare .outcome ≡ accept tt → runOf g work′ spare′ .outcome ≡ accept tt
     → EqualEnds p q work work′ (runOf f work spare) (runOf g work′ spare′)
+
+-- "and starting sharding", "from the same faithful spread": it stands in front of two buffers of words, whose lengths may differ, as the rooms of the
+-- plans do; or in one and the same.
+pub record OneSpread (p q : Plan) (work work′ : List ℕ) : Type 0 where
+  pub one-start : p .start ≡ q .start
+  pub words : Words work
+  pub one-front : take (startWords p) work ≡ take (startWords p) work′
+  pub table : List ℕ → ℕ
+  pub faithful : SpreadAt p table 0 (shardsAfter p work 0 .words)
 
 -- The sentence as it stands, "which end in the same sharding with no unreduced axes"
 abbrev pub RoutesMeet : Type 0
-RoutesMeet = EndsAgree NoneUnreduced
+RoutesMeet = (p q : Plan) (work work′ : List ℕ) → OneEnd p q → NoneUnreduced p → OneSpread p q work work′ → LeaveEqual p q work work′
 
--- and beyond it: "unreduced axes or not". No step moves a word along an axis that stays unreduced to the end, so the parts of the sums stay apart.
+-- and beyond it, "unreduced axes or not": no step moves a word along an axis that stays unreduced to the end, so the parts of the sums stay apart.
 abbrev pub RoutesMeetUnreduced : Type 0
-RoutesMeetUnreduced = EndsAgree (λ p. Unit {0})
+RoutesMeetUnreduced = (p q : Plan) (work work′ : List ℕ) → OneEnd p q → OneSpread p q work work′ → LeaveEqual p q work work′
+
+-- Where no axis is unreduced at the end, the table decides: the starts may differ, and the spreads of it.
+abbrev pub TableDecides : Type 0
+TableDecides =
+    (p q : Plan) (work work′ : List ℕ) → OneEnd p q → NoneUnreduced p → Words work → Words work′
+    → (table : List ℕ → ℕ) → SpreadAt p table 0 (shardsAfter p work 0 .words) → SpreadAt q table 0 (shardsAfter q work′ 0 .words)
+    → LeaveEqual p q work work′
 
 -- ---- there and back
 
