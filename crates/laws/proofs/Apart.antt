@@ -1,7 +1,7 @@
 -- Axes that stay unreduced to the end keep devices apart: no step names one (`still-unreduced`), so what steps leave on a device goes by the devices that
 -- agree with it along these axes (`steps-local`). With the words of the others set to 0, the word that a device has after the steps is the factor times
 -- the word of a table that is made of the words before them (`steps-word`). Assumes nothing.
-use Prim.Native.Nat.{ℕ, zero, _*_, _%_, _^_, _<_}
+use Prim.Native.Nat.{ℕ, zero, _%_, _^_, _<_}
 use mathlib.Core.Path.{_≡_, refl, sym, ap, ap₂, _∙_, subst, fun-ext}
 use mathlib.Core.Bool.{Bool, true, false}
 use mathlib.Core.List.{List, [], _∷_, map}
@@ -26,8 +26,6 @@ use Rattle.rules.specs.Collectives.{
   reduced,
   after,
   shapeAfter,
-  Place,
-  word,
   Sources,
   sources,
   made,
@@ -37,7 +35,7 @@ use Rattle.rules.specs.Factor.{scaled, factorOf}
 use Rattle.laws.proofs.Lists.{T→true, nT→false, in-left, in-right, distinct-split, of-without, not-in-without, below-length}
 use Rattle.laws.proofs.Positions.{position-agree, position-lt, below-member, position-member}
 use Rattle.laws.proofs.Groups.{group-by-position}
-use Rattle.laws.proofs.Sums.{sum-one, sumOver, sumOver-positions, addWords-members}
+use Rattle.laws.proofs.Sums.{sum-one, sumOver-positions, addWords-members}
 use Rattle.laws.proofs.Sources.{Ready, WordsIn, step-local, step-words}
 use Rattle.laws.proofs.Tables.{Alike, sumsTable, sums-spread}
 use Rattle.laws.proofs.Steps.{AcceptedStep, ToAll, flat-only, Varies, varies, sharding-cut, gather-sharding, to-all-sharding, after-sharding, after-shape}

@@ -1,12 +1,13 @@
--- A table times a number: factors are multiplied (`scaled-scaled`), and count modulo 2 ^ 32 (`scaled-mod`); a table that has a faithful spread of words is one of words at all its indexes
--- (`table-words`), so that 1 times it is the table (`unscaled`); and steps that reduce unreduced axes alone have factor 1 (`factor-one`). Assumes nothing.
-use Prim.Native.Nat.{ℕ, zero, suc, _+_, _*_, _%_, _^_, _<_}
+-- A table times a number: factors are multiplied (`scaled-scaled`), and count modulo 2 ^ 32 (`scaled-mod`); a table that has a faithful spread of words is
+-- one of words at all its indexes (`table-words`), so that 1 times it is the table (`unscaled`); and steps that reduce unreduced axes alone have factor 1
+-- (`factor-one`). Assumes nothing.
+use Prim.Native.Nat.{ℕ, zero, suc, _*_, _%_, _^_, _<_}
 use mathlib.Core.Path.{_≡_, refl, sym, ap, ap₂, _∙_, subst, fun-ext}
-use mathlib.Core.List.{List, [], _∷_, _++_, map}
-use native.Mathlib.Nat.{mod-mod, mod-eq-of-lt, mul-comm, mul-assoc, one-mul, zero-mul, zero-add}
+use mathlib.Core.List.{List, [], _∷_, map}
+use native.Mathlib.Nat.{mod-mod, mod-eq-of-lt, mul-comm, mul-assoc, one-mul}
 use native.Mathlib.Omega.{arith}
 use lib.ListN.{length, take, drop}
-use Rattle.rules.specs.Lists.{each, inTurn, flat, without, In, Distinct, Below, none, more}
+use Rattle.rules.specs.Lists.{inTurn, flat, without, In, Distinct, Below}
 use Rattle.rules.specs.Mesh.{span, members}
 use Rattle.rules.specs.Sharding.{Sharding, varying, firstIndexes}
 use Rattle.rules.specs.Spread.{StateOf, Faithful, addWords, from}

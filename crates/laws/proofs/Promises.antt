@@ -31,6 +31,7 @@ rules-promise = record {
   routes-meet = routes.routes-meet;
   routes-meet-unreduced = routes.routes-meet-unreduced;
   table-decides = routes.table-decides;
+  equal-shards-spread = routes.equal-shards-spread;
   gather-undoes-slice = routes.gather-undoes-slice;
   there-and-back = routes.there-and-back;
   room-limit = whole.room-limit;

@@ -1,5 +1,6 @@
 -- Two routes, one table (document 02, Ask 14). The last state of an accepted plan, from a faithful spread, is a function of what two routes have in common
--- (`last-is`), so they meet (`routes-meet-unreduced`, `routes-meet`); with no unreduced axes it is made of the table's blocks (`table-decides`). An all-gather undoes the all-slice of its lists (`gather-undoes-slice`,
+-- (`last-is`), so they meet (`routes-meet-unreduced`, `routes-meet`); with no unreduced axes it is made of the table's blocks (`table-decides`). A state
+-- with equal shards along replicated axes is a spread (`equal-shards-spread`). An all-gather undoes the all-slice of its lists (`gather-undoes-slice`,
 -- `there-and-back`). Assumes nothing.
 use Prim.Native.Nat.{ℕ, zero, _+_, _-_, _*_, _%_, _^_, _<_, _≤_}
 use mathlib.Core.Path.{_≡_, refl, sym, ap, ap₂, _∙_, subst}
@@ -7,24 +8,24 @@ use mathlib.Core.List.{List, [], _∷_, _++_, map}
 use native.Mathlib.Omega.{arith}
 use lib.ListN.{length, getD, take, drop, replicate, length-append, length-replicate}
 use lib.Seq.{take-at, drop-drop, length-take-le}
-use Rattle.rules.specs.Lists.{each, flat, inTurn, product, In, Below}
-use Rattle.rules.specs.Mesh.{devices, members}
+use Rattle.rules.specs.Lists.{each, product, Below}
+use Rattle.rules.specs.Mesh.{coords, devices, members}
 use Rattle.rules.specs.Sharding.{Sharding, varying, shardSizes, firstIndexes, IsSharding}
-use Rattle.rules.specs.Spread.{StateOf, Faithful, addWords, from, tabulateBy, heldBy}
+use Rattle.rules.specs.Spread.{StateOf, addWords, from, tabulateBy, heldBy}
 use Rattle.rules.specs.Collectives.{Step, allSlice, allGather, sliced, gathered, cutTail, owner, within, after, slicePlace, gatherPlace, single, sources, made, Shards, stepped}
-use Rattle.rules.specs.Refusals.{accept}
-use Rattle.rules.specs.PlanFile.{Plan, judge, announced, announcedShape}
+use Rattle.rules.specs.PlanFile.{Plan, announced, announcedShape}
 use Rattle.rules.specs.Factor.{scaled, factorAfter}
-use Rattle.rules.specs.Calls.{shardsAfter, lastState, Ran, runOf}
+use Rattle.rules.specs.Calls.{shardsAfter, lastState}
 use Rattle.laws.specs.Demands.{Words, Fits, SpreadAt, startWords}
-use Rattle.laws.specs.Routes.{lastSharding, endWords, wholeFactor, NoneUnreduced, LeaveEqual, RoutesMeet, RoutesMeetUnreduced, TableDecides, GatherUndoesSlice, ThereAndBack}
+use Rattle.laws.specs.Routes.{lastSharding, endWords, wholeFactor, NoneUnreduced, LeaveEqual, RoutesMeet, RoutesMeetUnreduced, TableDecides, EqualShardsSpread, GatherUndoesSlice, ThereAndBack}
 use Rattle.laws.proofs.Lists.{in-left, below-length}
+use Rattle.laws.proofs.Buffers.{below-coords}
 use Rattle.laws.proofs.Orders.{tabulate-same-by, tabulate-held-by, held-front}
-use Rattle.laws.proofs.Shapes.{Cut, owner-other, below-owner, owner-index}
+use Rattle.laws.proofs.Shapes.{owner-other, below-owner, owner-index}
 use Rattle.laws.proofs.Sources.{made-single}
 use Rattle.laws.proofs.Factor.{scaled-mod}
-use Rattle.laws.proofs.Tables.{Alike, sumsTable}
-use Rattle.laws.proofs.Steps.{AcceptedStep, SliceFacts, Sliced, slice-sharding}
+use Rattle.laws.proofs.Tables.{Alike, sumsTable, sums-spread}
+use Rattle.laws.proofs.Steps.{AcceptedStep, Varies, varies, sharding-cut, Sliced, slice-sharding}
 use Rattle.laws.proofs.Accepted.{AcceptedPlan, accepted}
 use Rattle.laws.proofs.Room.{fine-take, state}
 use Rattle.laws.proofs.Next.{in-turn-next, step-accepted}
@@ -158,6 +159,18 @@ table-decides p q work work′ r none ws ws′ table F G = leave-equal p q work 
     ≡ blocksOf (q .mesh) (q .order) (q .sizes) (lastSharding q) (wholeFactor q % 2 ^ 32) table =
     λ k. blocksOf (r .one-mesh k) (r .one-order k) (r .one-size k) (r .one-end k) (r .one-factor k) table in
     last-blocks a none work ws table F ∙ between ∙ sym (last-blocks b none′ work′ ws′ table G))
+
+-- a state with equal shards along replicated axes is a spread of the table of its sums
+pub equal-shards-spread : EqualShardsSpread
+unfolding announcedShape announced
+equal-shards-spread file p e work alike =
+    let a : AcceptedPlan p = accepted file p e in
+    let v : Varies (p .mesh) (p .sizes) (p .start) = varies (p .mesh) (p .sizes) (p .start) (a .start-is) in
+    let z : List ℕ = coords (p .mesh) 0 in (
+      sumsTable (p .mesh) (p .start) (announcedShape p 0) z (shardsAfter p work 0 .words),
+      sums-spread (sharding-cut (p .mesh) (p .sizes) (a .within .sizes-pos) (p .start) (a .start-is)) (v .once) (v .of-mesh)
+          (below-coords (p .mesh) 0 (a .within .devices-pos)) alike,
+    )
 
 -- ---- there and back
 

@@ -18,7 +18,7 @@ use Rattle.laws.specs.Demands.{
   GroupByPosition,
   SumOfWords,
 }
-use Rattle.laws.specs.Routes.{RoutesMeet, RoutesMeetUnreduced, TableDecides, GatherUndoesSlice, ThereAndBack}
+use Rattle.laws.specs.Routes.{RoutesMeet, RoutesMeetUnreduced, TableDecides, EqualShardsSpread, GatherUndoesSlice, ThereAndBack}
 use Rattle.rules.specs.Ledger.{Holds, ledger, beside as besideIt}
 use Rattle.rules.specs.WorkedRefusals.{refusals}
 use Rattle.rules.specs.WorkedGroups.{InGroups}
@@ -44,6 +44,7 @@ pub record RulesPromise : Type 1 where
   pub routes-meet : RoutesMeet
   pub routes-meet-unreduced : RoutesMeetUnreduced
   pub table-decides : TableDecides
+  pub equal-shards-spread : EqualShardsSpread
   pub gather-undoes-slice : GatherUndoesSlice
   pub there-and-back : ThereAndBack
   pub room-limit : RoomLimit

@@ -5,9 +5,9 @@ use Prim.Native.Nat.{ℕ, _+_, _*_, _%_, _^_}
 use mathlib.Core.Path.{_≡_}
 use mathlib.Core.List.{List, [], _∷_}
 use lib.ListN.{length, take, drop}
-use Rattle.rules.specs.Lists.{product, Below}
-use Rattle.rules.specs.Mesh.{devices}
-use Rattle.rules.specs.Sharding.{Sharding}
+use Rattle.rules.specs.Lists.{product, In, Below}
+use Rattle.rules.specs.Mesh.{devices, Agree}
+use Rattle.rules.specs.Sharding.{Sharding, varying}
 use Rattle.rules.specs.Collectives.{Step, allSlice, allGather}
 use Rattle.rules.specs.Refusals.{accept}
 use Rattle.rules.specs.PlanFile.{Plan, judge, announced, announcedShape}
@@ -77,6 +77,14 @@ TableDecides =
     (p q : Plan) (work work′ : List ℕ) → OneEnd p q → NoneUnreduced p → Words work → Words work′
     → (table : List ℕ → ℕ) → SpreadAt p table 0 (shardsAfter p work 0 .words) → SpreadAt q table 0 (shardsAfter q work′ 0 .words)
     → LeaveEqual p q work work′
+
+-- What is to be seen of a buffer, and no more: where "devices that differ only on replicated axes hold equal shards", it is a faithful spread of a table.
+abbrev pub EqualShardsSpread : Type 0
+EqualShardsSpread =
+    (file : List ℕ) (p : Plan) → judge file ≡ accept p → (work : List ℕ)
+    → ((x y i : List ℕ) → Below x (p .mesh) → Below y (p .mesh) → Below i (announcedShape p 0) → Agree (λ a. In a (varying (p .start))) x y
+    → shardsAfter p work 0 .words x i ≡ shardsAfter p work 0 .words y i)
+    → (table : List ℕ → ℕ) × SpreadAt p table 0 (shardsAfter p work 0 .words)
 
 -- ---- there and back
 
