@@ -898,7 +898,8 @@ class Given(Case):
             self.assertEqual(named, {*typing.get_type_hints(call)}, name)
 
     def test_the_syntax_of_python_3_8(self):
-        for path in glob.glob(os.path.join(ROOT, "python", "*.py")) + glob.glob(os.path.join(ROOT, "tools", "*")):
+        patterns = [os.path.join(ROOT, *at) for at in (["python", "*.py"], ["examples", "*.py"], ["tools", "*"])]
+        for path in itertools.chain(*map(glob.glob, patterns)):
             with open(path, encoding="utf-8") as file:
                 source = file.read()
             if path.endswith(".py") or "python3" in source.split("\n")[0]:
@@ -936,6 +937,67 @@ class Refusals(Case):
         for number, _, example in self.rows():
             with self.subTest(example):
                 self.assertRefused(number, self.step(number), eval, example, names)
+
+
+class Routes(Case):
+    """Two routes, one table (document 02, Ask 14): pairs of crates/rules/specs/WorkedRoutes.antt, and the example."""
+
+    def assertMeet(self, words, one, other, apart=None):
+        """Two plans end in one sharding, and the same words stand there; from the words `apart` other ones do."""
+        self.assertEqual(check(one).sharding, check(other).sharding)
+        self.assertEqual(moved(one, words), moved(other, words))
+        if apart is not None:
+            self.assertNotEqual(moved(one, apart), moved(other, apart))
+
+    def test_there_and_back(self):
+        back = made([2], [2], Sharding([[]]), [AllSlice([[0]]), AllGather([[0]])])
+        self.assertMeet([1, 2, 1, 2], made([2], [2], Sharding([[]])), back, [1, 2, 3, 4])
+        self.assertEqual(moved(back, [1, 2, 3, 4]), [1, 4, 1, 4])
+
+    def test_by_rows_and_at_once(self):
+        by_rows = [AllSlice([[0], []]), AllToAll(0, 1, [0])]
+        files = [made([2], [2, 2], Sharding([[], []]), steps) for steps in (by_rows, [AllSlice([[], [0]])])]
+        self.assertMeet(2 * [1, 2, 3, 4], *files, range(1, 9))
+
+    def test_under_an_order(self):
+        files = [
+            made([2, 2], [4], Sharding([[]]), steps, [2, 0, 3, 1])
+            for steps in ([AllSlice([[0, 1]])], [AllSlice([[0]]), AllSlice([[1]])])
+        ]
+        self.assertMeet(4 * [1, 2, 3, 4], *files)
+        self.assertEqual(moved(files[0], 4 * [1, 2, 3, 4]), [2, 4, 1, 3])
+
+    def test_sums(self):
+        start = Sharding([[]], unreduced=[0])
+        files = [
+            made([2], [2], start, steps) for steps in ([AllReduce([0])], [ReduceScatter([[0]]), AllGather([[0]])])
+        ]
+        self.assertMeet([1, 2, 5, 6], *files)
+
+    def test_parts_that_stay_parts(self):
+        start = Sharding([[]], unreduced=[0])
+        files = [made([2, 2], [2], start, steps) for steps in ([], [AllSlice([[1]]), AllGather([[1]])])]
+        self.assertMeet([1, 2, 1, 2, 5, 6, 5, 6], *files, range(1, 9))
+
+    def example(self, *plans):
+        program = os.path.join(ROOT, "examples", "two_routes.py")
+        paths = [os.path.join(ROOT, "examples", plan) for plan in plans]
+        run_with = {**os.environ, "PYTHONPATH": os.path.join(ROOT, "python")}
+        done = subprocess.run(["python3", program, *paths], capture_output=True, text=True, env=run_with)
+        return done.returncode, done.stdout, done.stderr
+
+    def test_the_example(self):
+        with open(os.path.join(ROOT, "examples", "two_routes.out"), encoding="utf-8") as printed:
+            self.assertEqual(self.example(), (0, printed.read(), ""))
+
+    def test_the_example_on_files(self):
+        status, printed, _ = self.example("gather_1_then_0.plan", "gather_0_then_1_in_two_steps.plan")
+        self.assertEqual((status, printed.split("\n")[-3]), (0, "from a faithful spread: one last state"))
+        status, printed, _ = self.example("gather_1_then_0.plan", "gather_tail.plan")
+        self.assertEqual((status, printed.split("\n")[-2]), (1, "the theorem does not speak of these two"))
+        for wrong in ([], ["none.plan"], ["split_uneven_refused.plan"]):
+            status, printed, told = self.example("gather_tail.plan", *wrong)
+            self.assertEqual((status, printed, told.split(":")[0]), (2, "", "two_routes"))
 
 
 class Pictures(Case):

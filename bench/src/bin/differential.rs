@@ -10,6 +10,8 @@ mod boundary;
 mod lists;
 #[path = "differential/records.rs"]
 mod records;
+#[path = "differential/routes.rs"]
+mod routes;
 
 use bench::answers::{
     Axis, Device, Refusal, MOST_BYTES, MOST_DEPTH, MOST_DEVICES, MOST_ROOM, MOST_RUN, MOST_STEPS,
@@ -78,6 +80,7 @@ struct Tally {
     multiplied_by_0: usize,
     refusals: Met,
     records: records::Tally,
+    routes: routes::Tally,
 }
 
 /// The numbers of the refusals of files, of buffers and of other numbers.
@@ -189,6 +192,10 @@ fn compare(random: &mut Random, files: u64, runs: u64, tally: &mut Tally) -> Out
     }
     for faithful in [true, false] {
         compare_most_room(random, faithful, tally)?;
+    }
+    for _ in 0..runs {
+        let draft = random_draft(random);
+        routes::compare_routes(random, &draft, &mut tally.routes)?;
     }
     Ok(())
 }
@@ -743,6 +750,7 @@ impl fmt::Display for Tally {
             f,
             "    {multiplied} of these with a factor other than 1, {by_0} with 0"
         )?;
+        writeln!(f, "{}", self.routes)?;
         writeln!(
             f,
             "{met} of {REFUSALS} refusal numbers met: {}",

@@ -74,6 +74,15 @@ module _ {W : Type 0} (mesh shape : List ℕ) (num : List ℕ → ℕ) (find : �
       ∙ div-add-mod' p m in
       getD-tab k p _ z l ∙ ap (λ (j : ℕ). getD b j z) e ∙ sym (getD-take k b p z l))
 
+  -- states with the same words have the same buffer
+  pub laid-same : (v w : StateOf W) → ((x i : List ℕ) → Below x mesh → Below i shape → v x i ≡ w x i)
+      → tab (devices mesh * product shape) (λ p. v (find (p / product shape)) (coords shape (p % product shape)))
+      ≡ tab (devices mesh * product shape) (λ p. w (find (p / product shape)) (coords shape (p % product shape)))
+  laid-same v w h =
+      let m : ℕ = product shape in
+      tab-cong (devices mesh * m) _ _ (λ p l. h (find (p / m)) (coords shape (p % m))
+      (n .below (p / m) (div-lt (devices mesh) m l)) (below-coords shape (p % m) (mod-lt p (pos-of-lt (devices mesh) m l))))
+
 -- by place
 by-place : (mesh : List ℕ) → Numbering mesh (number mesh) (coords mesh)
 by-place mesh = record { num-lt = number-lt; found = coords-number; below = below-coords mesh; numbered = number-coords mesh }
@@ -93,11 +102,7 @@ module _ {W : Type 0} (mesh shape : List ℕ) where
   unfolding tabulate held
   tabulate-held z b h = held-laid mesh shape (number mesh) (coords mesh) (by-place mesh) z b h
 
-  -- states with the same words have the same buffer
   pub tabulate-same : (v w : StateOf W) → ((x i : List ℕ) → Below x mesh → Below i shape → v x i ≡ w x i)
       → tabulate mesh shape v ≡ tabulate mesh shape w
   unfolding tabulate
-  tabulate-same v w h =
-      let m : ℕ = product shape in
-      tab-cong (devices mesh * m) _ _ (λ p l. h (coords mesh (p / m)) (coords shape (p % m))
-      (below-coords mesh (p / m) (div-lt (devices mesh) m l)) (below-coords shape (p % m) (mod-lt p (pos-of-lt (devices mesh) m l))))
+  tabulate-same v w h = laid-same mesh shape (number mesh) (coords mesh) (by-place mesh) v w h

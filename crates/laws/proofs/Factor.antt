@@ -1,18 +1,19 @@
--- A table times a number: factors are multiplied (`scaled-scaled`); a table that has a faithful spread of words is one of words at all its indexes
--- (`table-words`), so that 1 times it is the table (`unscaled`); and a step that reduces unreduced axes alone has factor 1 (`step-one`). Assumes nothing.
-use Prim.Native.Nat.{ℕ, _+_, _*_, _%_, _^_, _<_}
+-- A table times a number: factors are multiplied (`scaled-scaled`), and count modulo 2 ^ 32 (`scaled-mod`); a table that has a faithful spread of words is
+-- one of words at all its indexes (`table-words`), so that 1 times it is the table (`unscaled`); and a step that reduces unreduced axes alone has factor 1
+-- (`step-one`). Assumes nothing.
+use Prim.Native.Nat.{ℕ, _*_, _%_, _^_, _<_}
 use mathlib.Core.Path.{_≡_, refl, sym, ap, ap₂, _∙_, subst, fun-ext}
-use mathlib.Core.List.{List, [], _∷_, _++_, map}
-use native.Mathlib.Nat.{mod-mod, mod-eq-of-lt, mul-comm, mul-assoc, one-mul, zero-mul, zero-add}
+use mathlib.Core.List.{List, [], _∷_, map}
+use native.Mathlib.Nat.{mod-mod, mod-eq-of-lt, mul-comm, mul-assoc, one-mul}
 use lib.ListN.{length}
-use Rattle.rules.specs.Lists.{each, flat, In, Distinct, Below, none, more}
+use Rattle.rules.specs.Lists.{flat, In, Distinct, Below}
 use Rattle.rules.specs.Mesh.{span, members}
 use Rattle.rules.specs.Sharding.{Sharding, varying, firstIndexes}
 use Rattle.rules.specs.Spread.{StateOf, Faithful, addWords, from}
 use Rattle.rules.specs.Collectives.{Step, owner, within}
 use Rattle.rules.specs.Factor.{scaled, reducedAxes, stepFactor}
 use Rattle.laws.proofs.Lists.{all-map, in-right, without-all, below-length}
-use Rattle.laws.proofs.Shapes.{Cut, uncut, cut, piece-below, below-owner, below-within, first-owner}
+use Rattle.laws.proofs.Shapes.{Cut, piece-below, below-owner, below-within, owner-index}
 use Rattle.laws.proofs.Sources.{WordsIn}
 use Rattle.laws.proofs.Sums.{sum-const, sum-mod, all-members, addWords-lt}
 
@@ -26,6 +27,12 @@ pub scaled-scaled : (c d : ℕ) (table : List ℕ → ℕ) → scaled c (scaled 
 unfolding scaled
 scaled-scaled c d table =
     fun-ext (λ i. mul-mod c (d * table i) (2 ^ 32) ∙ ap (λ (z : ℕ). z % 2 ^ 32) (sym (mul-assoc c d (table i)) ∙ ap (λ (z : ℕ). z * table i) (mul-comm c d)))
+
+-- a factor counts modulo 2 ^ 32
+pub scaled-mod : (c : ℕ) (table : List ℕ → ℕ) (i : List ℕ) → scaled (c % 2 ^ 32) table i ≡ scaled c table i
+unfolding scaled
+scaled-mod c table i =
+    ap (λ (z : ℕ). z % 2 ^ 32) (mul-comm (c % 2 ^ 32) (table i)) ∙ mul-mod (table i) c (2 ^ 32) ∙ ap (λ (z : ℕ). z % 2 ^ 32) (mul-comm (table i) c)
 
 -- ---- 1 times a table
 
@@ -50,23 +57,8 @@ module _ {mesh : List ℕ} {s : Sharding} {shape : List ℕ} {table : List ℕ �
       → (x : List ℕ) → Below x mesh → (i : List ℕ) → Below i sizes → table i < 2 ^ 32
   table-words c once of-mesh x bx i bi =
       let Gs : List (List ℕ) = s .dims in
-      subst (λ (j : List ℕ). table j < 2 ^ 32)
-      (ap (λ (l : List (List ℕ)). from (firstIndexes mesh l shape (owner mesh Gs shape i x)) (within shape i)) (sym (joined-none Gs))
-      ∙ first-owner mesh (map (λ G. []) Gs) x c bi (λ a u. rw (below-length bx) (of-mesh a u)) (λ a u. unnamed Gs a) once
-      ∙ from-zero c bi)
+      subst (λ (j : List ℕ). table j < 2 ^ 32) (owner-index mesh x c bi (λ a u. rw (below-length bx) (of-mesh a u)) once)
       (block-word (owner mesh Gs shape i x) (within shape i) (below-owner mesh c bi bx) (below-within mesh c bi))
-    where
-      joined-none : (Gs : List (List ℕ)) → each _++_ (map (λ G. []) Gs) Gs ≡ Gs
-      joined-none [] = refl
-      joined-none (G ∷ Gs) = ap (λ (l : List (List ℕ)). G ∷ l) (joined-none Gs)
-
-      unnamed : (Gs : List (List ℕ)) (a : ℕ) → ¬ In a (flat (map (λ (G : List ℕ). []) Gs))
-      unnamed (G ∷ Gs) a i = unnamed Gs a i
-
-      from-zero : {Gs : List (List ℕ)} {wholes pieces i : List ℕ} → Cut mesh Gs wholes pieces → Below i wholes
-          → from (firstIndexes mesh (map (λ (G : List ℕ). []) Gs) wholes x) i ≡ i
-      from-zero uncut none = refl
-      from-zero {wholes = n ∷ wholes} (cut e c) (more {x = j} {xs = i} l b) = ap₂ _∷_ (ap (λ (z : ℕ). z + j) (zero-mul n) ∙ zero-add j) (from-zero c b)
 
 -- a spread of 1 times a table of words is one of the table
 pub unscaled : {mesh : List ℕ} {s : Sharding} {sizes shape : List ℕ} {table : List ℕ → ℕ} {w : StateOf ℕ} → Cut mesh (s .dims) sizes shape

@@ -53,7 +53,7 @@ use Rattle.laws.proofs.Buffers.{number-lt, coords-number, below-coords,
 
 module _ (mesh : List ℕ) where
   -- to be at the position of y is to have y's coordinates along the list
-  member-along : (L : List ℕ) (a : ℕ) {x y : List ℕ} → Distinct L → ((b : ℕ) → In b L → b < length mesh) → Below x mesh → Below y mesh → In a L
+  pub member-along : (L : List ℕ) (a : ℕ) {x y : List ℕ} → Distinct L → ((b : ℕ) → In b L → b < length mesh) → Below x mesh → Below y mesh → In a L
       → getD (member mesh L (position mesh L y) x) a 0 ≡ getD y a 0
   member-along (b ∷ L) a {x} {y} d r bx by i = go (ℕ-discrete a b) i (member-along L a (d .1) (λ c j. r c (inr j)) bx by)
     where

@@ -9,6 +9,7 @@ pub mod Fronts
 pub mod Sums
 pub mod Sources
 pub mod Factor
+pub mod Tables
 pub mod Spreads
 pub mod Judging
 pub mod Orders
@@ -22,6 +23,8 @@ pub mod Readers
 pub mod Room
 pub mod Next
 pub mod Whole
+pub mod Apart
+pub mod Routes
 pub mod Refusing
 pub mod Locality
 pub mod Stands

@@ -9,6 +9,8 @@ use mathlib.Core.List.{List, [], _∷_, _++_, map}
 use native.Mathlib.Decide.{ℕ-discrete}
 use native.Mathlib.Omega.{arith}
 use lib.ListN.{length, getD, take, length-map}
+use lib.Seq.{getD-take}
+use lib.Arith.{digits-lt}
 use lib.Dec.{T, leb, eqb, eqb→eq, eqb-refl}
 use Rattle.rules.specs.Lists.{tab, pick, product, mem, In, Distinct, Below}
 use Rattle.rules.specs.Mesh.{number, coords, devices, plainOrder, placeIn, deviceNumber, deviceCoords, grouped, listing, placesListed, Rearrangement}
@@ -16,7 +18,7 @@ use Rattle.rules.specs.Spread.{StateOf, tabulateBy, heldBy}
 use Rattle.rules.specs.Refusals.{accept}
 use Rattle.rules.specs.PlanFile.{Read, u16At, allBelow, fresh, same, rearranges, orderAllowed, orderAt}
 use Rattle.laws.proofs.Lists.{T?, T-and, T→true, nT→false, mem-in, not-mem, length-tab, getD-tab, few-distinct, at-in}
-use Rattle.laws.proofs.Buffers.{number-lt, coords-number, below-coords, number-coords, Numbering, laid-held, held-laid}
+use Rattle.laws.proofs.Buffers.{number-lt, coords-number, below-coords, number-coords, Numbering, laid-held, held-laid, laid-same}
 use Rattle.laws.proofs.Judging.{accept-inj, need-inv, allBelow-lt, fresh-distinct}
 
 -- ---- places of a list
@@ -141,6 +143,21 @@ module _ (mesh order : List ℕ) (r : Rearrangement (devices mesh) order) where
         → tabulateBy order mesh shape (heldBy z order mesh shape b) ≡ take (devices mesh * product shape) b
     unfolding tabulateBy heldBy
     tabulate-held-by z b h = held-laid mesh shape (deviceNumber order mesh) (deviceCoords order mesh) by-order z b h
+
+    pub tabulate-same-by : (v w : StateOf W) → ((x i : List ℕ) → Below x mesh → Below i shape → v x i ≡ w x i)
+        → tabulateBy order mesh shape v ≡ tabulateBy order mesh shape w
+    unfolding tabulateBy
+    tabulate-same-by v w h = laid-same mesh shape (deviceNumber order mesh) (deviceCoords order mesh) by-order v w h
+
+    -- buffers with one front hold one state
+    pub held-front : (z : W) (b c : List W) → take (devices mesh * product shape) b ≡ take (devices mesh * product shape) c
+        → {x i : List ℕ} → Below x mesh → Below i shape → heldBy z order mesh shape b x i ≡ heldBy z order mesh shape c x i
+    unfolding heldBy
+    held-front z b c e {x} {i} bx bi =
+        let k : ℕ = devices mesh * product shape in
+        let j : ℕ = deviceNumber order mesh x * product shape + number shape i in
+        let l : j < k = digits-lt (by-order .num-lt bx) (number-lt bi) in
+        sym (getD-take k b j z l) ∙ ap (λ (f : List W). getD f j z) e ∙ getD-take k c j z l
 
 -- ---- the listing
 

@@ -8,9 +8,11 @@ use Rattle.rules.specs.WorkedOrders as cabled
 use Rattle.rules.specs.WorkedRepeats as repeated
 use Rattle.rules.specs.WorkedScatters as scattered
 use Rattle.rules.specs.WorkedFactors as factored
+use Rattle.rules.specs.WorkedRoutes as routed
 use Rattle.laws.specs.Promises.{RulesPromise}
 use Rattle.laws.proofs.Whole as whole
 use Rattle.laws.proofs.Judging as judging
+use Rattle.laws.proofs.Routes as routes
 use Rattle.laws.proofs.Refusing as refusing
 use Rattle.laws.proofs.Repeats as repeats
 use Rattle.laws.proofs.Accepted as accepted
@@ -26,6 +28,12 @@ rules-promise = record {
   times-one = whole.times-one;
   spreadable = whole.spreadable;
   startable = whole.startable;
+  routes-meet = routes.routes-meet;
+  routes-meet-unreduced = routes.routes-meet-unreduced;
+  table-decides = routes.table-decides;
+  equal-shards-spread = routes.equal-shards-spread;
+  gather-undoes-slice = routes.gather-undoes-slice;
+  there-and-back = routes.there-and-back;
   room-limit = whole.room-limit;
   replicated-stays = whole.replicated-stays;
   reduces-judged = judging.reduces-judged;
@@ -58,4 +66,6 @@ rules-promise = record {
   scatters-read = scattered.scatters-read;
   factored = factored.factored;
   factors-counted = factored.factors-counted;
+  routed = routed.routed;
+  routes-compared = routed.routes-compared;
 }

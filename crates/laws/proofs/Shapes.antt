@@ -1,14 +1,15 @@
 -- Laws of sizes, first indexes and owners, dimension by dimension. `Cut` says that shards of the sizes `pieces` make up the sizes `wholes`. The main
 -- ones: an index of a piece is one of the whole (`piece-below`), the first index of a piece of a block is that under the joined lists
--- (`first-joined`), and an owner's first index leads back to the index asked for (`first-owner`). Assumes nothing.
+-- (`first-joined`), and an owner's first index leads back to the index asked for (`first-owner`, `owner-index`); from the first index of a device's block
+-- on, the owner is at that device's position (`owner-first`). Assumes nothing.
 use Prim.Native.Nat.{ℕ, suc, _+_, _*_, _/_, _<_}
-use mathlib.Core.Path.{_≡_, refl, ap, ap₂, _∙_, subst}
+use mathlib.Core.Path.{_≡_, refl, sym, ap, ap₂, _∙_, subst}
 use mathlib.Core.Logic.{_⊎_, inl, inr, ⊎-map, ⊎-elim}
-use mathlib.Core.List.{List, [], _∷_, _++_}
-use native.Mathlib.Nat.{mod-lt, div-add-mod', mul-comm}
+use mathlib.Core.List.{List, [], _∷_, _++_, map}
+use native.Mathlib.Nat.{mod-lt, div-add-mod', mul-comm, zero-mul, zero-add}
 use native.Mathlib.Omega.{arith}
 use lib.ListN.{length, getD}
-use lib.Arith.{digits-lt}
+use lib.Arith.{digits-lt, digits-div, digits-mod}
 use Rattle.rules.specs.Lists.{each, flat, In, Distinct, Below, none, more}
 use Rattle.rules.specs.Mesh.{span, position, member}
 use Rattle.rules.specs.Sharding.{firstIndexes}
@@ -28,6 +29,7 @@ use Rattle.laws.proofs.Positions.{
   position-member,
   member-member,
 }
+use Rattle.laws.proofs.Groups.{member-along}
 
 -- Along each dimension the size of a piece times the devices of the list is the size of the whole.
 pub data Cut (mesh : List ℕ) : List (List ℕ) → List ℕ → List ℕ → Type 0 where
@@ -133,6 +135,45 @@ module _ (mesh : List ℕ) where
       (first-agree (each _++_ ds Ss) pieces y z (λ a u. member-other mesh S (j / piece) z a
       (λ k. ⊎-elim (λ v. off a (of-first a k) (in-right a d (flat ds) v)) (λ v. s .2 a k v) (of-joined a ds Ss u))))
       ∙ first-owner ds x c b (λ a u. r a (of-rest a u)) (λ a u v. off a (of-rest a u) (in-right a d (flat ds) v)) (s .1))
+
+  -- of lists that are joined to none, it is the index itself
+  pub owner-index : {Gs : List (List ℕ)} {wholes pieces i : List ℕ} (x : List ℕ) → Cut mesh Gs wholes pieces → Below i wholes
+      → ((a : ℕ) → In a (flat Gs) → a < length x) → Distinct (flat Gs)
+      → from (firstIndexes mesh Gs pieces (owner mesh Gs pieces i x)) (within pieces i) ≡ i
+  owner-index {Gs} {pieces} {i} x c bi r once =
+      ap (λ (l : List (List ℕ)). from (firstIndexes mesh l pieces (owner mesh Gs pieces i x)) (within pieces i)) (sym (joined-none Gs))
+      ∙ first-owner (map (λ G. []) Gs) x c bi r (λ a u. unnamed Gs a) once ∙ from-zero c bi
+    where
+      joined-none : (Gs : List (List ℕ)) → each _++_ (map (λ G. []) Gs) Gs ≡ Gs
+      joined-none [] = refl
+      joined-none (G ∷ Gs) = ap (λ (l : List (List ℕ)). G ∷ l) (joined-none Gs)
+
+      unnamed : (Gs : List (List ℕ)) (a : ℕ) → ¬ In a (flat (map (λ (G : List ℕ). []) Gs))
+      unnamed (G ∷ Gs) a i = unnamed Gs a i
+
+      from-zero : {Gs : List (List ℕ)} {wholes pieces i : List ℕ} → Cut mesh Gs wholes pieces → Below i wholes
+          → from (firstIndexes mesh (map (λ (G : List ℕ). []) Gs) wholes x) i ≡ i
+      from-zero uncut none = refl
+      from-zero {wholes = n ∷ wholes} (cut e c) (more {x = j} {xs = i} l b) = ap₂ _∷_ (ap (λ (z : ℕ). z + j) (zero-mul n) ∙ zero-add j) (from-zero c b)
+
+  -- an index counted from a block's first is that index within the block, and its owner has the coordinates of the block's device
+  pub within-first : {Gs : List (List ℕ)} {wholes pieces i : List ℕ} (x : List ℕ) → Cut mesh Gs wholes pieces → Below i pieces
+      → within pieces (from (firstIndexes mesh Gs pieces x) i) ≡ i
+  within-first x uncut none = refl
+  within-first x (cut {S} e c) (more l b) = ap₂ _∷_ (digits-mod (position mesh S x) l) (within-first x c b)
+
+  pub owner-first : {Gs : List (List ℕ)} {wholes pieces i x z : List ℕ} (a : ℕ) → Cut mesh Gs wholes pieces → Below i pieces → Below x mesh → Below z mesh
+      → Distinct (flat Gs) → ((b : ℕ) → In b (flat Gs) → b < length mesh) → In a (flat Gs)
+      → getD (owner mesh Gs pieces (from (firstIndexes mesh Gs pieces x) i) z) a 0 ≡ getD x a 0
+  owner-first {x} {z} a (cut {S} {Ss} {piece} {pieces} e c) (more {x = j} {xs = i} l b) bx bz once r u =
+      let y : List ℕ = owner mesh Ss pieces (from (firstIndexes mesh Ss pieces x) i) z in
+      let s : Distinct S × Distinct (flat Ss) × ((a : ℕ) → In a S → ¬ In a (flat Ss)) = distinct-split S (flat Ss) once in
+      ap (λ (q : ℕ). getD (member mesh S q y) a 0) (digits-div (position mesh S x) l)
+      ∙ ⊎-elim
+      (λ k. member-along mesh S a (s .0) (λ b k. r b (in-left b S (flat Ss) k)) (below-owner c (piece-below c bx b) bz) bx k)
+      (λ v. member-other mesh S (position mesh S x) y a (λ k. s .2 a k v)
+      ∙ owner-first a c b bx bz (s .1) (λ b v. r b (in-right b S (flat Ss) v)) v)
+      (flat-in a S Ss u)
 
   -- an owner, and a member along axes that are not gathered, may be taken in either order
   pub owner-member : (Gs : List (List ℕ)) (ns i U : List ℕ) (q : ℕ) (x : List ℕ) → ((a : ℕ) → In a (flat Gs) → ¬ In a U)

@@ -78,7 +78,7 @@ use Rattle.laws.proofs.Factor.{mul-mod}
 use Rattle.laws.proofs.Sources.{Ready, WordsIn, in-only, made-single, made-then, made-reduce, step-words}
 use Rattle.laws.proofs.Sums.{
   sumOver,
-  sum-first,
+  sum-one,
   sumOver-without,
   sumOver-positions,
   sumOver-mod,
@@ -342,8 +342,8 @@ module _ (mesh : List ℕ) (s : Sharding) (shape : List ℕ) (table : List ℕ �
               let some : 0 < span mesh U = omega (arith, position-lt mesh U bx) in
               addWords-members (λ y. firstHolds y i) mesh U x bx (parts .1) (λ y by g. firstHolds-words words y i by bi)
               ∙ ap (λ (z : ℕ). z % 2 ^ 32) (sumOver-positions mesh U (λ y. firstHolds y i) x (parts .1)
-              ∙ sum-first (span mesh U) (λ q. firstHolds (member mesh U q x) i) some
-              (λ q p l. at q l ∙ ap (λ (t : Bool). pick t (block x i) 0) (nT→false (eqb q 0) (λ t. omega (arith, eqb→eq q 0 t))))
+              ∙ sum-one (span mesh U) 0 (λ q. firstHolds (member mesh U q x) i) some
+              (λ q l p. at q l ∙ ap (λ (t : Bool). pick t (block x i) 0) (nT→false (eqb q 0) (λ t. p (eqb→eq q 0 t))))
               ∙ at 0 some ∙ ap (λ (t : Bool). pick t (block x i) 0) (T→true (eqb 0 0) (eqb-refl 0)))
               ∙ mod-eq-of-lt (words x i bx bi);
         },

@@ -3,7 +3,7 @@
 -- (`sumOver-positions`); sums of words are what 01 says, modulo 2 ^ 32 (`addWords-total`, `addWords-members`). Assumes nothing.
 use Prim.Native.Nat.{ℕ, zero, suc, _+_, _*_, _/_, _%_, _^_, _<_}
 use mathlib.Core.Path.{_≡_, refl, sym, ap, ap₂, _∙_, subst, fun-ext}
-use mathlib.Core.Logic.{inl, inr, ⊎-elim}
+use mathlib.Core.Logic.{inl, inr, ⊎-elim, _≢_}
 use mathlib.Core.List.{List, [], _∷_, _++_, map}
 use native.Mathlib.Nat.{add-mod, add-zero, add-suc, mul-zero, mul-add, mul-assoc, zero-mul, suc-mul, mod-lt, mod-mod, mod-eq-of-lt}
 use native.Mathlib.Omega.{arith}
@@ -82,11 +82,16 @@ sum-blocks : (n m : ℕ) (g : ℕ → ℕ) → sum (n * m) g ≡ sum n (λ k. su
 sum-blocks zero m g = rw (zero-mul m) refl
 sum-blocks (suc n) m g = rw (suc-mul n m) (sum-split (n * m) m g ∙ ap (λ (z : ℕ). z + sum m (λ r. g (n * m + r))) (sum-blocks n m g))
 
--- a sum all of whose terms but the first are 0
-pub sum-first : (n : ℕ) (f : ℕ → ℕ) → 0 < n → ((k : ℕ) → 0 < k → k < n → f k ≡ 0) → sum n f ≡ f 0
-sum-first zero f l h = absurd (omega arith)
-sum-first (suc zero) f l h = omega arith
-sum-first (suc (suc n)) f l h = omega (arith, sum-first (suc n) f (omega arith) (λ k p q. h k p (omega arith)), h (suc n) (omega arith) (omega arith))
+-- a sum all of whose terms but one are 0
+pub sum-one : (n j : ℕ) (f : ℕ → ℕ) → j < n → ((k : ℕ) → k < n → k ≢ j → f k ≡ 0) → sum n f ≡ f j
+sum-one zero j f l h = absurd (omega arith)
+sum-one (suc n) j f l h = go (ℕ-discrete j n) (λ m. sum-one n j f m (λ k o. h k (omega arith)))
+  where
+    go : Dec (j ≡ n) → (j < n → sum n f ≡ f j) → sum n f + f n ≡ f j
+    go (yes e) ih =
+        let others : sum n f ≡ 0 = sum-cong n (λ k m. h k (omega arith) (λ d. omega arith)) ∙ sum-zero n in
+        rw (others, e) (omega arith)
+    go (no d) ih = omega (arith, ih (omega (arith, d)), h n (omega arith) (λ e. d (sym e)))
 
 total-append : (l m : List ℕ) → total (l ++ m) ≡ total l + total m
 total-append [] m = omega arith

@@ -116,7 +116,7 @@ module _ (mesh sizes : List ℕ) (pos : (a : ℕ) → zero < getD mesh a 1) wher
   -- ---- steps in turn
 
   -- a faithful spread of words stays one, of the table times the steps' factor
-  steps-spread : (ts : List Step) (s : Sharding) (table : List ℕ → ℕ) (v : Shards ℕ) → IsSharding mesh sizes s → Fine mesh sizes s ts
+  pub steps-spread : (ts : List Step) (s : Sharding) (table : List ℕ → ℕ) (v : Shards ℕ) → IsSharding mesh sizes s → Fine mesh sizes s ts
       → v .shape ≡ shapeOf s → WordsIn mesh (shapeOf s) (v .words) → Faithful addWords mesh s (shapeOf s) table (v .words)
       → Faithful addWords mesh (inTurn after ts s) (shapeOf (inTurn after ts s)) (scaled (factorOf mesh ts s) table) (inTurn (stepped addWords mesh) ts v .words)
   unfolding stepped
@@ -167,7 +167,7 @@ module _ (file : List ℕ) (p : Plan) (e : judge file ≡ accept p) (work spare 
       run-is ∙ ap₂ (λ (b c : Bool). runLeaves (judged b c) work spare) (T→true (leb (room p) (length work)) (le→leb (room p) (length work) f))
       (T→true (leb (room p) (length spare)) (le→leb (room p) (length spare) g))
 
-  run-ends : (runOf file work spare .outcome ≡ accept tt) ↔ Fits p work spare
+  pub run-ends : (runOf file work spare .outcome ≡ accept tt) ↔ Fits p work spare
   run-ends = (
     (λ h. let t : T (leb (room p) (length work)) × T (leb (room p) (length spare)) =
         ended (leb (room p) (length work)) (leb (room p) (length spare)) (sym (ap (λ (r : Ran). r .outcome) run-is) ∙ h) in
@@ -183,10 +183,10 @@ module _ (file : List ℕ) (p : Plan) (e : judge file ≡ accept p) (work spare 
 -- ---- demand 3
 
 -- the shape and the words of the last state
-abbrev lastShape : Plan → List ℕ
+abbrev pub lastShape : Plan → List ℕ
 lastShape p = announcedShape p (length (p .steps))
 
-abbrev lastWords : Plan → List ℕ → StateOf ℕ
+abbrev pub lastWords : Plan → List ℕ → StateOf ℕ
 lastWords p work = shardsAfter p work (length (p .steps)) .words
 
 module _ {p : Plan} (a : AcceptedPlan p) where
@@ -196,7 +196,7 @@ module _ {p : Plan} (a : AcceptedPlan p) where
       steps-shape (p .mesh) (p .sizes) (a .within .sizes-pos) addWords (take k (p .steps)) (p .start) _ (a .start-is)
       (fine-take (p .mesh) (p .sizes) k (p .start) (p .steps) (a .fine)) refl
 
-  plan-spreads : (table : List ℕ → ℕ) (work : List ℕ) → Words work → SpreadAt p table 0 (shardsAfter p work 0 .words)
+  pub plan-spreads : (table : List ℕ → ℕ) (work : List ℕ) → Words work → SpreadAt p table 0 (shardsAfter p work 0 .words)
       → (k : ℕ) → SpreadAt p (scaled (factorAfter p k) table) k (shardsAfter p work k .words)
   unfolding shardsAfter announcedShape announced heldBy factorAfter
   plan-spreads table work ws F k =
@@ -262,7 +262,7 @@ module _ {p : Plan} (a : AcceptedPlan p) where
     unfolding shardsAfter
     begins = refl
 
-    in-order : (k : ℕ) (t : Step) (rest : List Step) → drop k (p .steps) ≡ t ∷ rest
+    pub in-order : (k : ℕ) (t : Step) (rest : List Step) → drop k (p .steps) ≡ t ∷ rest
         → shardsAfter p work (k + 1) ≡ stepped addWords (p .mesh) t (shardsAfter p work k)
     unfolding shardsAfter
     in-order k t rest d = in-turn-next (stepped addWords (p .mesh)) k t (p .steps) rest _ d
@@ -275,7 +275,7 @@ module _ {p : Plan} (a : AcceptedPlan p) where
     abbrev rest : List ℕ
     rest = replicate (length work - length (lastState p work)) 0
 
-    work-left : ran .work ≡ lastState p work ++ rest
+    pub work-left : ran .work ≡ lastState p work ++ rest
     work-left = ap (λ (r : Ran). r .work) (run-fits file p e work spare f)
 
     leaves : take (length (lastState p work)) (ran .work) ≡ lastState p work

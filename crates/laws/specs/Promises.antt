@@ -19,6 +19,7 @@ use Rattle.laws.specs.Demands.{
   GroupByPosition,
   SumOfWords,
 }
+use Rattle.laws.specs.Routes.{RoutesMeet, RoutesMeetUnreduced, TableDecides, EqualShardsSpread, GatherUndoesSlice, ThereAndBack}
 use Rattle.rules.specs.Ledger.{Holds, ledger, beside as besideIt}
 use Rattle.rules.specs.WorkedRefusals.{refusals}
 use Rattle.rules.specs.WorkedGroups.{InGroups}
@@ -28,17 +29,25 @@ use Rattle.rules.specs.WorkedOrders.{orders, SecondEdition}
 use Rattle.rules.specs.WorkedRepeats.{repeats, RepeatsRead}
 use Rattle.rules.specs.WorkedScatters.{scatters, ScattersRead}
 use Rattle.rules.specs.WorkedFactors.{factors, FactorsCounted}
+use Rattle.rules.specs.WorkedRoutes.{routes, RoutesCompared}
 
--- Demand 3 for every plan that passes, where its factor is 1 and what 1 times a table is, and that it speaks of something; the room's limit; that the replicated list stays; when an all-reduce is 27; what repeats come to; the
--- numbers of refusals; what readers that take less answer; a step's locality; what a group and a sum of words are; the ledger W1 to W10, and cases
--- beside it; a file or a call for each refusal number; groups, a rearrangement and a spread on the smallest meshes; each limit from both sides; files of
--- the later editions; files with repeats; files with reduce-scatters; files that reduce replicated axes.
+-- Demand 3 for every plan that passes, where its factor is 1 and what 1 times a table is, and that it speaks of something; two routes, one table; the
+-- room's limit; that the replicated list stays; when an all-reduce is 27; what repeats come to; the numbers of refusals; what readers that take less answer; a step's locality;
+-- what a group and a sum of words are; the ledger W1 to W10, and cases beside it; a file or a call for each refusal number; groups, a rearrangement and a
+-- spread on the smallest meshes; each limit from both sides; files of the later editions; files with repeats; files with reduce-scatters; files that
+-- reduce replicated axes; pairs of routes.
 pub record RulesPromise : Type 1 where
   pub whole-plan : WholePlan
   pub factor-one : FactorOne
   pub times-one : TimesOne
   pub spreadable : Spreadable
   pub startable : Startable
+  pub routes-meet : RoutesMeet
+  pub routes-meet-unreduced : RoutesMeetUnreduced
+  pub table-decides : TableDecides
+  pub equal-shards-spread : EqualShardsSpread
+  pub gather-undoes-slice : GatherUndoesSlice
+  pub there-and-back : ThereAndBack
   pub room-limit : RoomLimit
   pub replicated-stays : ReplicatedStays
   pub reduces-judged : ReducesJudged
@@ -71,3 +80,5 @@ pub record RulesPromise : Type 1 where
   pub scatters-read : ScattersRead
   pub factored : All Holds factors
   pub factors-counted : FactorsCounted
+  pub routed : All Holds routes
+  pub routes-compared : RoutesCompared

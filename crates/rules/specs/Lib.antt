@@ -18,3 +18,4 @@ pub mod WorkedOrders
 pub mod WorkedRepeats
 pub mod WorkedScatters
 pub mod WorkedFactors
+pub mod WorkedRoutes
