@@ -1,6 +1,6 @@
 -- Document 02, Ask 14, "Two routes, one table": what two plans from one start to one end leave is one and the same, and an all-slice is undone by the
--- all-gather of its lists. Statements, of what the runs answer and leave (`runOf`); proofs/Routes.antt proves them. The cases of
--- rules/specs/WorkedRoutes.antt show that no hypothesis may be left out. Assumes nothing.
+-- all-gather of its lists. Statements, of what the runs answer and leave (`runOf`); proofs/Routes.antt proves them. Pairs of rules/specs/WorkedRoutes.antt
+-- part where the words are no faithful spread, where the factors differ, and, of `TableDecides`, where an axis is unreduced at the end. Assumes nothing.
 use Prim.Native.Nat.{ℕ, _+_, _*_, _%_, _^_}
 use mathlib.Core.Path.{_≡_}
 use mathlib.Core.List.{List, [], _∷_}

@@ -1,6 +1,5 @@
 -- Document 02, Ask 14: pairs of routes, as one table in the form of the ledger: what each of the two leaves, from a faithful spread and from words that are
--- none; and what the ends of such routes have in common. Each hypothesis of the statements (laws/specs/Routes.antt) is one that a pair here breaks. Assumes
--- nothing.
+-- none; and what the ends of such routes have in common. The statements are in laws/specs/Routes.antt. Assumes nothing.
 use Prim.Native.Nat.{ℕ, _+_, _%_, _^_}
 use mathlib.Core.Path.{_≡_, refl}
 use mathlib.Core.List.{List, [], _∷_}
