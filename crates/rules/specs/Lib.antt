@@ -7,6 +7,7 @@ pub mod Collectives
 pub mod Limits
 pub mod Refusals
 pub mod PlanFile
+pub mod Moved
 pub mod Calls
 pub mod Ledger
 pub mod WorkedRefusals
@@ -16,3 +17,4 @@ pub mod WorkedLimits
 pub mod WorkedOrders
 pub mod WorkedRepeats
 pub mod WorkedScatters
+pub mod WorkedMoves
