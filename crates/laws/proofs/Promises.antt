@@ -7,6 +7,7 @@ use Rattle.rules.specs.WorkedEditions as later
 use Rattle.rules.specs.WorkedOrders as cabled
 use Rattle.rules.specs.WorkedRepeats as repeated
 use Rattle.rules.specs.WorkedScatters as scattered
+use Rattle.rules.specs.WorkedMoves as moves
 use Rattle.laws.specs.Promises.{RulesPromise}
 use Rattle.laws.proofs.Whole as whole
 use Rattle.laws.proofs.Refusing as refusing
@@ -14,6 +15,7 @@ use Rattle.laws.proofs.Repeats as repeats
 use Rattle.laws.proofs.Accepted as accepted
 use Rattle.laws.proofs.Readers as readers
 use Rattle.laws.proofs.Locality as local
+use Rattle.laws.proofs.Moved as charges
 use Rattle.laws.proofs.Groups as group
 use Rattle.laws.proofs.Sums as sums
 
@@ -33,6 +35,9 @@ rules-promise = record {
   earlier-editions = readers.earlier-editions;
   earlier-steps = readers.earlier-steps;
   locality = local.locality;
+  plans-charged = charges.plans-charged;
+  blocks-charged = charges.blocks-charged;
+  one-number = charges.one-number;
   group-by-position = group.groups-by-position;
   sum-of-words = sums.addWords-total;
   worked = table.worked;
@@ -51,4 +56,5 @@ rules-promise = record {
   repeats-read = repeated.repeats-read;
   scattered = scattered.scattered;
   scatters-read = scattered.scatters-read;
+  moves-counted = moves.moves-counted;
 }

@@ -148,7 +148,7 @@ module _ (file : List ℕ) (p : Plan) (e : judge file ≡ accept p) (work spare 
       run-is ∙ ap₂ (λ (b c : Bool). runLeaves (judged b c) work spare) (T→true (leb (room p) (length work)) (le→leb (room p) (length work) f))
       (T→true (leb (room p) (length spare)) (le→leb (room p) (length spare) g))
 
-  run-ends : (runOf file work spare .outcome ≡ accept tt) ↔ Fits p work spare
+  pub run-ends : (runOf file work spare .outcome ≡ accept tt) ↔ Fits p work spare
   run-ends = (
     (λ h. let t : T (leb (room p) (length work)) × T (leb (room p) (length spare)) =
         ended (leb (room p) (length work)) (leb (room p) (length spare)) (sym (ap (λ (r : Ran). r .outcome) run-is) ∙ h) in

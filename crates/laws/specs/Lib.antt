@@ -1,4 +1,5 @@
 -- What holds of the rules, as statements.
 pub mod Readers
 pub mod Demands
+pub mod Moved
 pub mod Promises

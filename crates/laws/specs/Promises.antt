@@ -16,6 +16,7 @@ use Rattle.laws.specs.Demands.{
   GroupByPosition,
   SumOfWords,
 }
+use Rattle.laws.specs.Moved.{PlansCharged, BlocksCharged, OneNumber}
 use Rattle.rules.specs.Ledger.{Holds, ledger, beside as besideIt}
 use Rattle.rules.specs.WorkedRefusals.{refusals}
 use Rattle.rules.specs.WorkedGroups.{InGroups}
@@ -24,11 +25,13 @@ use Rattle.rules.specs.WorkedEditions.{editions, FirstEdition, Unequal, NoShard
 use Rattle.rules.specs.WorkedOrders.{orders, SecondEdition}
 use Rattle.rules.specs.WorkedRepeats.{repeats, RepeatsRead}
 use Rattle.rules.specs.WorkedScatters.{scatters, ScattersRead}
+use Rattle.rules.specs.WorkedMoves.{MovesCounted}
 
 -- Demand 3 for every plan that passes, and that it speaks of something; the room's limit; that the replicated list stays; what repeats come to; the
--- numbers of refusals; what readers that take less answer; a step's locality; what a group and a sum of words are; the ledger W1 to W10, and cases
+-- numbers of refusals; what readers that take less answer; a step's locality; what a plan moves between devices; what a group and a sum of words are; the
+-- ledger W1 to W10, and cases
 -- beside it; a file or a call for each refusal number; groups, a rearrangement and a spread on the smallest meshes; each limit from both sides; files of
--- the later editions; files with repeats; files with reduce-scatters.
+-- the later editions; files with repeats; files with reduce-scatters; words moved.
 pub record RulesPromise : Type 1 where
   pub whole-plan : WholePlan
   pub spreadable : Spreadable
@@ -44,6 +47,9 @@ pub record RulesPromise : Type 1 where
   pub earlier-editions : EarlierEditions
   pub earlier-steps : (kind : ℕ) → EarlierSteps kind
   pub locality : Locality
+  pub plans-charged : PlansCharged
+  pub blocks-charged : BlocksCharged
+  pub one-number : OneNumber
   pub group-by-position : GroupByPosition
   pub sum-of-words : SumOfWords
   pub worked : All Holds ledger
@@ -62,3 +68,4 @@ pub record RulesPromise : Type 1 where
   pub repeats-read : RepeatsRead
   pub scattered : All Holds scatters
   pub scatters-read : ScattersRead
+  pub moves-counted : MovesCounted

@@ -3,8 +3,8 @@
 use Prim.Native.Nat.{ℕ}
 use mathlib.Core.Path.{_≡_, refl}
 use mathlib.Core.List.{List, [], _∷_, map}
-use Rattle.rules.specs.Collectives.{Step, Place, allSlice, allGather, allReduce, allToAll, reduceScatter}
-use Rattle.rules.specs.Refusals.{Judged, accept, refuse, _>>=_}
+use Rattle.rules.specs.Collectives.{Place, allSlice, allGather, allReduce, allToAll, reduceScatter}
+use Rattle.rules.specs.Refusals.{Judged, accept, _>>=_}
 use Rattle.rules.specs.Calls.{checkOf, runOf}
 use Rattle.rules.specs.Moved.{otherDevices, movedBy, chargeOf, mostMoved}
 use Rattle.rules.specs.Ledger.{fileIn, fileOf, w1, w8, nines}

@@ -16,8 +16,6 @@ use native.Mathlib.Nat.{
   mul-le-mul,
   mul-le-mul-right,
   le-refl,
-  le-mul-of-pos-right,
-  mul-comm,
   mod-lt,
 }
 use native.Mathlib.Decide.{ℕ-discrete, decLt}
@@ -25,13 +23,13 @@ use native.Mathlib.Omega.{arith}
 use lib.ListN.{length, getD, set}
 use lib.Seq.{set-comm, getD-set-other}
 use Rattle.rules.specs.Lists.{tab, product, In, Distinct, Below}
-use Rattle.rules.specs.Mesh.{number, coords, span, position, member, members, remaining, IsGroup}
+use Rattle.rules.specs.Mesh.{number, coords, span, position, member, members, IsGroup}
 use Rattle.rules.specs.Spread.{tabulate, held}
 use Rattle.rules.specs.Collectives.{Place, made, reducePlaces, word}
 use Rattle.laws.proofs.Lists.{length-tab, getD-tab, tab-cong, map-tab}
-use Rattle.laws.proofs.Positions.{div-lt, pos-of-lt, span-append, below-member}
+use Rattle.laws.proofs.Positions.{div-lt, pos-of-lt, below-member}
 use Rattle.laws.proofs.Buffers.{number-lt, coords-number, below-coords, number-coords}
-use Rattle.laws.proofs.Groups.{group-by-position, span-remaining}
+use Rattle.laws.proofs.Groups.{group-by-position, group-few}
 use Rattle.laws.proofs.Fronts.{part-in}
 use Rattle.strided.specs.Strided.{offset, mostPlaces, Counts}
 use Rattle.digits.specs.Digits.{mostRoom, meshStrides, dot, cleared, axisDigits, meshDigits, HasStrides}
@@ -317,14 +315,6 @@ module _ {W : Type 0} (addAll : List W → W) (z : W) (mesh shape L : List ℕ) 
       let m : ℕ = product shape in
       tab-cong (product mesh * m) _ _ (λ p h. word-is (p / m) (p % m) (div-lt (product mesh) m h) (mod-lt p (pos-of-lt (product mesh) m h)))
 
--- a group has at most all devices
-pub group-few : (mesh L : List ℕ) → 0 < product mesh → Distinct L → ((a : ℕ) → In a L → a < length mesh) → span mesh L ≤ product mesh
-group-few mesh L some once of-mesh =
-    let s : ℕ = span mesh (remaining mesh L) in
-    let e : s * span mesh L ≡ product mesh = sym (span-append mesh (remaining mesh L) L) ∙ span-remaining mesh L once of-mesh in
-    let p : 0 < s = group-pos mesh (remaining mesh L) some in
-    rw (← e) (omega (arith, le-mul-of-pos-right (span mesh L) p, mul-comm s (span mesh L)))
-
 -- ---- what the listing of places is asked, and what it leaves
 
 pub mesh-offsets : {firsts strides mesh : List ℕ} → Firsts firsts strides mesh → Counts (meshDigits mesh strides []) (length firsts) 0 mostPlaces
@@ -355,7 +345,7 @@ module _ {firsts shifts strides mesh L : List ℕ} {m : ℕ} (t : Tables firsts 
   pub shifts-asked : (strides′ : List ℕ) → strides′ ≡ meshStrides mesh m → Shifting shifts strides′ mesh L
   shifts-asked strides′ e =
       let on = t .has .on in
-      let g : span mesh L ≤ product mesh = group-few mesh L (on .devices-pos) (t .once) (t .of-mesh) in
+      let g : span mesh L ≤ product mesh = group-few mesh L (t .once) (t .of-mesh) (on .devices-pos) in
       record {
         has = record { on = on; places = ap length e ∙ strides-length mesh m };
         of-mesh = t .of-mesh;
