@@ -35,7 +35,7 @@ use Rattle.rules.specs.Collectives.{
   sources,
   made,
 }
-use Rattle.rules.specs.Limits.{mostDevices, mostWords}
+use Rattle.rules.specs.Limits.{mostAxes, mostDevices, mostWords}
 use Rattle.rules.specs.Refusals.{Judged, accept, refuse}
 use Rattle.rules.specs.PlanFile.{StepsRead, JudgesSteps, stepsAt, itemAt, Plan, judge, announced, announcedShape}
 use Rattle.rules.specs.Calls.{CheckAnswer, checkOf, runnable, Ran, runLeaves, runOf}
@@ -58,6 +58,7 @@ use Rattle.laws.proofs.Lists.{
   distinct-ascending,
   not-in-without,
   of-without,
+  few-distinct,
 }
 use Rattle.laws.proofs.Positions.{div-lt, position-lt, span-append, length-member, member-other, position-member}
 use Rattle.laws.proofs.Groups.{group-by-position, group-few, span-without}
@@ -427,6 +428,7 @@ charge-le mesh (reduceScatter Ss) shape = div-le-self _ _
 pub record Charged (mesh sizes : List ℕ) (t : Step) (s : Sharding) : Type 0 where
   pub closed : movedFrom mesh sizes t s ≡ chargeFrom mesh sizes t s
   pub exact : DividesExactly mesh t (shardSizes mesh sizes (s .dims))
+  pub axes-few : length (stepAxes t) ≤ mostAxes
   pub group-some : 0 < span mesh (stepAxes t)
   pub group-most : span mesh (stepAxes t) ≤ mostDevices
   pub words-most : devices mesh * product (shardSizes mesh sizes (s .dims)) ≤ mostDevices * mostWords
@@ -438,13 +440,15 @@ module _ (mesh sizes : List ℕ) (w : Within mesh sizes) where
       let shape : List ℕ = shardSizes mesh sizes (s .dims) in
       let g : ℕ = span mesh (stepAxes t) in
       let c = closed-form mesh sizes (w .sizes-pos) t s h f in
-      let few : g ≤ devices mesh = group-few mesh (stepAxes t) (axes-once mesh sizes (w .sizes-pos) t s h f) (f .axes) (w .devices-pos) in
+      let once : Distinct (stepAxes t) = axes-once mesh sizes (w .sizes-pos) t s h f in
+      let few : g ≤ devices mesh = group-few mesh (stepAxes t) once (f .axes) (w .devices-pos) in
       let words : devices mesh * product shape ≤ mostDevices * mostWords = mul-le-mul (w .devices-few) (shard-words mesh sizes w s h .words-few) in
       let group : g - 1 ≤ 1023 = omega (arith, few, w .devices-few) in
       let most : devices mesh * product shape * (g - 1) ≤ mostDevices * mostWords * 1023 = mul-le-mul words group in
       record {
         closed = c .0;
         exact = c .1;
+        axes-few = omega (arith, few-distinct (length mesh) (stepAxes t) once (f .axes), w .axes-few);
         group-some = span-pos mesh (w .sizes-pos) (stepAxes t);
         group-most = omega (arith, few, w .devices-few);
         words-most = words;
