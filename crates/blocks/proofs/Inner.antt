@@ -1,7 +1,7 @@
 -- The loop over a block's inner steps: `Inner` holds at each turn; `inner-start` makes it, `inner-step` keeps it, `inner-stops` and `inner-done` are the
 -- ways out. Assumes nothing.
 use Prim.Native.Nat.{ℕ, zero, suc, _+_, _-_, _*_, _≤_, _<_, max}
-use mathlib.Core.Path.{_≡_, refl, sym, ap, _∙_, subst}
+use mathlib.Core.Path.{_≡_, refl, sym, ap, ap₂, _∙_, subst}
 use mathlib.Core.List.{List, [], _++_, append-assoc, append-nil}
 use native.Mathlib.Omega.{arith}
 use lib.ListN.{length, getD, length-append}
@@ -11,8 +11,11 @@ use Rattle.rules.specs.Sharding.{Sharding, IsSharding}
 use Rattle.rules.specs.Collectives.{Step, after}
 use Rattle.rules.specs.Refusals.{Judged, accept, refuse, _>>=_}
 use Rattle.rules.specs.PlanFile.{Read, StepsRead, JudgesSteps, stepsAt, itemAt}
+use Rattle.rules.specs.Moved.{addedOn, movedFrom, mostMoved}
 use Rattle.laws.specs.Demands.{onePass, largestOn}
 use Rattle.laws.proofs.Lists.{in-turn-append}
+use Rattle.laws.proofs.Accepted.{Within}
+use Rattle.laws.proofs.Moved.{added-charged, added-append}
 use Rattle.laws.proofs.Turns.{steps-sharding, last-largest, largest-append}
 use Rattle.laws.proofs.Repeats.{pass-append, Told, item-tells}
 use Rattle.laws.proofs.Bytes.{Takes, TakesAll, item-takes}
@@ -52,7 +55,7 @@ module _ (mesh sizes file : List ℕ) (depth : ℕ) where
   steps = stepsAt (itemAt everyKind mesh sizes file depth)
 
   -- i of the inner steps are judged
-  pub record Inner (count k₀ at₀ largest₀ : ℕ) (s₀ : Sharding) (i k at runs largest : ℕ) (s : Sharding) : Type 0 where
+  pub record Inner (count k₀ at₀ largest₀ : ℕ) (s₀ : Sharding) (i k at runs largest moved : ℕ) (s : Sharding) : Type 0 where
     pub done : StepsRead
     pub few : i ≤ count
     pub number-is : k ≡ k₀ + length (done .records)
@@ -60,14 +63,17 @@ module _ (mesh sizes file : List ℕ) (depth : ℕ) where
     pub runs-are : runs ≡ length (done .steps)
     pub here : s ≡ done .sharding
     pub largest-is : largest ≡ max largest₀ (largestOn (shardWords mesh sizes) s₀ (onePass (done .records)))
+    pub moved-is : moved ≡ addedOn (movedFrom mesh sizes) s₀ (done .steps)
+    pub moved-few : moved ≤ runs * mostMoved
     pub counted : shardWords mesh sizes s ≤ largest
     pub sound : IsSharding mesh sizes s
+    pub leads : inTurn after (done .steps) s₀ ≡ done .sharding
     pub ends : inTurn after (onePass (done .records)) s₀ ≡ done .sharding
     pub takes : TakesAll mesh sizes file at₀ i done
     pub same : steps count k₀ at₀ s₀ ≡ after-these done (steps (count - i) k at s)
 
   pub inner-start : (count k₀ at₀ largest₀ : ℕ) (s₀ : Sharding) → at₀ ≤ length file → IsSharding mesh sizes s₀ → shardWords mesh sizes s₀ ≤ largest₀
-      → Inner count k₀ at₀ largest₀ s₀ 0 k₀ at₀ 0 largest₀ s₀
+      → Inner count k₀ at₀ largest₀ s₀ 0 k₀ at₀ 0 largest₀ 0 s₀
   inner-start count k₀ at₀ largest₀ s₀ l h m =
       let z : count ≡ count - 0 = omega arith in
       record {
@@ -78,8 +84,11 @@ module _ (mesh sizes file : List ℕ) (depth : ℕ) where
         runs-are = refl;
         here = refl;
         largest-is = omega arith;
+        moved-is = refl;
+        moved-few = omega arith;
         counted = m;
         sound = h;
+        leads = refl;
         ends = refl;
         takes = record { bytes = omega arith; inside = l; few = omega arith };
         same = after-none s₀ at₀ (steps count k₀ at₀ s₀) ∙ ap (λ (n : ℕ). after-these (none s₀ at₀) (steps n k₀ at₀ s₀)) z;
@@ -97,8 +106,8 @@ module _ (mesh sizes file : List ℕ) (depth : ℕ) where
       let z : count ≡ suc count - 1 = omega arith in
       ap (λ (j : Judged StepsRead). _>>=_ j (further count k)) e ∙ ap (λ (n : ℕ). _>>=_ j (further n k)) z
 
-  module _ {count k₀ at₀ largest₀ : ℕ} {s₀ : Sharding} {i k at runs largest : ℕ} {s : Sharding}
-      (g : Inner count k₀ at₀ largest₀ s₀ i k at runs largest s) where
+  module _ {count k₀ at₀ largest₀ : ℕ} {s₀ : Sharding} {i k at runs largest moved : ℕ} {s : Sharding}
+      (g : Inner count k₀ at₀ largest₀ s₀ i k at runs largest moved s) where
     pub inner-stops : {a b : ℕ} → i < count → itemAt everyKind mesh sizes file depth k at s ≡ refuse a b → steps count k₀ at₀ s₀ ≡ refuse a b
     inner-stops h e = g .same ∙ ap (after-these (g .done)) (first-of (count - i) k at s (omega arith) e)
 
@@ -118,9 +127,9 @@ module _ (mesh sizes file : List ℕ) (depth : ℕ) where
     number-few h = omega (arith, g .number-is, g .at-is, g .takes .bytes)
 
     -- the next of them is accepted
-    module _ (pos : (a : ℕ) → 0 < getD mesh a 1) (h : i < count) {k′ runs′ largest′ at′ : ℕ} {s′ : Sharding}
+    module _ (w : Within mesh sizes) (h : i < count) {k′ runs′ largest′ moved′ at′ : ℕ} {s′ : Sharding}
         (e : summarized mesh sizes k largest s (itemAt everyKind mesh sizes file depth k at s)
-        ≡ accept (record { value = record { number = k′; runs = runs′; largest = largest′; sharding = s′ }; next = at′ })) where
+        ≡ accept (record { value = record { number = k′; runs = runs′; largest = largest′; moved = moved′; sharding = s′ }; next = at′ })) where
       pub runs-few : runs′ ≤ mostRun
       runs-few =
           let x = summary-inv mesh sizes k largest s _ _ e in
@@ -128,46 +137,61 @@ module _ (mesh sizes file : List ℕ) (depth : ℕ) where
           let z : length (x .0 .steps) ≡ runs′ = ap (λ (r : Read Summary). r .value .runs) (x .2) in
           omega (arith, t .few)
 
-      pub inner-step : Inner count k₀ at₀ largest₀ s₀ (i + 1) k′ at′ (runs + runs′) largest′ s′
+      pub next-few : moved′ ≤ runs′ * mostMoved
+      next-few =
+          let x = summary-inv mesh sizes k largest s _ _ e in
+          let u : Told mesh sizes file s (x .0) = item-tells mesh sizes file everyKind depth k at s (x .0) (x .1) in
+          let z : length (x .0 .steps) ≡ runs′ = ap (λ (r : Read Summary). r .value .runs) (x .2) in
+          let m : addedOn (movedFrom mesh sizes) s (x .0 .steps) ≡ moved′ = ap (λ (r : Read Summary). r .value .moved) (x .2) in
+          omega (arith, m, z, added-charged mesh sizes w s (x .0 .steps) (g .sound) (u .fine) .1)
+
+      pub inner-step : Inner count k₀ at₀ largest₀ s₀ (i + 1) k′ at′ (runs + runs′) largest′ (moved + moved′) s′
       inner-step =
           let x = summary-inv mesh sizes k largest s _ _ e in
-          let w : StepsRead = x .0 in
+          let v : StepsRead = x .0 in
           let d : StepsRead = g .done in
           let f : Sharding → ℕ = λ z. shardWords mesh sizes z in
-          let t : Takes mesh sizes file at w = item-takes mesh sizes file everyKind depth k at s w (x .1) in
-          let u : Told mesh sizes file s w = item-tells mesh sizes file everyKind depth k at s w (x .1) in
-          let n-is : k + length (w .records) ≡ k′ = ap (λ (r : Read Summary). r .value .number) (x .2) in
-          let r-is : length (w .steps) ≡ runs′ = ap (λ (r : Read Summary). r .value .runs) (x .2) in
-          let l-is : max largest (largestOn f s (onePass (w .records))) ≡ largest′ = ap (λ (r : Read Summary). r .value .largest) (x .2) in
-          let s-is : w .sharding ≡ s′ = ap (λ (r : Read Summary). r .value .sharding) (x .2) in
-          let a-is : w .next ≡ at′ = ap (λ (r : Read Summary). r .next) (x .2) in
+          let t : Takes mesh sizes file at v = item-takes mesh sizes file everyKind depth k at s v (x .1) in
+          let u : Told mesh sizes file s v = item-tells mesh sizes file everyKind depth k at s v (x .1) in
+          let n-is : k + length (v .records) ≡ k′ = ap (λ (r : Read Summary). r .value .number) (x .2) in
+          let r-is : length (v .steps) ≡ runs′ = ap (λ (r : Read Summary). r .value .runs) (x .2) in
+          let l-is : max largest (largestOn f s (onePass (v .records))) ≡ largest′ = ap (λ (r : Read Summary). r .value .largest) (x .2) in
+          let m-is : addedOn (movedFrom mesh sizes) s (v .steps) ≡ moved′ = ap (λ (r : Read Summary). r .value .moved) (x .2) in
+          let s-is : v .sharding ≡ s′ = ap (λ (r : Read Summary). r .value .sharding) (x .2) in
+          let a-is : v .next ≡ at′ = ap (λ (r : Read Summary). r .next) (x .2) in
           let from : inTurn after (onePass (d .records)) s₀ ≡ s = g .ends ∙ sym (g .here) in
-          let pass : onePass (d .records ++ w .records) ≡ onePass (d .records) ++ onePass (w .records) = pass-append (d .records) (w .records) in
-          let all : largestOn f s₀ (onePass (d .records ++ w .records)) ≡ max (largestOn f s₀ (onePass (d .records))) (largestOn f s (onePass (w .records))) =
-          ap (largestOn f s₀) pass ∙ largest-append f (onePass (d .records)) (onePass (w .records)) s₀
-          ∙ ap (λ (z : Sharding). max (largestOn f s₀ (onePass (d .records))) (largestOn f z (onePass (w .records)))) from in
-          let last : f s′ ≤ largestOn f s (onePass (w .records)) =
-          subst (λ (z : Sharding). f z ≤ largestOn f s (onePass (w .records))) (u .pass-ends ∙ s-is) (last-largest f s (onePass (w .records))) in
+          let pass : onePass (d .records ++ v .records) ≡ onePass (d .records) ++ onePass (v .records) = pass-append (d .records) (v .records) in
+          let all : largestOn f s₀ (onePass (d .records ++ v .records)) ≡ max (largestOn f s₀ (onePass (d .records))) (largestOn f s (onePass (v .records))) =
+          ap (largestOn f s₀) pass ∙ largest-append f (onePass (d .records)) (onePass (v .records)) s₀
+          ∙ ap (λ (z : Sharding). max (largestOn f s₀ (onePass (d .records))) (largestOn f z (onePass (v .records)))) from in
+          let last : f s′ ≤ largestOn f s (onePass (v .records)) =
+          subst (λ (z : Sharding). f z ≤ largestOn f s (onePass (v .records))) (u .pass-ends ∙ s-is) (last-largest f s (onePass (v .records))) in
+          let sums : addedOn (movedFrom mesh sizes) s₀ (d .steps ++ v .steps) ≡ moved + moved′ =
+          added-append (movedFrom mesh sizes) (d .steps) (v .steps) s₀
+          ∙ ap₂ _+_ (sym (g .moved-is)) (ap (λ (z : Sharding). addedOn (movedFrom mesh sizes) z (v .steps)) (g .leads ∙ sym (g .here)) ∙ m-is) in
           record {
-            done = joined d w;
+            done = joined d v;
             few = omega arith;
-            number-is = omega (arith, length-append (d .records) (w .records), g .number-is);
+            number-is = omega (arith, length-append (d .records) (v .records), g .number-is);
             at-is = sym a-is;
-            runs-are = omega (arith, length-append (d .steps) (w .steps), g .runs-are);
+            runs-are = omega (arith, length-append (d .steps) (v .steps), g .runs-are);
             here = sym s-is;
             largest-is = omega (arith, all, g .largest-is);
+            moved-is = sym sums;
+            moved-few = omega (arith, g .moved-few, next-few);
             counted = omega arith;
-            sound = subst (IsSharding mesh sizes) (u .ends ∙ s-is) (steps-sharding mesh sizes pos s (w .steps) (g .sound) (u .fine));
-            ends = ap (λ (l : List Step). inTurn after l s₀) pass ∙ in-turn-append after (onePass (d .records)) (onePass (w .records)) s₀
-                ∙ ap (inTurn after (onePass (w .records))) from ∙ u .pass-ends;
+            sound = subst (IsSharding mesh sizes) (u .ends ∙ s-is) (steps-sharding mesh sizes (w .sizes-pos) s (v .steps) (g .sound) (u .fine));
+            leads = in-turn-append after (d .steps) (v .steps) s₀ ∙ ap (inTurn after (v .steps)) (g .leads ∙ sym (g .here)) ∙ u .ends;
+            ends = ap (λ (l : List Step). inTurn after l s₀) pass ∙ in-turn-append after (onePass (d .records)) (onePass (v .records)) s₀
+                ∙ ap (inTurn after (onePass (v .records))) from ∙ u .pass-ends;
             takes = record {
-              bytes = omega (arith, length-append (d .records) (w .records), g .takes .bytes, g .at-is, t .bytes);
+              bytes = omega (arith, length-append (d .records) (v .records), g .takes .bytes, g .at-is, t .bytes);
               inside = t .inside;
-              few = omega (arith, length-append (d .steps) (w .steps), g .takes .few, t .few);
+              few = omega (arith, length-append (d .steps) (v .steps), g .takes .few, t .few);
             };
             same = g .same ∙ ap (after-these d) (first-of (count - i) k at s (omega arith) (x .1))
-                ∙ after-joined d w (steps (count - i - 1) (k + length (w .records)) (w .next) (w .sharding))
-                ∙ (λ j. after-these (joined d w) (steps (one-less j) (n-is j) (a-is j) (s-is j)));
+                ∙ after-joined d v (steps (count - i - 1) (k + length (v .records)) (v .next) (v .sharding))
+                ∙ (λ j. after-these (joined d v) (steps (one-less j) (n-is j) (a-is j) (s-is j)));
           }
         where
           one-less : count - i - 1 ≡ count - (i + 1)

@@ -5,16 +5,19 @@ use mathlib.Core.Bool.{Bool, true, false, _&&_}
 use mathlib.Core.List.{List, _∷_}
 use native.Mathlib.Omega.{arith}
 use lib.ListN.{length, replicate}
-use lib.Dec.{leb}
+use lib.Dec.{T, leb}
 use Rattle.rules.specs.Lists.{flat}
 use Rattle.rules.specs.Limits.{mostRun, everyKind}
 use Rattle.rules.specs.Sharding.{Sharding}
 use Rattle.rules.specs.Refusals.{Judged, accept, refuse, _>>=_, _>>_, needAt}
 use Rattle.rules.specs.PlanFile.{Read, repeat, StepsRead, stepsAt, plainAt, positiveAt, sameSharding, repeatAt, isRepeat, itemBy, tooDeep, itemAt}
+use Rattle.rules.specs.Moved.{addedOn, movedFrom}
 use Rattle.laws.specs.Demands.{onePass, largestOn}
 use Rattle.types.specs.Types.{shardingOf}
 use Rattle.types.specs.declared.Sharding as code
 use Rattle.laws.proofs.Turns.{length-times}
+use Rattle.laws.proofs.Repeats.{sharding-eq, Told, steps-tell, item-tells}
+use Rattle.laws.proofs.Moved.{added-times}
 use Rattle.reader.specs.Reading.{reading, IfRefused, Tells}
 use Rattle.reader.specs.declared.Next.{Next}
 use Rattle.reader.specs.declared.Next.the-variants as next
@@ -41,6 +44,7 @@ module _ (k count rank : ℕ) (before : code.Sharding) (block : StepsJudged) whe
           number = block .number;
           runs = count * block .runs;
           largest = block .largest;
+          moved = count * block .moved;
           sharding = block .sharding;
         })
     is-closed c f = goes-on (c .goes-on .1) (sym (rw (e, f) refl))
@@ -94,16 +98,17 @@ module _ (mesh sizes file : List ℕ) (depth k at : ℕ) (s : Sharding) where
     pub inner-halts : (largest : ℕ) {a b : ℕ} → innerSteps number ≡ refuse a b → summarized mesh sizes k largest s wholeRepeat ≡ refuse a b
     inner-halts largest q = ap (summarized mesh sizes k largest s) (by-inner q)
 
-    pub closes : (largest : ℕ) {d : StepsRead} {number′ runs largest′ at′ : ℕ} {s′ : Sharding} → innerSteps number ≡ accept d
+    pub closes : (largest : ℕ) {d : StepsRead} {number′ runs largest′ moved at′ : ℕ} {s′ : Sharding} → innerSteps number ≡ accept d
         → number′ ≡ k + 1 + length (d .records) → runs ≡ length (d .steps)
-        → largest′ ≡ max largest (largestOn (shardWords mesh sizes) s (onePass (d .records))) → s′ ≡ d .sharding → at′ ≡ d .next
+        → largest′ ≡ max largest (largestOn (shardWords mesh sizes) s (onePass (d .records))) → moved ≡ addedOn (movedFrom mesh sizes) s (d .steps)
+        → s′ ≡ d .sharding → at′ ≡ d .next
         → summarized mesh sizes k largest s wholeRepeat
         ≡ _>>_ (needAt k (sameSharding s′ s) 41) (_>>_ (needAt k (leb (count * runs) mostRun) 43)
-        (accept (record { value = record { number = number′; runs = count * runs; largest = largest′; sharding = s′ }; next = at′ })))
-    closes largest {d} {number′} {runs} {largest′} {at′} {s′} q n-is r-is l-is s-is a-is =
+        (accept (record { value = record { number = number′; runs = count * runs; largest = largest′; moved = count * moved; sharding = s′ }; next = at′ })))
+    closes largest {d} {number′} {runs} {largest′} {moved} {at′} {s′} q n-is r-is l-is m-is s-is a-is =
         ap (summarized mesh sizes k largest s) (by-inner q
         ∙ (λ i. _>>_ (needAt k (sameSharding (sym s-is i) s) 41) (_>>_ (needAt k (leb (count * sym r-is i) mostRun) 43) (accept all))))
-        ∙ sym (go (sameSharding s′ s) (leb (count * runs) mostRun))
+        ∙ sym (go (sameSharding s′ s) (leb (count * runs) mostRun) (λ t. rounds (sharding-eq s′ s t)))
       where
         all : StepsRead
         all = record {
@@ -119,15 +124,22 @@ module _ (mesh sizes file : List ℕ) (depth k at : ℕ) (s : Sharding) where
         runs-are : count * runs ≡ length (flat (replicate count (d .steps)))
         runs-are = ap (λ (r : ℕ). count * r) r-is ∙ sym (length-times count (d .steps))
 
-        go : (b c : Bool) → _>>_ (needAt k b 41) (_>>_ (needAt k c 43)
-            (accept (record { value = record { number = number′; runs = count * runs; largest = largest′; sharding = s′ }; next = at′ })))
+        -- a block that comes back moves as much in each of its rounds
+        rounds : s′ ≡ s → count * moved ≡ addedOn (movedFrom mesh sizes) s (flat (replicate count (d .steps)))
+        rounds back =
+            let u : Told mesh sizes file s d =
+            steps-tell mesh sizes file _ (item-tells mesh sizes file everyKind (depth - 1)) number (k + 1) (at + 2) s d q in
+            ap (λ (n : ℕ). count * n) m-is ∙ sym (added-times (movedFrom mesh sizes) count (d .steps) s (u .ends ∙ sym s-is ∙ back))
+
+        go : (b c : Bool) → (T b → count * moved ≡ addedOn (movedFrom mesh sizes) s (flat (replicate count (d .steps)))) → _>>_ (needAt k b 41) (_>>_ (needAt k c 43)
+            (accept (record { value = record { number = number′; runs = count * runs; largest = largest′; moved = count * moved; sharding = s′ }; next = at′ })))
             ≡ summarized mesh sizes k largest s (_>>_ (needAt k b 41) (_>>_ (needAt k c 43) (accept all)))
-        go true true = λ i. accept (record {
-          value = record { number = numbers i; runs = runs-are i; largest = l-is i; sharding = s-is i };
+        go true true m = λ i. accept (record {
+          value = record { number = numbers i; runs = runs-are i; largest = l-is i; moved = m tt i; sharding = s-is i };
           next = a-is i;
         })
-        go true false = refl
-        go false c = refl
+        go true false m = refl
+        go false c m = refl
 
 -- ---- an item
 

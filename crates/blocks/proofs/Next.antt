@@ -16,19 +16,20 @@ use Rattle.types.specs.declared.Mesh.{Mesh}
 use Rattle.types.specs.declared.Table.{Table}
 use Rattle.types.specs.declared.Sharding as code
 use Rattle.judge.specs.Step.{Sharded}
+use Rattle.taking.specs.declared.Extent.{Extent}
 use Rattle.blocks.specs.Blocks.{shardWords, Summary, summaryIn, summarized, StepsTell, Judging}
 use Rattle.blocks.specs.declared.StepsJudged.{StepsJudged}
 use Rattle.blocks.proofs.Plain.{summary-inv}
 use Rattle.reader.specs.declared.Next.the-variants as next
 use Rattle.reader.proofs.Answers.{read-on}
 
-pub judging-next : (file : List ℕ) (depth : ℕ) (mesh : Mesh) (table : Table) {at k total largest end : ℕ} {s : code.Sharding} (r : StepsJudged)
-    → Judging file at k mesh table total largest s
+pub judging-next : (file : List ℕ) (depth : ℕ) (mesh : Mesh) (table : Table) {extent : Extent} {at k largest end : ℕ} {s : code.Sharding} (r : StepsJudged)
+    → Judging file at k mesh table extent largest s
     → StepsTell (table .rank) (shardingOf (table .rank) s)
     (summarized (meshOf mesh) (sizesOf table) k largest (shardingOf (table .rank) s)
     (itemAt everyKind (meshOf mesh) (sizesOf table) file depth k at (shardingOf (table .rank) s))) r
-    → r .next ≡ next.At end → Judging file end (r .number) mesh table total (r .largest) (r .sharding)
-judging-next file depth mesh table {at} {k} {total} {largest} {end} {s} r g e n =
+    → r .next ≡ next.At end → Judging file end (r .number) mesh table extent (r .largest) (r .sharding)
+judging-next file depth mesh table {extent} {at} {k} {largest} {end} {s} r g e n =
     let M : List ℕ = meshOf mesh in
     let N : List ℕ = sizesOf table in
     let z : Sharding = shardingOf (table .rank) s in
@@ -48,7 +49,7 @@ judging-next file depth mesh table {at} {k} {total} {largest} {end} {s} r g e n 
         fits = g .ready .fits;
         sound = subst (IsSharding M N) (u .ends ∙ s-is) (steps-sharding M N (g .ready .fits .sized .least) z (w .steps) (g .ready .sound) (u .fine));
       };
-      total-is = g .total-is;
+      extends = g .extends;
       counted = omega (arith, last, m-is);
       number-few = omega (arith, g .number-few, t .bytes, n-is, a-is);
       inside = omega (arith, t .inside, a-is);

@@ -8,6 +8,7 @@ use Rattle.rules.specs.Sharding.{Sharding}
 use Rattle.rules.specs.Collectives.{Step, after}
 use Rattle.rules.specs.Refusals.{Judged, accept, refuse, _>>=_}
 use Rattle.rules.specs.PlanFile.{Read, stepAt, judgeStep, plain, StepsRead, plainAt}
+use Rattle.rules.specs.Moved.{movedFrom}
 use Rattle.laws.proofs.Judging.{never, accept-inj, bind-assoc}
 use Rattle.taking.specs.Taking.{StepTaken, takeStep}
 use Rattle.taking.proofs.Takes.{is-after}
@@ -54,11 +55,12 @@ module _ (mesh sizes file : List ℕ) (k at : ℕ) (s : Sharding) where
   plain-stops largest e = ap (summarized mesh sizes k largest s) (plain-take ∙ ap (λ (j : Judged (Read StepTaken)). _>>=_ j as-read) e)
 
   pub plain-is : {m : Read StepTaken} → takeStep mesh sizes k file at s ≡ accept m → (largest : ℕ) {most : ℕ} → shardWords mesh sizes s ≤ largest
-      → most ≡ max largest (shardWords mesh sizes (m .value .sharding))
+      → most ≡ max largest (shardWords mesh sizes (m .value .sharding)) → {moved : ℕ} → moved ≡ movedFrom mesh sizes (m .value .step) s
       → summarized mesh sizes k largest s (plainAt mesh sizes file k at s)
-      ≡ accept (record { value = record { number = k + 1; runs = 1; largest = most; sharding = m .value .sharding }; next = m .next })
-  plain-is {m} e largest {most} h q =
+      ≡ accept (record { value = record { number = k + 1; runs = 1; largest = most; moved = moved; sharding = m .value .sharding }; next = m .next })
+  plain-is {m} e largest {most} h q {moved} c =
       let l : max largest (max (shardWords mesh sizes s) (shardWords mesh sizes (after (m .value .step) s))) ≡ most =
       ap (λ (z : Sharding). max largest (max (shardWords mesh sizes s) (shardWords mesh sizes z))) (sym (is-after mesh sizes k file at s e)) ∙ omega (arith, q) in
+      let one : movedFrom mesh sizes (m .value .step) s + 0 ≡ moved = omega (arith, c) in
       ap (summarized mesh sizes k largest s) (plain-take ∙ ap (λ (j : Judged (Read StepTaken)). _>>=_ j as-read) e)
-      ∙ ap (λ (z : ℕ). accept (record { value = record { number = k + 1; runs = 1; largest = z; sharding = m .value .sharding }; next = m .next })) l
+      ∙ (λ i. accept (record { value = record { number = k + 1; runs = 1; largest = l i; moved = one i; sharding = m .value .sharding }; next = m .next }))

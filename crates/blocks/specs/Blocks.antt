@@ -11,6 +11,7 @@ use Rattle.rules.specs.Sharding.{Sharding, shardSizes}
 use Rattle.rules.specs.Refusals.{Judged, accept, refuse, _>>=_, _>>_, needAt}
 use Rattle.types.specs.Answers.{refusedAs}
 use Rattle.rules.specs.PlanFile.{Read, StepsRead, JudgesSteps, stepsAt, positiveAt, sameSharding, tooDeep, itemAt}
+use Rattle.rules.specs.Moved.{addedOn, movedFrom, mostMoved}
 use Rattle.laws.specs.Demands.{onePass, largestOn}
 use Rattle.types.specs.Types.{shardingOf, meshOf, sizesOf}
 use Rattle.types.specs.declared.Refusal.{Refusal}
@@ -21,6 +22,8 @@ use Rattle.types.specs.declared.Table.{Table}
 use Rattle.reader.specs.Reading.{reading, Tells}
 use Rattle.reader.specs.declared.Next.the-variants as next
 use Rattle.judge.specs.Step.{Sharded}
+use Rattle.taking.specs.Charges.{Extends}
+use Rattle.taking.specs.declared.Extent.{Extent}
 use Rattle.blocks.specs.declared.Positive.{Positive}
 use Rattle.blocks.specs.declared.Positive.the-variants as positive
 use Rattle.blocks.specs.declared.RepeatRead.{RepeatRead}
@@ -75,11 +78,12 @@ innerAt mesh sizes file (suc depth) k = stepsAt (itemAt everyKind mesh sizes fil
 abbrev pub shardWords : (mesh sizes : List ℕ) → Sharding → ℕ
 shardWords mesh sizes s = product (shardSizes mesh sizes (s .dims))
 
--- the number of the next kind byte, the plain steps run, the most words of a shard so far, and the sharding after them
+-- the number of the next kind byte, the plain steps run, the most words of a shard so far, the words moved between devices, and the sharding after them
 pub record Summary : Type 0 where
   pub number : ℕ
   pub runs : ℕ
   pub largest : ℕ
+  pub moved : ℕ
   pub sharding : Sharding
 
 -- of steps from number k on, which begin with the sharding s; the shards before them had so many words at most
@@ -89,6 +93,7 @@ summaryOf mesh sizes k largest s w = record {
     number = k + length (w .records);
     runs = length (w .steps);
     largest = max largest (largestOn (shardWords mesh sizes) s (onePass (w .records)));
+    moved = addedOn (movedFrom mesh sizes) s (w .steps);
     sharding = w .sharding;
   };
   next = w .next;
@@ -99,16 +104,17 @@ summarized mesh sizes k largest s (accept w) = accept (summaryOf mesh sizes k la
 summarized mesh sizes k largest s (refuse a b) = refuse a b
 
 abbrev pub summaryIn : ℕ → StepsJudged → Summary
-summaryIn rank r = record { number = r .number; runs = r .runs; largest = r .largest; sharding = shardingOf rank (r .sharding) }
+summaryIn rank r = record { number = r .number; runs = r .runs; largest = r .largest; moved = r .moved; sharding = shardingOf rank (r .sharding) }
 
 -- beside a refusal: nothing, and the sharding s as it was
 abbrev pub StepsTell : ℕ → Sharding → Judged (Read Summary) → StepsJudged → Type 0
-StepsTell rank s j r = Tells (record { number = 0; runs = 0; largest = 0; sharding = s }) j (r .next) (summaryIn rank r)
+StepsTell rank s j r = Tells (record { number = 0; runs = 0; largest = 0; moved = 0; sharding = s }) j (r .next) (summaryIn rank r)
 
--- What is asked before a step: the sharding is one, its shard is counted, and there are no fewer bytes before it than kind bytes.
-pub record Judging (file : List ℕ) (at k : ℕ) (mesh : Mesh) (table : Table) (total largest : ℕ) (s : code.Sharding) : Type 0 where
+-- What is asked before a step: mesh and table are within their limits, the sharding is one, its shard is counted, and there are no fewer bytes before it
+-- than kind bytes.
+pub record Judging (file : List ℕ) (at k : ℕ) (mesh : Mesh) (table : Table) (extent : Extent) (largest : ℕ) (s : code.Sharding) : Type 0 where
   pub ready : Sharded mesh table s
-  pub total-is : total ≡ product (sizesOf table)
+  pub extends : Extends extent mesh table
   pub counted : shardWords (meshOf mesh) (sizesOf table) (shardingOf (table .rank) s) ≤ largest
   pub number-few : k ≤ at
   pub inside : at ≤ length file
@@ -116,11 +122,12 @@ pub record Judging (file : List ℕ) (at k : ℕ) (mesh : Mesh) (table : Table) 
 
 -- ---- the end of a block
 
--- the inner steps are accepted; they are a byte's number at most, and each runs no more than the limit
+-- the inner steps are accepted; they are a byte's number at most, and each runs no more than the limit, where no plain step moves more than its limit
 pub record Closing (block : StepsJudged) (rank : ℕ) : Type 0 where
   pub goes-on : (end : ℕ) × (block .next ≡ next.At end)
   pub rank-few : rank ≤ mostDims
   pub runs-few : block .runs ≤ 255 * mostRun
+  pub moved-few : block .moved ≤ block .runs * mostMoved
 
 -- "The sharding after the block must equal the one before it, list for list, else 41 at the repeat's number. More than 4,096 plain steps run in all is
 -- 43, tested after 41 for the repeat alone"
@@ -132,5 +139,6 @@ closed k count rank before block = do
     number = block .number;
     runs = count * block .runs;
     largest = block .largest;
+    moved = count * block .moved;
     sharding = shardingOf rank (block .sharding);
   })

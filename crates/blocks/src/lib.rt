@@ -13,6 +13,8 @@ ghost use Rattle.blocks.specs.Blocks.{positiveRead, positiveRefusal, hea
 ghost use Rattle.blocks.specs.Blocks.{summarized, StepsTell, Judging, Closing, closed};
 use axes::is_tail;
 use reader::Next;
+use taking::Extent;
+use taking::charge_step;
 use taking::larger;
 use taking::shard_words;
 use taking::take_step;
@@ -161,12 +163,13 @@ pub fn same_sharding(a: Sharding, b: Sharding, rank: usize) -> bool
 }
 
 // Steps that were judged: where the next byte is, the number of the kind byte there, how many plain steps are run, the most words that a shard had so
-// far, and the sharding after them.
+// far, the words moved between devices, and the sharding after them.
 pub struct StepsJudged {
     pub next: Next,
     pub number: u16,
     pub runs: usize,
     pub largest: usize,
+    pub moved: u64,
     pub sharding: Sharding,
 }
 
@@ -180,6 +183,7 @@ impl StepsJudged {
             number: 0,
             runs: 0,
             largest: 0,
+            moved: 0,
             sharding,
         }
     }
@@ -192,11 +196,11 @@ fn judge_plain(
     k: u16,
     mesh: Mesh,
     table: Table,
-    total: usize,
+    extent: Extent,
     largest: usize,
     sharding: Sharding,
 ) -> StepsJudged
-    requires { ⌜ Judging (now file) at k mesh table total largest sharding ⌝ }
+    requires { ⌜ Judging (now file) at k mesh table extent largest sharding ⌝ }
     ensures { λ r. ⌜ StepsTell (table .rank) (shardingOf (table .rank) sharding)
         (summarized (meshOf mesh) (sizesOf table) k largest (shardingOf (table .rank) sharding)
         (plainAt (meshOf mesh) (sizesOf table) (now (file .entry)) k at (shardingOf (table .rank) sharding))) r ⌝ }
@@ -207,7 +211,8 @@ fn judge_plain(
         return StepsJudged::refused(next.refusal(), sharding);
     };
     let after = taken.sharding;
-    let words = shard_words(total, mesh, table, after);
+    let moved = charge_step(taken.step, extent, mesh, table, sharding);
+    let words = shard_words(extent.words, mesh, table, after);
     let most = larger(largest, words);
     let number = k + 1;
     StepsJudged {
@@ -215,6 +220,7 @@ fn judge_plain(
         number,
         runs: 1,
         largest: most,
+        moved,
         sharding: after,
     }
 }
@@ -246,11 +252,14 @@ fn close_block(k: u16, count: u8, block: StepsJudged, before: Sharding, rank: us
         );
     }
     let next = block.next;
+    let times = count as u64;
+    let moved = times * block.moved;
     StepsJudged {
         next,
         number: block.number,
         runs,
         largest: block.largest,
+        moved,
         sharding: after,
     }
 }
@@ -263,11 +272,11 @@ pub fn judge_block(
     depth: usize,
     mesh: Mesh,
     table: Table,
-    total: usize,
+    extent: Extent,
     largest: usize,
     sharding: Sharding,
 ) -> StepsJudged
-    requires { ⌜ Judging (now file) at (k + 1) mesh table total largest sharding ⌝ }
+    requires { ⌜ Judging (now file) at (k + 1) mesh table extent largest sharding ⌝ }
     ensures { λ r. ⌜ StepsTell (table .rank) (shardingOf (table .rank) sharding)
         (summarized (meshOf mesh) (sizesOf table) k largest (shardingOf (table .rank) sharding)
         (repeatAt (innerAt (meshOf mesh) (sizesOf table) (now (file .entry)) depth k) (now (file .entry)) k at (shardingOf (table .rank) sharding))) r ⌝ }
@@ -282,10 +291,11 @@ pub fn judge_block(
     let mut number = k + 1;
     let mut runs: usize = 0;
     let mut most = largest;
+    let mut moved: u64 = 0;
     let mut after = sharding;
     let mut i: usize = 0;
     while i < steps {
-        let item = judge_item(file, place, number, below, mesh, table, total, most, after);
+        let item = judge_item(file, place, number, below, mesh, table, extent, most, after);
         let next = item.next;
         let Next::At(end) = next else {
             return StepsJudged::refused(next.refusal(), sharding);
@@ -294,6 +304,7 @@ pub fn judge_block(
         number = item.number;
         runs = runs + item.runs;
         most = item.largest;
+        moved = moved + item.moved;
         after = item.sharding;
         i += 1;
     }
@@ -302,6 +313,7 @@ pub fn judge_block(
         number,
         runs,
         largest: most,
+        moved,
         sharding: after,
     };
     close_block(k, count, block, sharding, table.rank)
@@ -315,11 +327,11 @@ pub fn judge_item(
     depth: usize,
     mesh: Mesh,
     table: Table,
-    total: usize,
+    extent: Extent,
     largest: usize,
     sharding: Sharding,
 ) -> StepsJudged
-    requires { ⌜ Judging (now file) at k mesh table total largest sharding ⌝ }
+    requires { ⌜ Judging (now file) at k mesh table extent largest sharding ⌝ }
     ensures { λ r. ⌜ StepsTell (table .rank) (shardingOf (table .rank) sharding)
         (summarized (meshOf mesh) (sizesOf table) k largest (shardingOf (table .rank) sharding)
         (itemAt everyKind (meshOf mesh) (sizesOf table) (now (file .entry)) depth k at (shardingOf (table .rank) sharding))) r ⌝ }
@@ -332,11 +344,11 @@ pub fn judge_item(
             depth,
             mesh,
             table,
-            total,
+            extent,
             largest,
             sharding,
         )
     } else {
-        judge_plain(file, at, k, mesh, table, total, largest, sharding)
+        judge_plain(file, at, k, mesh, table, extent, largest, sharding)
     }
 }

@@ -1,11 +1,11 @@
 -- Laws of groups and of the group listing (specs/Mesh.antt). The main ones: the group by position has each device that agrees outside the list
 -- exactly once, and no other (`group-by-position`); the listing place by place, as code writes it (`places-tab`); the listing is a rearrangement
 -- of the device numbers (`places-rearranges`). Assumes nothing.
-use Prim.Native.Nat.{ℕ, zero, suc, _+_, _*_, _/_, _%_, _<_}
+use Prim.Native.Nat.{ℕ, zero, suc, _+_, _*_, _/_, _%_, _≤_, _<_}
 use mathlib.Core.Path.{_≡_, refl, sym, ap, ap₂, _∙_, subst}
 use mathlib.Core.Logic.{inl, inr, ⊎-elim}
 use mathlib.Core.List.{List, [], _∷_, _++_, map, append-nil, append-assoc}
-use native.Mathlib.Nat.{add-zero, add-suc, zero-mul, suc-mul, mul-comm, mod-lt, div-add-mod'}
+use native.Mathlib.Nat.{add-zero, add-suc, zero-mul, suc-mul, mul-comm, mod-lt, div-add-mod', le-mul-of-pos-right}
 use native.Mathlib.Omega.{arith}
 use native.Mathlib.Decide.{ℕ-discrete}
 use lib.ListN.{length, getD, set, replicate, length-replicate}
@@ -114,7 +114,7 @@ module _ (mesh : List ℕ) where
       go (no n) (inr j) ih = rw (without-other a b U n, ← ih j) (omega arith)
 
   -- and by those along all but some
-  span-without : (L U : List ℕ) → ((a : ℕ) → In a L → In a U) → Distinct L → Distinct U → span mesh (without U L) * span mesh L ≡ span mesh U
+  pub span-without : (L U : List ℕ) → ((a : ℕ) → In a L → In a U) → Distinct L → Distinct U → span mesh (without U L) * span mesh L ≡ span mesh U
   span-without [] U sub dL dU = rw (without-none U) (omega arith)
   span-without (a ∷ L) U sub dL dU =
       let R : List ℕ = without U (a ∷ []) in
@@ -189,6 +189,13 @@ module _ (mesh L : List ℕ) (distinct : Distinct L) (of-axes : (a : ℕ) → In
   groups-devices =
       span-without mesh L (tab (length mesh) (λ a. a)) (λ a i. axes-in a (length mesh) (of-axes a i)) distinct (distinct-axes (length mesh))
       ∙ span-all mesh
+
+  -- a group has at most all devices
+  pub group-few : 0 < devices mesh → span mesh L ≤ devices mesh
+  group-few some =
+      let r : ℕ = span mesh (remaining mesh L) in
+      let e : span mesh L * r ≡ devices mesh = mul-comm (span mesh L) r ∙ groups-devices in
+      subst (λ d. span mesh L ≤ d) e (le-mul-of-pos-right (span mesh L) (pos-of-lt (span mesh L) r (subst (λ d. 0 < d) (sym e) some)))
 
   -- the remaining axes and those of the list are all axes
   pub span-remaining : span mesh (remaining mesh L ++ L) ≡ devices mesh

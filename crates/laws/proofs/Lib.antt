@@ -29,4 +29,6 @@ pub mod Refusing
 pub mod Locality
 pub mod Stands
 pub mod Moves
+pub mod Counting
+pub mod Moved
 pub mod Promises

@@ -88,7 +88,7 @@ pub record Reshapes (mesh : List ℕ) (Gs Ss : List (List ℕ)) (shape new : Lis
   pub parts : Cut mesh Ss (grown mesh Gs shape) new
 
 -- the words of a state that is gathered along Gs and then sliced along Ss
-abbrev fetched : {W : Type 0} → (mesh : List ℕ) (Gs Ss : List (List ℕ)) (shape new : List ℕ) → StateOf W → StateOf W
+abbrev pub fetched : {W : Type 0} → (mesh : List ℕ) (Gs Ss : List (List ℕ)) (shape new : List ℕ) → StateOf W → StateOf W
 fetched mesh Gs Ss shape new w x i =
     w (owner mesh Gs shape (from (firstIndexes mesh Ss new x) i) x) (within shape (from (firstIndexes mesh Ss new x) i))
 
@@ -212,7 +212,7 @@ module _ (mesh sizes : List ℕ) (pos : (a : ℕ) → zero < getD mesh a 1) wher
   abbrev rankOf : Sharding → ℕ
   rankOf s = length (shapeOf s)
 
-  step-reshapes : (t : Step) (s : Sharding) → Moving t → IsSharding mesh sizes s → AcceptedStep mesh sizes t s
+  pub step-reshapes : (t : Step) (s : Sharding) → Moving t → IsSharding mesh sizes s → AcceptedStep mesh sizes t s
       → Reshapes mesh (gathers t (rankOf s)) (slices t (rankOf s)) (shapeOf s) (shapeAfter mesh t (shapeOf s))
   step-reshapes (allSlice Ss) s m h f =
       let c : Cut mesh Ss (shapeOf s) (shardSizes mesh (shapeOf s) Ss) = step-ready mesh sizes pos (allSlice Ss) s h f in
@@ -237,7 +237,7 @@ module _ (mesh sizes : List ℕ) (pos : (a : ℕ) → zero < getD mesh a 1) wher
 
   -- the words fetched are those that the rules make
   module _ {W : Type 0} (addAll : List W → W) (one : (a : W) → addAll (a ∷ []) ≡ a) where
-    fetched-made : (t : Step) (s : Sharding) (w : StateOf W) (x i : List ℕ) → Moving t → IsSharding mesh sizes s → AcceptedStep mesh sizes t s
+    pub fetched-made : (t : Step) (s : Sharding) (w : StateOf W) (x i : List ℕ) → Moving t → IsSharding mesh sizes s → AcceptedStep mesh sizes t s
         → Below x mesh → Below i (shapeAfter mesh t (shapeOf s))
         → fetched mesh (gathers t (rankOf s)) (slices t (rankOf s)) (shapeOf s) (shapeAfter mesh t (shapeOf s)) w x i
         ≡ made addAll (sources mesh t (shapeOf s)) w x i
@@ -267,7 +267,7 @@ module _ (mesh sizes : List ℕ) (pos : (a : ℕ) → zero < getD mesh a 1) wher
   -- ---- what the kernel asks
 
   -- the lists of an accepted step have no axis twice, and only axes of the mesh
-  gathers-distinct : (t : Step) (s : Sharding) → IsSharding mesh sizes s → AcceptedStep mesh sizes t s → Distinct (flat (gathers t (rankOf s)))
+  pub gathers-distinct : (t : Step) (s : Sharding) → IsSharding mesh sizes s → AcceptedStep mesh sizes t s → Distinct (flat (gathers t (rankOf s)))
   gathers-distinct (allSlice Ss) s h f = subst Distinct (sym (flat-empty (rankOf s))) tt
   gathers-distinct (allGather Gs) s h f = gather-sharding mesh sizes pos Gs s h (f .by-kind) .apart .right
   gathers-distinct (allReduce L) s h f = subst Distinct (sym (flat-empty (rankOf s))) tt
@@ -286,7 +286,7 @@ module _ (mesh sizes : List ℕ) (pos : (a : ℕ) → zero < getD mesh a 1) wher
       subst Distinct (g ∙ sym k) (gathers-distinct (allToAll source target L) s h f)
   slices-distinct (reduceScatter Ss) s h f = f .by-kind .once
 
-  gathers-below : (t : Step) (s : Sharding) → AcceptedStep mesh sizes t s → (a : ℕ) → In a (flat (gathers t (rankOf s))) → a < length mesh
+  pub gathers-below : (t : Step) (s : Sharding) → AcceptedStep mesh sizes t s → (a : ℕ) → In a (flat (gathers t (rankOf s))) → a < length mesh
   gathers-below (allSlice Ss) s f a i = absurd (subst (In a) (flat-empty (rankOf s)) i)
   gathers-below (allGather Gs) s f a i = f .axes a i
   gathers-below (allReduce L) s f a i = absurd (subst (In a) (flat-empty (rankOf s)) i)

@@ -9,6 +9,7 @@ use Rattle.rules.specs.WorkedRepeats as repeated
 use Rattle.rules.specs.WorkedScatters as scattered
 use Rattle.rules.specs.WorkedFactors as factored
 use Rattle.rules.specs.WorkedRoutes as routed
+use Rattle.rules.specs.WorkedMoves as moves
 use Rattle.laws.specs.Promises.{RulesPromise}
 use Rattle.laws.proofs.Whole as whole
 use Rattle.laws.proofs.Judging as judging
@@ -18,6 +19,7 @@ use Rattle.laws.proofs.Repeats as repeats
 use Rattle.laws.proofs.Accepted as accepted
 use Rattle.laws.proofs.Readers as readers
 use Rattle.laws.proofs.Locality as local
+use Rattle.laws.proofs.Moved as charges
 use Rattle.laws.proofs.Groups as group
 use Rattle.laws.proofs.Sums as sums
 
@@ -46,6 +48,9 @@ rules-promise = record {
   earlier-editions = readers.earlier-editions;
   earlier-steps = readers.earlier-steps;
   locality = local.locality;
+  plans-charged = charges.plans-charged;
+  blocks-charged = charges.blocks-charged;
+  one-number = charges.one-number;
   group-by-position = group.groups-by-position;
   sum-of-words = sums.addWords-total;
   worked = table.worked;
@@ -68,4 +73,5 @@ rules-promise = record {
   factors-counted = factored.factors-counted;
   routed = routed.routed;
   routes-compared = routed.routes-compared;
+  moves-counted = moves.moves-counted;
 }

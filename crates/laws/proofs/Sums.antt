@@ -46,11 +46,11 @@ pub sum-cong : (n : ℕ) {f g : ℕ → ℕ} → ((k : ℕ) → k < n → f k �
 sum-cong zero h = refl
 sum-cong (suc n) h = ap₂ _+_ (sum-cong n (λ k l. h k (omega arith))) (h n (omega arith))
 
-sum-zero : (n : ℕ) → sum n (λ k. 0) ≡ 0
+pub sum-zero : (n : ℕ) → sum n (λ k. 0) ≡ 0
 sum-zero zero = refl
 sum-zero (suc n) = rw (sum-zero n)
 
-sum-add : (n : ℕ) (f g : ℕ → ℕ) → sum n (λ k. f k + g k) ≡ sum n f + sum n g
+pub sum-add : (n : ℕ) (f g : ℕ → ℕ) → sum n (λ k. f k + g k) ≡ sum n f + sum n g
 sum-add zero f g = refl
 sum-add (suc n) f g = omega (arith, sum-add n f g)
 
@@ -78,7 +78,7 @@ sum-split : (n m : ℕ) (g : ℕ → ℕ) → sum (n + m) g ≡ sum n g + sum m 
 sum-split n zero g = rw (add-zero n) (omega arith)
 sum-split n (suc m) g = rw (add-suc n m) (omega (arith, sum-split n m g))
 
-sum-blocks : (n m : ℕ) (g : ℕ → ℕ) → sum (n * m) g ≡ sum n (λ k. sum m (λ r. g (k * m + r)))
+pub sum-blocks : (n m : ℕ) (g : ℕ → ℕ) → sum (n * m) g ≡ sum n (λ k. sum m (λ r. g (k * m + r)))
 sum-blocks zero m g = rw (zero-mul m) refl
 sum-blocks (suc n) m g = rw (suc-mul n m) (sum-split (n * m) m g ∙ ap (λ (z : ℕ). z + sum m (λ r. g (n * m + r))) (sum-blocks n m g))
 

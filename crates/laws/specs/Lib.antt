@@ -2,4 +2,5 @@
 pub mod Readers
 pub mod Demands
 pub mod Routes
+pub mod Moved
 pub mod Promises

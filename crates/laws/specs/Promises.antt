@@ -20,6 +20,7 @@ use Rattle.laws.specs.Demands.{
   SumOfWords,
 }
 use Rattle.laws.specs.Routes.{RoutesMeet, RoutesMeetUnreduced, TableDecides, EqualShardsSpread, GatherUndoesSlice, ThereAndBack}
+use Rattle.laws.specs.Moved.{PlansCharged, BlocksCharged, OneNumber}
 use Rattle.rules.specs.Ledger.{Holds, ledger, beside as besideIt}
 use Rattle.rules.specs.WorkedRefusals.{refusals}
 use Rattle.rules.specs.WorkedGroups.{InGroups}
@@ -30,12 +31,13 @@ use Rattle.rules.specs.WorkedRepeats.{repeats, RepeatsRead}
 use Rattle.rules.specs.WorkedScatters.{scatters, ScattersRead}
 use Rattle.rules.specs.WorkedFactors.{factors, FactorsCounted}
 use Rattle.rules.specs.WorkedRoutes.{routes, RoutesCompared}
+use Rattle.rules.specs.WorkedMoves.{MovesCounted}
 
 -- Demand 3 for every plan that passes, where its factor is 1 and what 1 times a table is, and that it speaks of something; two routes, one table; the
--- room's limit; that the replicated list stays; when an all-reduce is 27; what repeats come to; the numbers of refusals; what readers that take less answer; a step's locality;
--- what a group and a sum of words are; the ledger W1 to W10, and cases beside it; a file or a call for each refusal number; groups, a rearrangement and a
--- spread on the smallest meshes; each limit from both sides; files of the later editions; files with repeats; files with reduce-scatters; files that
--- reduce replicated axes; pairs of routes.
+-- room's limit; that the replicated list stays; when an all-reduce is 27; what repeats come to; the numbers of refusals; what readers that take less
+-- answer; a step's locality; what a plan moves between devices; what a group and a sum of words are; the ledger W1 to W10, and cases beside it; a file or
+-- a call for each refusal number; groups, a rearrangement and a spread on the smallest meshes; each limit from both sides; files of the later editions;
+-- files with repeats; files with reduce-scatters; files that reduce replicated axes; pairs of routes; words moved.
 pub record RulesPromise : Type 1 where
   pub whole-plan : WholePlan
   pub factor-one : FactorOne
@@ -60,6 +62,9 @@ pub record RulesPromise : Type 1 where
   pub earlier-editions : EarlierEditions
   pub earlier-steps : (kind : ℕ) → EarlierSteps kind
   pub locality : Locality
+  pub plans-charged : PlansCharged
+  pub blocks-charged : BlocksCharged
+  pub one-number : OneNumber
   pub group-by-position : GroupByPosition
   pub sum-of-words : SumOfWords
   pub worked : All Holds ledger
@@ -82,3 +87,4 @@ pub record RulesPromise : Type 1 where
   pub factors-counted : FactorsCounted
   pub routed : All Holds routes
   pub routes-compared : RoutesCompared
+  pub moves-counted : MovesCounted

@@ -11,11 +11,13 @@ use Rattle.rules.specs.Limits.{mostAxes, mostDevices, mostWords, mostDims, most
 use Rattle.rules.specs.Refusals.{Judged, accept, _>>=_}
 use Rattle.rules.specs.PlanFile.{Read, outermostAt, judgeFront, Plan, judge, announced, largestShard, room, StateAnswer, stepsRun, stateOf}
 use Rattle.types.specs.Types.{dimsOf, shardingOf, meshOf, sizesOf, WithinPlaces}
+use Rattle.rules.specs.Moved.{wordsMoved}
 use Rattle.rules.specs.Calls.{CheckAnswer}
 use Rattle.types.specs.declared.Mesh.{Mesh}
 use Rattle.types.specs.declared.Sharding as code
 use Rattle.types.specs.declared.Table.{Table}
 use Rattle.reader.specs.Reading.{reading, Tells, orderIn, noLists, Counted}
+use Rattle.laws.proofs.Accepted.{Within}
 use Rattle.judge.specs.Step.{Sharded}
 use Rattle.plan.specs.declared.Walk.{Walk}
 use Rattle.plan.specs.declared.Whole.{Whole}
@@ -24,22 +26,30 @@ use Rattle.plan.specs.declared.State.{State}
 -- ---- outermost steps in turn
 
 -- what is asked before so many of them, which begin at a position with a sharding: they stand behind the header, and in a file within its limit
-pub record Begins (file : List ℕ) (at count : ℕ) (mesh : Mesh) (table : Table) (s : code.Sharding) : Type 0 where
+pub record Begins (file : List ℕ) (at count devices : ℕ) (mesh : Mesh) (table : Table) (s : code.Sharding) : Type 0 where
   pub ready : Sharded mesh table s
+  pub within : Within (meshOf mesh) (sizesOf table)
+  pub devices-are : devices ≡ devicesOf (meshOf mesh)
   pub few : count ≤ mostSteps
   pub behind : leastBytes ≤ at
   pub inside : at ≤ length file
   pub short : length file ≤ mostBytes
 
--- the sharding after the steps, the one after those up to a state, and the most words that a shard has on the way, start included and inside blocks:
--- the same in any order of the devices, here the plain one
+-- the sharding after the steps, the one after those up to a state, the most words that a shard has on the way, start included and inside blocks, and the
+-- words moved between devices: the same in any order of the devices, here the plain one
 pub record Walked : Type 0 where
   pub sharding : Sharding
   pub kept : Sharding
   pub most : ℕ
+  pub moved : ℕ
 
 abbrev pub walkedOf : Plan → ℕ → Walked
-walkedOf p state = record { sharding = announced p (length (p .steps)); kept = announced p (stepsRun p state); most = largestShard p }
+walkedOf p state = record {
+  sharding = announced p (length (p .steps));
+  kept = announced p (stepsRun p state);
+  most = largestShard p;
+  moved = wordsMoved p;
+}
 
 unfoldable pub walkAt : (mesh sizes : List ℕ) → (state count : ℕ) → List ℕ → ℕ → Sharding → Judged (Read Walked)
 unfolding outermostAt
@@ -63,6 +73,7 @@ walkRead rank r = reading (r .next) (record {
   sharding = shardingOf rank (r .sharding);
   kept = shardingOf rank (r .kept);
   most = r .most;
+  moved = r .moved;
 })
 
 -- ---- the whole file
@@ -74,6 +85,7 @@ pub record WholeAnswer : Type 0 where
   pub start : Sharding
   pub steps : ℕ
   pub most : ℕ
+  pub moved : ℕ
   pub last : Sharding
 
 abbrev pub planAnswer : Plan → WholeAnswer
@@ -83,6 +95,7 @@ planAnswer p = record {
   start = p .start;
   steps = length (p .runs);
   most = largestShard p;
+  moved = wordsMoved p;
   last = announced p (length (p .steps));
 }
 
@@ -104,6 +117,7 @@ wholeAnswer w = record {
   start = shardingOf (w .table .rank) (w .start);
   steps = w .steps;
   most = w .most;
+  moved = w .moved;
   last = shardingOf (w .table .rank) (w .last);
 }
 
@@ -125,6 +139,7 @@ pub record HoldsPlan (file : List ℕ) (at : ℕ) (w : Whole) (p : Plan) : Type 
   pub steps-are : length (p .runs) ≡ w .steps
   pub devices-are : devicesOf (p .mesh) ≡ w .devices
   pub room-is : room p ≡ w .devices * w .most
+  pub moved-is : wordsMoved p ≡ w .moved
   pub last-is : announced p (length (p .steps)) ≡ shardingOf (w .table .rank) (w .last)
   pub opens : judgeFront file ≡ accept (record { mesh = p .mesh; order = p .order; sizes = p .sizes; start = p .start; next = at })
   pub ready : Sharded (w .mesh) (w .table) (w .start)
@@ -143,6 +158,7 @@ answerOf w = record {
   rank = w .table .rank;
   sharding = shardingOf (w .table .rank) (w .last);
   shard = shardSizes (meshOf (w .mesh)) (sizesOf (w .table)) (take (w .table .rank) (dimsOf (w .last .dims)));
+  moved = w .moved;
 }
 
 pub record Bounded (w : Whole) : Type 0 where

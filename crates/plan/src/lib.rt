@@ -19,6 +19,7 @@ use opening::Opening;
 use opening::open;
 use reader::Next;
 use reader::Shape;
+use taking::Extent;
 use taking::shard_words;
 use types::CheckOutcome;
 use types::Checked;
@@ -35,6 +36,7 @@ use types::Totals;
 struct Walk {
     next: Next,
     most: usize,
+    moved: u64,
     sharding: Sharding,
     kept: Sharding,
 }
@@ -46,6 +48,7 @@ impl Walk {
         Walk {
             next: Next::Refused(refusal),
             most: 0,
+            moved: 0,
             sharding,
             kept: sharding,
         }
@@ -65,24 +68,30 @@ fn walk_steps(
     at: usize,
     count: usize,
     state: usize,
+    devices: usize,
     mesh: Mesh,
     table: Table,
     start: Sharding,
 ) -> Walk
-    requires { ⌜ Begins (now file) at count mesh table start ⌝ }
+    requires { ⌜ Begins (now file) at count devices mesh table start ⌝ }
     ensures { λ r. ⌜ walkRead (table .rank) r ≡ walkAt (meshOf mesh) (sizesOf table) state count (now (file .entry)) at (shardingOf (table .rank) start) ⌝ }
 {
     let total = words(table);
+    let extent = Extent {
+        devices,
+        words: total,
+    };
     let depth = Step::MOST_DEPTH;
     let mut after = start;
     let mut kept = start;
     let mut most = shard_words(total, mesh, table, start);
+    let mut moved: u64 = 0;
     let mut place = at;
     let mut number: u16 = 1;
     let mut ran: usize = 0;
     let mut k: usize = 0;
     while k < count {
-        let item = judge_item(file, place, number, depth, mesh, table, total, most, after);
+        let item = judge_item(file, place, number, depth, mesh, table, extent, most, after);
         let next = item.next;
         let Next::At(end) = next else {
             return Walk::refused(next.refusal(), start);
@@ -96,6 +105,7 @@ fn walk_steps(
         place = end;
         number = item.number;
         most = item.largest;
+        moved = moved + item.moved;
         after = item.sharding;
         kept = kept_until(state, k, kept, after);
         k += 1;
@@ -103,17 +113,20 @@ fn walk_steps(
     Walk {
         next: Next::At(place),
         most,
+        moved,
         sharding: after,
         kept,
     }
 }
 
-// A file that was judged whole: what stands before its steps, where these begin, the most words of a shard, and the last sharding.
+// A file that was judged whole: what stands before its steps, where these begin, the most words of a shard, the words moved between devices, and the last
+// sharding.
 pub struct Whole {
     pub next: Next,
     pub devices: usize,
     pub steps: usize,
     pub most: usize,
+    pub moved: u64,
     pub mesh: Mesh,
     pub table: Table,
     pub start: Sharding,
@@ -140,6 +153,7 @@ impl Keeping {
             devices: none.devices,
             steps: 0,
             most: 1,
+            moved: 0,
             mesh,
             table,
             start,
@@ -164,7 +178,7 @@ fn judge_keeping(file: &[u8], state: usize) -> Keeping
     let mesh = opening.mesh;
     let table = opening.table;
     let start = opening.start;
-    let walk = walk_steps(file, at, steps, state, mesh, table, start);
+    let walk = walk_steps(file, at, steps, state, devices, mesh, table, start);
     let end = walk.next;
     let Next::At(place) = end else {
         return Keeping::refused(end.refusal());
@@ -176,6 +190,7 @@ fn judge_keeping(file: &[u8], state: usize) -> Keeping
         });
     }
     let most = walk.most;
+    let moved = walk.moved;
     let last = walk.sharding;
     let kept = walk.kept;
     let whole = Whole {
@@ -183,6 +198,7 @@ fn judge_keeping(file: &[u8], state: usize) -> Keeping
         devices,
         steps,
         most,
+        moved,
         mesh,
         table,
         start,
@@ -227,6 +243,7 @@ fn passed(whole: Whole) -> Checked
         devices: whole.devices as u16,
         steps: whole.steps as u16,
         rank: table.rank,
+        moved: whole.moved,
     };
     Checked {
         outcome: CheckOutcome::Passed(totals),
@@ -235,7 +252,8 @@ fn passed(whole: Whole) -> Checked
     }
 }
 
-// The check: the room, D, the number of steps, the rank, the final sharding and its shard sizes, or the refusal.
+// The check: the room, D, the number of steps, the rank, the words that a run moves between devices, the final sharding and its shard sizes, or the
+// refusal.
 pub fn check(file: &[u8]) -> Checked
     ensures { λ r. ⌜ CheckPromise (now (file .entry)) r ⌝ }
 {

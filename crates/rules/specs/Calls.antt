@@ -12,12 +12,13 @@ use Rattle.rules.specs.Spread.{tabulateBy, heldBy, addWords}
 use Rattle.rules.specs.Collectives.{Shards, stepped}
 use Rattle.rules.specs.Limits.{mostDevices}
 use Rattle.rules.specs.Refusals.{Judged, accept, refuse, _>>=_, _>>_, need}
+use Rattle.rules.specs.Moved.{wordsMoved}
 use Rattle.rules.specs.PlanFile.{Plan, judge, judgeBy, axesAllowed, judgeSizes, orderAllowed, judgeAxes, announced, announcedShape, room, stateOf}
 
 -- ---- the check
 
--- "The check returns the room, D, the final sharding and shard sizes, or a refusal." Beside them, the number of outermost steps and the
--- rank.
+-- "The check returns the room, D, the final sharding and shard sizes, or a refusal." Beside them, the number of outermost steps, the rank, and the words
+-- that a run moves between devices.
 pub record CheckAnswer : Type 0 where
   pub room : ℕ
   pub devices : ℕ
@@ -25,9 +26,10 @@ pub record CheckAnswer : Type 0 where
   pub rank : ℕ
   pub sharding : Sharding
   pub shard : List ℕ
+  pub moved : ℕ
 
 unfoldable pub checkOf : List ℕ → Judged CheckAnswer
-unfolding judgeBy announced announcedShape room
+unfolding judgeBy announced announcedShape room wordsMoved
 checkOf file = do
   p ← judge file
   accept (record {
@@ -37,6 +39,7 @@ checkOf file = do
     rank = length (p .sizes);
     sharding = announced p (length (p .steps));
     shard = announcedShape p (length (p .steps));
+    moved = wordsMoved p;
   })
 
 -- ---- the placement
@@ -122,19 +125,21 @@ runnable file work spare = do
 -- What a run answers, and what the two buffers hold after it.
 pub record Ran : Type 0 where
   pub outcome : Judged (Unit {0})
+  pub moved : ℕ
   pub work : List ℕ
   pub spare : List ℕ
 
 -- "Afterwards the first D times m words of work are the last state; the rest of work and all of spare are 0."
--- "All lent memory is then as it was.": of a refusal.
+-- "All lent memory is then as it was.": of a refusal. "The run's answer gains one number. .. A refused run moves nothing and says 0." (document 02, Ask 7)
 abbrev pub runLeaves : Judged Plan → (work spare : List ℕ) → Ran
 runLeaves (accept p) work spare = record {
   outcome = accept tt;
+  moved = wordsMoved p;
   work = lastState p work ++ replicate (length work - length (lastState p work)) 0;
   spare = replicate (length spare) 0;
 }
-runLeaves (refuse n k) work spare = record { outcome = refuse n k; work = work; spare = spare }
+runLeaves (refuse n k) work spare = record { outcome = refuse n k; moved = 0; work = work; spare = spare }
 
 unfoldable pub runOf : List ℕ → (work spare : List ℕ) → Ran
-unfolding runnable lastState
+unfolding runnable lastState wordsMoved
 runOf file work spare = runLeaves (runnable file work spare) work spare

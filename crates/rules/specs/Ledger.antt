@@ -95,14 +95,15 @@ Holds (ordered mesh order axes out a) = orderedOf mesh order axes out ≡ a
 Holds (ran file work spare a) = runOf file work spare ≡ a
 
 -- the check passes, with these answers; the placement finds these
-abbrev pub passed : (room devices steps : ℕ) → (dims : List (List ℕ)) → (unreduced shard : List ℕ) → Judged CheckAnswer
-passed room devices steps dims unreduced shard = accept (record {
+abbrev pub passed : (room devices steps moved : ℕ) → (dims : List (List ℕ)) → (unreduced shard : List ℕ) → Judged CheckAnswer
+passed room devices steps moved dims unreduced shard = accept (record {
   room = room;
   devices = devices;
   steps = steps;
   rank = length shard;
   sharding = record { dims = dims; unreduced = unreduced; replicated = [] };
   shard = shard;
+  moved = moved;
 })
 
 abbrev pub found : (dims : List (List ℕ)) → (unreduced shard first : List ℕ) → Judged PlaceAnswer
@@ -124,19 +125,19 @@ listsAs mesh axes groups =
 
 -- Work begins with the words given and is two words longer than the room, spare three words. The words left are followed by zeros alone, and all of
 -- spare is 0.
-abbrev pub leaves : (file : List ℕ) → (room : ℕ) → (words left : List ℕ) → Case
-leaves file room words left =
+abbrev pub leaves : (file : List ℕ) → (room moved : ℕ) → (words left : List ℕ) → Case
+leaves file room moved words left =
     ran file (words ++ nines (room + 2 - length words)) (nines (room + 3))
-    (record { outcome = accept tt; work = left ++ replicate (room + 2 - length left) 0; spare = replicate (room + 3) 0 })
+    (record { outcome = accept tt; moved = moved; work = left ++ replicate (room + 2 - length left) 0; spare = replicate (room + 3) 0 })
 
 -- ---- the ledger
 
 abbrev pub ledger : List Case
 ledger =
     -- W1; its room is W2's
-    checked w1 (passed 32 4 1 ((0 ∷ []) ∷ [] ∷ []) [] (2 ∷ 4 ∷ []))
+    checked w1 (passed 32 4 1 16 ((0 ∷ []) ∷ [] ∷ []) [] (2 ∷ 4 ∷ []))
     -- W2
-    ∷ leaves w1 32 (tab 16 (λ k. k + 1)) (
+    ∷ leaves w1 32 16 (tab 16 (λ k. k + 1)) (
     1 ∷ 2 ∷ 5 ∷ 6 ∷ 3 ∷ 4 ∷ 7 ∷ 8 ∷ 1 ∷ 2 ∷ 5 ∷ 6 ∷ 3 ∷ 4 ∷ 7 ∷ 8
     ∷ 9 ∷ 10 ∷ 13 ∷ 14 ∷ 11 ∷ 12 ∷ 15 ∷ 16 ∷ 9 ∷ 10 ∷ 13 ∷ 14 ∷ 11 ∷ 12 ∷ 15 ∷ 16 ∷ []
     )
@@ -158,21 +159,21 @@ ledger =
     ∷ placed (w4 []) 0 2 (found ((1 ∷ 0 ∷ []) ∷ []) [] (1 ∷ []) (1 ∷ []))
     ∷ placed (w4 []) 0 3 (found ((1 ∷ 0 ∷ []) ∷ []) [] (1 ∷ []) (3 ∷ []))
     -- W5: gather [1, 0]
-    ∷ leaves (w4 ((2 ∷ 2 ∷ 1 ∷ 0 ∷ []) ∷ [])) 16 (10 ∷ 30 ∷ 20 ∷ 40 ∷ [])
+    ∷ leaves (w4 ((2 ∷ 2 ∷ 1 ∷ 0 ∷ []) ∷ [])) 16 12 (10 ∷ 30 ∷ 20 ∷ 40 ∷ [])
     (10 ∷ 20 ∷ 30 ∷ 40 ∷ 10 ∷ 20 ∷ 30 ∷ 40 ∷ 10 ∷ 20 ∷ 30 ∷ 40 ∷ 10 ∷ 20 ∷ 30 ∷ 40 ∷ [])
     -- W6: gather [0], and gather [1]
-    ∷ leaves (w4 ((2 ∷ 1 ∷ 0 ∷ []) ∷ [])) 8 (10 ∷ 30 ∷ 20 ∷ 40 ∷ []) (10 ∷ 20 ∷ 30 ∷ 40 ∷ 10 ∷ 20 ∷ 30 ∷ 40 ∷ [])
+    ∷ leaves (w4 ((2 ∷ 1 ∷ 0 ∷ []) ∷ [])) 8 4 (10 ∷ 30 ∷ 20 ∷ 40 ∷ []) (10 ∷ 20 ∷ 30 ∷ 40 ∷ 10 ∷ 20 ∷ 30 ∷ 40 ∷ [])
     ∷ checked (w4 ((2 ∷ 1 ∷ 1 ∷ []) ∷ [])) (refuse 24 1)
     -- W7
-    ∷ leaves (w7 2 (0 ∷ [])) 4 (1 ∷ 2 ∷ 5 ∷ 6 ∷ []) (6 ∷ 8 ∷ 6 ∷ 8 ∷ [])
-    ∷ leaves (w7 1 (0 ∷ [])) 2 (4294967295 ∷ 2 ∷ []) (1 ∷ 1 ∷ [])
+    ∷ leaves (w7 2 (0 ∷ [])) 4 4 (1 ∷ 2 ∷ 5 ∷ 6 ∷ []) (6 ∷ 8 ∷ 6 ∷ 8 ∷ [])
+    ∷ leaves (w7 1 (0 ∷ [])) 2 2 (4294967295 ∷ 2 ∷ []) (1 ∷ 1 ∷ [])
     -- W8
-    ∷ leaves w8 4 (1 ∷ 2 ∷ 3 ∷ 4 ∷ []) (1 ∷ 3 ∷ 2 ∷ 4 ∷ [])
+    ∷ leaves w8 4 2 (1 ∷ 2 ∷ 3 ∷ 4 ∷ []) (1 ∷ 3 ∷ 2 ∷ 4 ∷ [])
     -- W9
     ∷ checked (w9 6) (refuse 17 0)
-    ∷ checked (w9 8) (passed 8 4 0 ((0 ∷ []) ∷ []) [] (2 ∷ []))
+    ∷ checked (w9 8) (passed 8 4 0 0 ((0 ∷ []) ∷ []) [] (2 ∷ []))
     -- W10: 27 in 01; document 02, Ask 6: "W10 now passes"
-    ∷ checked (w7 2 []) (passed 4 2 1 ([] ∷ []) [] (2 ∷ []))
+    ∷ checked (w7 2 []) (passed 4 2 1 4 ([] ∷ []) [] (2 ∷ []))
     ∷ []
 
 pub worked : All Holds ledger
@@ -201,38 +202,38 @@ turned = on2x2 (4 ∷ 4 ∷ []) ((0 ∷ []) ∷ (1 ∷ []) ∷ [] ∷ []) (4 ∷
 abbrev pub beside : List Case
 beside =
     -- a run that does the first collective and relabels the later ones leaves other words
-    leaves gathersTwice 16 (10 ∷ 30 ∷ 20 ∷ 40 ∷ [])
+    leaves gathersTwice 16 12 (10 ∷ 30 ∷ 20 ∷ 40 ∷ [])
     (10 ∷ 20 ∷ 30 ∷ 40 ∷ 10 ∷ 20 ∷ 30 ∷ 40 ∷ 10 ∷ 20 ∷ 30 ∷ 40 ∷ 10 ∷ 20 ∷ 30 ∷ 40 ∷ [])
     -- "With no steps, the first D times m words stay as given."
-    ∷ leaves (w4 []) 4 (10 ∷ 30 ∷ 20 ∷ 40 ∷ []) (10 ∷ 30 ∷ 20 ∷ 40 ∷ [])
+    ∷ leaves (w4 []) 4 0 (10 ∷ 30 ∷ 20 ∷ 40 ∷ []) (10 ∷ 30 ∷ 20 ∷ 40 ∷ [])
     -- W7 with a sum between 2^31 and 2^32
-    ∷ leaves (w7 1 (0 ∷ [])) 2 (2147483647 ∷ 2 ∷ []) (2147483649 ∷ 2147483649 ∷ [])
+    ∷ leaves (w7 1 (0 ∷ [])) 2 2 (2147483647 ∷ 2 ∷ []) (2147483649 ∷ 2147483649 ∷ [])
     -- the largest state is neither the first nor the last
-    ∷ checked thereAndBack (passed 16 4 2 ((1 ∷ 0 ∷ []) ∷ []) [] (1 ∷ []))
-    ∷ leaves thereAndBack 16 (10 ∷ 30 ∷ 20 ∷ 40 ∷ []) (10 ∷ 30 ∷ 20 ∷ 40 ∷ [])
+    ∷ checked thereAndBack (passed 16 4 2 12 ((1 ∷ 0 ∷ []) ∷ []) [] (1 ∷ []))
+    ∷ leaves thereAndBack 16 12 (10 ∷ 30 ∷ 20 ∷ 40 ∷ []) (10 ∷ 30 ∷ 20 ∷ 40 ∷ [])
     -- "A run's result is defined for every buffer content, faithful or not." Devices that differ only on a replicated axis hold unequal words.
     -- Mesh 2, all-slice [0]: each device keeps a piece of its own shard
-    ∷ leaves (fileOf (2 ∷ []) (2 ∷ []) ([] ∷ [] ∷ []) ((1 ∷ 1 ∷ 0 ∷ []) ∷ [])) 4 (1 ∷ 2 ∷ 3 ∷ 4 ∷ []) (1 ∷ 4 ∷ [])
+    ∷ leaves (fileOf (2 ∷ []) (2 ∷ []) ([] ∷ [] ∷ []) ((1 ∷ 1 ∷ 0 ∷ []) ∷ [])) 4 0 (1 ∷ 2 ∷ 3 ∷ 4 ∷ []) (1 ∷ 4 ∷ [])
     -- mesh 2x2, axis 1 replicated throughout: all-slice, all-gather and all-reduce along [0], all-to-all from 0 to 1 along [0]
-    ∷ leaves (on2x2 (2 ∷ []) ([] ∷ [] ∷ []) (1 ∷ 1 ∷ 0 ∷ [])) 8 (tab 8 (λ k. k + 1)) (1 ∷ 3 ∷ 6 ∷ 8 ∷ [])
-    ∷ leaves (on2x2 (2 ∷ []) ((0 ∷ []) ∷ [] ∷ []) (2 ∷ 1 ∷ 0 ∷ [])) 8 (1 ∷ 2 ∷ 3 ∷ 4 ∷ []) (1 ∷ 3 ∷ 2 ∷ 4 ∷ 1 ∷ 3 ∷ 2 ∷ 4 ∷ [])
-    ∷ leaves (on2x2 (1 ∷ []) ([] ∷ (0 ∷ []) ∷ []) (3 ∷ 1 ∷ 0 ∷ [])) 4 (1 ∷ 2 ∷ 3 ∷ 4 ∷ []) (4 ∷ 6 ∷ 4 ∷ 6 ∷ [])
-    ∷ leaves (on2x2 (2 ∷ 2 ∷ []) ((0 ∷ []) ∷ [] ∷ [] ∷ []) (4 ∷ 0 ∷ 1 ∷ 1 ∷ 0 ∷ [])) 8 (tab 8 (λ k. k + 1))
+    ∷ leaves (on2x2 (2 ∷ []) ([] ∷ [] ∷ []) (1 ∷ 1 ∷ 0 ∷ [])) 8 0 (tab 8 (λ k. k + 1)) (1 ∷ 3 ∷ 6 ∷ 8 ∷ [])
+    ∷ leaves (on2x2 (2 ∷ []) ((0 ∷ []) ∷ [] ∷ []) (2 ∷ 1 ∷ 0 ∷ [])) 8 4 (1 ∷ 2 ∷ 3 ∷ 4 ∷ []) (1 ∷ 3 ∷ 2 ∷ 4 ∷ 1 ∷ 3 ∷ 2 ∷ 4 ∷ [])
+    ∷ leaves (on2x2 (1 ∷ []) ([] ∷ (0 ∷ []) ∷ []) (3 ∷ 1 ∷ 0 ∷ [])) 4 4 (1 ∷ 2 ∷ 3 ∷ 4 ∷ []) (4 ∷ 6 ∷ 4 ∷ 6 ∷ [])
+    ∷ leaves (on2x2 (2 ∷ 2 ∷ []) ((0 ∷ []) ∷ [] ∷ [] ∷ []) (4 ∷ 0 ∷ 1 ∷ 1 ∷ 0 ∷ [])) 8 4 (tab 8 (λ k. k + 1))
     (1 ∷ 5 ∷ 3 ∷ 7 ∷ 2 ∷ 6 ∷ 4 ∷ 8 ∷ [])
     -- along both axes: all-slice and all-gather with lists [1] and [0], all-reduce [0, 1], all-to-all along [1, 0]
-    ∷ leaves (on2x2 (2 ∷ 2 ∷ []) ([] ∷ [] ∷ [] ∷ []) (1 ∷ 1 ∷ 1 ∷ 1 ∷ 0 ∷ [])) 16 (tab 16 (λ k. k + 1)) (1 ∷ 7 ∷ 10 ∷ 16 ∷ [])
-    ∷ leaves (on2x2 (2 ∷ 2 ∷ []) ((1 ∷ []) ∷ (0 ∷ []) ∷ [] ∷ []) (2 ∷ 1 ∷ 1 ∷ 1 ∷ 0 ∷ [])) 16 (1 ∷ 2 ∷ 3 ∷ 4 ∷ [])
+    ∷ leaves (on2x2 (2 ∷ 2 ∷ []) ([] ∷ [] ∷ [] ∷ []) (1 ∷ 1 ∷ 1 ∷ 1 ∷ 0 ∷ [])) 16 0 (tab 16 (λ k. k + 1)) (1 ∷ 7 ∷ 10 ∷ 16 ∷ [])
+    ∷ leaves (on2x2 (2 ∷ 2 ∷ []) ((1 ∷ []) ∷ (0 ∷ []) ∷ [] ∷ []) (2 ∷ 1 ∷ 1 ∷ 1 ∷ 0 ∷ [])) 16 12 (1 ∷ 2 ∷ 3 ∷ 4 ∷ [])
     (1 ∷ 3 ∷ 2 ∷ 4 ∷ 1 ∷ 3 ∷ 2 ∷ 4 ∷ 1 ∷ 3 ∷ 2 ∷ 4 ∷ 1 ∷ 3 ∷ 2 ∷ 4 ∷ [])
-    ∷ leaves (on2x2 (1 ∷ []) ([] ∷ (0 ∷ 1 ∷ []) ∷ []) (3 ∷ 2 ∷ 0 ∷ 1 ∷ [])) 4 (1 ∷ 2 ∷ 3 ∷ 4 ∷ []) (10 ∷ 10 ∷ 10 ∷ 10 ∷ [])
-    ∷ leaves (on2x2 (4 ∷ 4 ∷ []) ((1 ∷ 0 ∷ []) ∷ [] ∷ [] ∷ []) (4 ∷ 0 ∷ 1 ∷ 2 ∷ 1 ∷ 0 ∷ [])) 16 (tab 16 (λ k. k + 1))
+    ∷ leaves (on2x2 (1 ∷ []) ([] ∷ (0 ∷ 1 ∷ []) ∷ []) (3 ∷ 2 ∷ 0 ∷ 1 ∷ [])) 4 12 (1 ∷ 2 ∷ 3 ∷ 4 ∷ []) (10 ∷ 10 ∷ 10 ∷ 10 ∷ [])
+    ∷ leaves (on2x2 (4 ∷ 4 ∷ []) ((1 ∷ 0 ∷ []) ∷ [] ∷ [] ∷ []) (4 ∷ 0 ∷ 1 ∷ 2 ∷ 1 ∷ 0 ∷ [])) 16 12 (tab 16 (λ k. k + 1))
     (1 ∷ 9 ∷ 5 ∷ 13 ∷ 3 ∷ 11 ∷ 7 ∷ 15 ∷ 2 ∷ 10 ∷ 6 ∷ 14 ∷ 4 ∷ 12 ∷ 8 ∷ 16 ∷ [])
     -- the lists after a step, where others stay: a slice's joined to the end; an all-to-all's off the source and joined to the end of the target's; the
     -- unreduced axes that a reduction leaves, in their order
-    ∷ checked (on2x2 (4 ∷ []) ((0 ∷ []) ∷ [] ∷ []) (1 ∷ 1 ∷ 1 ∷ [])) (passed 8 4 1 ((0 ∷ 1 ∷ []) ∷ []) [] (1 ∷ []))
-    ∷ leaves (on2x2 (4 ∷ []) ((0 ∷ []) ∷ [] ∷ []) (1 ∷ 1 ∷ 1 ∷ [])) 8 (tab 8 (λ k. k + 1)) (1 ∷ 4 ∷ 5 ∷ 8 ∷ [])
-    ∷ checked turned (passed 16 4 1 ([] ∷ (1 ∷ 0 ∷ []) ∷ []) [] (4 ∷ 1 ∷ []))
-    ∷ leaves turned 16 (tab 16 (λ k. k + 1)) (1 ∷ 3 ∷ 9 ∷ 11 ∷ 5 ∷ 7 ∷ 13 ∷ 15 ∷ 2 ∷ 4 ∷ 10 ∷ 12 ∷ 6 ∷ 8 ∷ 14 ∷ 16 ∷ [])
-    ∷ checked (fileOf (2 ∷ 2 ∷ 2 ∷ []) (1 ∷ []) ([] ∷ (0 ∷ 1 ∷ 2 ∷ []) ∷ []) ((3 ∷ 1 ∷ 1 ∷ []) ∷ [])) (passed 8 8 1 ([] ∷ []) (0 ∷ 2 ∷ []) (1 ∷ []))
+    ∷ checked (on2x2 (4 ∷ []) ((0 ∷ []) ∷ [] ∷ []) (1 ∷ 1 ∷ 1 ∷ [])) (passed 8 4 1 0 ((0 ∷ 1 ∷ []) ∷ []) [] (1 ∷ []))
+    ∷ leaves (on2x2 (4 ∷ []) ((0 ∷ []) ∷ [] ∷ []) (1 ∷ 1 ∷ 1 ∷ [])) 8 0 (tab 8 (λ k. k + 1)) (1 ∷ 4 ∷ 5 ∷ 8 ∷ [])
+    ∷ checked turned (passed 16 4 1 8 ([] ∷ (1 ∷ 0 ∷ []) ∷ []) [] (4 ∷ 1 ∷ []))
+    ∷ leaves turned 16 8 (tab 16 (λ k. k + 1)) (1 ∷ 3 ∷ 9 ∷ 11 ∷ 5 ∷ 7 ∷ 13 ∷ 15 ∷ 2 ∷ 4 ∷ 10 ∷ 12 ∷ 6 ∷ 8 ∷ 14 ∷ 16 ∷ [])
+    ∷ checked (fileOf (2 ∷ 2 ∷ 2 ∷ []) (1 ∷ []) ([] ∷ (0 ∷ 1 ∷ 2 ∷ []) ∷ []) ((3 ∷ 1 ∷ 1 ∷ []) ∷ [])) (passed 8 8 1 8 ([] ∷ []) (0 ∷ 2 ∷ []) (1 ∷ []))
     -- every state has a sharding, shard sizes and first indexes of its own
     ∷ placed gathersTwice 0 3 (found ((1 ∷ 0 ∷ []) ∷ []) [] (1 ∷ []) (3 ∷ []))
     ∷ placed gathersTwice 1 3 (found ((1 ∷ []) ∷ []) [] (2 ∷ []) (2 ∷ []))

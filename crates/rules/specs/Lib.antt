@@ -7,6 +7,7 @@ pub mod Collectives
 pub mod Limits
 pub mod Refusals
 pub mod PlanFile
+pub mod Moved
 pub mod Calls
 pub mod Factor
 pub mod Ledger
@@ -19,3 +20,4 @@ pub mod WorkedRepeats
 pub mod WorkedScatters
 pub mod WorkedFactors
 pub mod WorkedRoutes
+pub mod WorkedMoves

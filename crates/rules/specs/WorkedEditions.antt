@@ -43,8 +43,8 @@ cutAt n = set (take n there) 16 n
 abbrev pub shardingOf : (dim unreduced replicated : List ℕ) → Sharding
 shardingOf dim unreduced replicated = record { dims = dim ∷ []; unreduced = unreduced; replicated = replicated }
 
-abbrev pub passed : (room steps : ℕ) → Sharding → (words : ℕ) → Judged CheckAnswer
-passed room steps s words = accept (record { room = room; devices = 4; steps = steps; rank = 1; sharding = s; shard = words ∷ [] })
+abbrev pub passed : (room steps moved : ℕ) → Sharding → (words : ℕ) → Judged CheckAnswer
+passed room steps moved s words = accept (record { room = room; devices = 4; steps = steps; rank = 1; sharding = s; shard = words ∷ []; moved = moved })
 
 abbrev pub found : Sharding → (words first : ℕ) → Judged PlaceAnswer
 found s words first = accept (record { rank = 1; sharding = s; shard = words ∷ []; first = first ∷ [] })
@@ -52,8 +52,8 @@ found s words first = accept (record { rank = 1; sharding = s; shard = words ∷
 abbrev pub editions : List Case
 editions =
     -- the list is the last of the sharding's, and no step changes it: none, a reduction, a slice and a gather
-    checked (second (0 ∷ []) [] (1 ∷ []) []) (passed 8 0 (shardingOf (0 ∷ []) [] (1 ∷ [])) 2)
-    ∷ checked there (passed 16 3 (shardingOf [] [] (1 ∷ [])) 4)
+    checked (second (0 ∷ []) [] (1 ∷ []) []) (passed 8 0 0 (shardingOf (0 ∷ []) [] (1 ∷ [])) 2)
+    ∷ checked there (passed 16 3 24 (shardingOf [] [] (1 ∷ [])) 4)
     ∷ placed there 0 3 (found (shardingOf [] (0 ∷ []) (1 ∷ [])) 4 0)
     ∷ placed there 1 3 (found (shardingOf [] [] (1 ∷ [])) 4 0)
     ∷ placed there 2 3 (found (shardingOf (0 ∷ []) [] (1 ∷ [])) 2 2)
@@ -66,6 +66,7 @@ editions =
       rank = 2;
       sharding = record { dims = [] ∷ (1 ∷ []) ∷ []; unreduced = []; replicated = 0 ∷ [] };
       shard = 2 ∷ 1 ∷ [];
+      moved = 4;
     }))
     -- a list of two axes, through all four kinds of step
     ∷ checked (fileIn 2 (2 ∷ 2 ∷ 2 ∷ []) [] (2 ∷ 2 ∷ []) ([] ∷ [] ∷ (0 ∷ []) ∷ (1 ∷ 2 ∷ []) ∷ [])
@@ -76,9 +77,10 @@ editions =
       rank = 2;
       sharding = record { dims = [] ∷ [] ∷ []; unreduced = []; replicated = 1 ∷ 2 ∷ [] };
       shard = 2 ∷ 2 ∷ [];
+      moved = 56;
     }))
     -- the words are those of the same steps in edition 1, equal on the replicated axis or not
-    ∷ leaves there 16 (tab 16 (λ k. k + 1)) (
+    ∷ leaves there 16 24 (tab 16 (λ k. k + 1)) (
     10 ∷ 12 ∷ 14 ∷ 16 ∷ 18 ∷ 20 ∷ 22 ∷ 24 ∷ 10 ∷ 12 ∷ 14 ∷ 16 ∷ 18 ∷ 20 ∷ 22 ∷ 24 ∷ []
     )
     -- "An all-slice on such an axis is 23", before 25, at any axis of the list, and after 22; an all-gather or an all-to-all of one is 24, an
@@ -108,6 +110,7 @@ editions =
       rank = 1;
       sharding = record { dims = [] ∷ []; unreduced = 3 ∷ []; replicated = 1 ∷ 2 ∷ [] };
       shard = 3 ∷ [];
+      moved = 0;
     }))
     -- "an empty one in edition 2 is refused with 18, after 17", and before the first step; a list that is not empty is 17 still
     ∷ checked (wide (0 ∷ []) [] []) (refuse 17 0)

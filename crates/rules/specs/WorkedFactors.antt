@@ -43,31 +43,31 @@ abbrev pub factors : List Case
 factors =
     -- "New case: mesh 2, a table of one word with nothing split or unreduced, 7 on both cards, reduce [0]: 14 on both." "Reduce [0] twice in the new case
     -- gives 28 on both"
-    leaves (oneWord (reduce ∷ [])) 2 (7 ∷ 7 ∷ []) (14 ∷ 14 ∷ [])
-    ∷ leaves (oneWord (reduce ∷ reduce ∷ [])) 2 (7 ∷ 7 ∷ []) (28 ∷ 28 ∷ [])
+    leaves (oneWord (reduce ∷ [])) 2 2 (7 ∷ 7 ∷ []) (14 ∷ 14 ∷ [])
+    ∷ leaves (oneWord (reduce ∷ reduce ∷ [])) 2 4 (7 ∷ 7 ∷ []) (28 ∷ 28 ∷ [])
     -- words that are no faithful spread are added as they are
-    ∷ leaves (oneWord (reduce ∷ [])) 2 (7 ∷ 8 ∷ []) (15 ∷ 15 ∷ [])
-    ∷ leaves (oneWord (reduce ∷ reduce ∷ [])) 2 (7 ∷ 8 ∷ []) (30 ∷ 30 ∷ [])
+    ∷ leaves (oneWord (reduce ∷ [])) 2 2 (7 ∷ 8 ∷ []) (15 ∷ 15 ∷ [])
+    ∷ leaves (oneWord (reduce ∷ reduce ∷ [])) 2 4 (7 ∷ 8 ∷ []) (30 ∷ 30 ∷ [])
     -- an unreduced axis and one that nothing names, in one step, and one after the other
-    ∷ leaves (firstOwed (reduceBoth ∷ [])) 6 (1 ∷ 1 ∷ 1 ∷ 4 ∷ 4 ∷ 4 ∷ []) (15 ∷ 15 ∷ 15 ∷ 15 ∷ 15 ∷ 15 ∷ [])
-    ∷ leaves (firstOwed (reduceSecond ∷ [])) 6 (1 ∷ 1 ∷ 1 ∷ 4 ∷ 4 ∷ 4 ∷ []) (3 ∷ 3 ∷ 3 ∷ 12 ∷ 12 ∷ 12 ∷ [])
+    ∷ leaves (firstOwed (reduceBoth ∷ [])) 6 30 (1 ∷ 1 ∷ 1 ∷ 4 ∷ 4 ∷ 4 ∷ []) (15 ∷ 15 ∷ 15 ∷ 15 ∷ 15 ∷ 15 ∷ [])
+    ∷ leaves (firstOwed (reduceSecond ∷ [])) 6 12 (1 ∷ 1 ∷ 1 ∷ 4 ∷ 4 ∷ 4 ∷ []) (3 ∷ 3 ∷ 3 ∷ 12 ∷ 12 ∷ 12 ∷ [])
     -- "it becomes replicated": an unreduced axis leaves its list, one that nothing names is in none, and the others stay
-    ∷ checked (on2x3 (0 ∷ []) (reduceBoth ∷ [])) (passed 36 6 1 ([] ∷ []) [] (6 ∷ []))
-    ∷ checked (on2x3 (0 ∷ []) (reduceSecond ∷ [])) (passed 36 6 1 ([] ∷ []) (0 ∷ []) (6 ∷ []))
-    ∷ checked (on2x3 [] (reduceBoth ∷ sliceSecond ∷ [])) (passed 36 6 2 ((1 ∷ []) ∷ []) [] (2 ∷ []))
+    ∷ checked (on2x3 (0 ∷ []) (reduceBoth ∷ [])) (passed 36 6 1 180 ([] ∷ []) [] (6 ∷ []))
+    ∷ checked (on2x3 (0 ∷ []) (reduceSecond ∷ [])) (passed 36 6 1 72 ([] ∷ []) (0 ∷ []) (6 ∷ []))
+    ∷ checked (on2x3 [] (reduceBoth ∷ sliceSecond ∷ [])) (passed 36 6 2 180 ((1 ∷ []) ∷ []) [] (2 ∷ []))
     -- 26 goes first, of an axis named twice too; 27 of an axis that splits a dimension, before or behind one that may be reduced, and again only while it
     -- does; 22 before both
     ∷ checked (on2x3 [] ((3 ∷ 2 ∷ 1 ∷ 0 ∷ []) ∷ [])) (refuse 26 1)
     ∷ checked (on2x3 [] ((3 ∷ 2 ∷ 0 ∷ 0 ∷ []) ∷ [])) (refuse 26 1)
     ∷ checked (on2x3 [] (sliceSecond ∷ reduceBoth ∷ [])) (refuse 27 2)
     ∷ checked (on2x3 (1 ∷ []) (slice ∷ reduceBoth ∷ [])) (refuse 27 2)
-    ∷ checked (on2x3 [] (sliceSecond ∷ gatherSecond ∷ reduceBoth ∷ [])) (passed 36 6 3 ([] ∷ []) [] (6 ∷ []))
+    ∷ checked (on2x3 [] (sliceSecond ∷ gatherSecond ∷ reduceBoth ∷ [])) (passed 36 6 3 204 ([] ∷ []) [] (6 ∷ []))
     ∷ checked (on2x3 [] (sliceSecond ∷ (3 ∷ 2 ∷ 1 ∷ 2 ∷ []) ∷ [])) (refuse 22 2)
     -- 27 of any dimension's axes, of size 1 too; where one axis splits and another is unreduced, a third may be reduced; so in a table of two dimensions
     ∷ checked (fileOf (2 ∷ []) (2 ∷ 2 ∷ []) ([] ∷ (0 ∷ []) ∷ [] ∷ []) (reduce ∷ [])) (refuse 27 1)
     ∷ checked (fileOf (1 ∷ 2 ∷ []) (2 ∷ []) ((0 ∷ []) ∷ [] ∷ []) (reduce ∷ [])) (refuse 27 1)
-    ∷ checked (fileOf (2 ∷ 2 ∷ 3 ∷ []) (2 ∷ []) ((0 ∷ []) ∷ (1 ∷ []) ∷ []) ((3 ∷ 1 ∷ 2 ∷ []) ∷ [])) (passed 12 12 1 ((0 ∷ []) ∷ []) (1 ∷ []) (1 ∷ []))
-    ∷ checked (fileOf (2 ∷ []) (2 ∷ 2 ∷ []) ([] ∷ [] ∷ [] ∷ []) (reduce ∷ [])) (passed 8 2 1 ([] ∷ [] ∷ []) [] (2 ∷ 2 ∷ []))
+    ∷ checked (fileOf (2 ∷ 2 ∷ 3 ∷ []) (2 ∷ []) ((0 ∷ []) ∷ (1 ∷ []) ∷ []) ((3 ∷ 1 ∷ 2 ∷ []) ∷ [])) (passed 12 12 1 24 ((0 ∷ []) ∷ []) (1 ∷ []) (1 ∷ []))
+    ∷ checked (fileOf (2 ∷ []) (2 ∷ 2 ∷ []) ([] ∷ [] ∷ [] ∷ []) (reduce ∷ [])) (passed 8 2 1 8 ([] ∷ [] ∷ []) [] (2 ∷ 2 ∷ []))
     -- 27 of an explicitly replicated axis, alone, beside an unreduced one, and beside one that nothing names
     ∷ checked (second [] [] (1 ∷ []) (reduceSecond ∷ [])) (refuse 27 1)
     ∷ checked (second [] (0 ∷ []) (1 ∷ []) (reduceBoth ∷ [])) (refuse 27 1)
@@ -77,13 +77,13 @@ factors =
     ∷ checked (second [] [] (0 ∷ 1 ∷ []) (reduceSecond ∷ [])) (refuse 27 1)
     ∷ checked (fileIn 2 (2 ∷ 2 ∷ 2 ∷ []) [] (1 ∷ []) ([] ∷ [] ∷ (2 ∷ []) ∷ []) ((3 ∷ 3 ∷ 0 ∷ 1 ∷ 2 ∷ []) ∷ [])) (refuse 27 1)
     ∷ checked (second (0 ∷ []) [] (1 ∷ []) (reduceSecond ∷ [])) (refuse 27 1)
-    ∷ leaves (second [] [] (1 ∷ []) (reduce ∷ [])) 16 (tab 16 (λ k. k + 1)) (
+    ∷ leaves (second [] [] (1 ∷ []) (reduce ∷ [])) 16 16 (tab 16 (λ k. k + 1)) (
     10 ∷ 12 ∷ 14 ∷ 16 ∷ 18 ∷ 20 ∷ 22 ∷ 24 ∷ 10 ∷ 12 ∷ 14 ∷ 16 ∷ 18 ∷ 20 ∷ 22 ∷ 24 ∷ []
     )
     -- inside a block, in each of its rounds: the sharding comes back
-    ∷ leaves (oneWord (times 3 (reduce ∷ []) ∷ [])) 2 (7 ∷ 7 ∷ []) (56 ∷ 56 ∷ [])
+    ∷ leaves (oneWord (times 3 (reduce ∷ []) ∷ [])) 2 6 (7 ∷ 7 ∷ []) (56 ∷ 56 ∷ [])
     -- under an order of the devices
-    ∷ leaves (third [] [] (reduce ∷ [])) 16 (tab 16 (λ k. k + 1)) (
+    ∷ leaves (third [] [] (reduce ∷ [])) 16 16 (tab 16 (λ k. k + 1)) (
     6 ∷ 8 ∷ 10 ∷ 12 ∷ 6 ∷ 8 ∷ 10 ∷ 12 ∷ 22 ∷ 24 ∷ 26 ∷ 28 ∷ 22 ∷ 24 ∷ 26 ∷ 28 ∷ []
     )
     ∷ []

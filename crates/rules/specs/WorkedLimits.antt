@@ -28,34 +28,34 @@ abbrev pub limits : List Case
 limits =
     -- "n 1 to 6"; in the group listing before 10
     checked (plain [] (2 ∷ [])) (refuse 5 0)
-    ∷ checked (plain (replicate 6 1) (2 ∷ [])) (passed 2 1 0 ([] ∷ []) [] (2 ∷ []))
+    ∷ checked (plain (replicate 6 1) (2 ∷ [])) (passed 2 1 0 0 ([] ∷ []) [] (2 ∷ []))
     ∷ checked (plain (replicate 7 1) (2 ∷ [])) (refuse 5 0)
     ∷ listsAs (replicate 6 1) (5 ∷ 4 ∷ 3 ∷ 2 ∷ 1 ∷ 0 ∷ []) ((0 ∷ []) ∷ [])
     ∷ refusedListing (replicate 7 0) [] 1 5
     -- "D up to 1,024": "Mesh 256 with 4,096 words passes"; "mesh 257 and table 4,097 pass, mesh 1,025 gives 11"; the product of all sizes
-    ∷ checked (fileOf (256 ∷ []) (4096 ∷ []) ((0 ∷ []) ∷ [] ∷ []) []) (passed 4096 256 0 ((0 ∷ []) ∷ []) [] (16 ∷ []))
-    ∷ checked (plain (257 ∷ []) (4097 ∷ [])) (passed 1052929 257 0 ([] ∷ []) [] (4097 ∷ []))
-    ∷ checked (plain (1024 ∷ []) (1 ∷ [])) (passed 1024 1024 0 ([] ∷ []) [] (1 ∷ []))
+    ∷ checked (fileOf (256 ∷ []) (4096 ∷ []) ((0 ∷ []) ∷ [] ∷ []) []) (passed 4096 256 0 0 ((0 ∷ []) ∷ []) [] (16 ∷ []))
+    ∷ checked (plain (257 ∷ []) (4097 ∷ [])) (passed 1052929 257 0 0 ([] ∷ []) [] (4097 ∷ []))
+    ∷ checked (plain (1024 ∷ []) (1 ∷ [])) (passed 1024 1024 0 0 ([] ∷ []) [] (1 ∷ []))
     ∷ checked (plain (1025 ∷ []) (1 ∷ [])) (refuse 11 0)
-    ∷ checked (plain (32 ∷ 32 ∷ []) (1 ∷ [])) (passed 1024 1024 0 ([] ∷ []) [] (1 ∷ []))
+    ∷ checked (plain (32 ∷ 32 ∷ []) (1 ∷ [])) (passed 1024 1024 0 0 ([] ∷ []) [] (1 ∷ []))
     ∷ checked (plain (32 ∷ 33 ∷ []) (1 ∷ [])) (refuse 11 0)
     ∷ listsAs (16 ∷ 16 ∷ []) (0 ∷ []) (tab 16 (λ g. tab 16 (λ q. q * 16 + g)))
     ∷ refusedListing (32 ∷ 32 ∷ []) [] 1023 33
     ∷ refusedListing (1025 ∷ []) [] 1025 11
     -- "rank 1 to 4"
     ∷ checked (plain (1 ∷ []) []) (refuse 5 0)
-    ∷ checked (plain (1 ∷ []) (replicate 4 2)) (passed 16 1 0 (replicate 4 []) [] (replicate 4 2))
+    ∷ checked (plain (1 ∷ []) (replicate 4 2)) (passed 16 1 0 0 (replicate 4 []) [] (replicate 4 2))
     ∷ checked (plain (1 ∷ []) (replicate 5 2)) (refuse 5 0)
     -- "tables up to 65,536 words": "one dimension ends at 65,535 while 256x256 passes", "table 256x257 gives 13"; the next product of sizes past it is 65,538. "Room is at most 67,108,864 words"
-    ∷ checked (plain (1024 ∷ []) (256 ∷ 256 ∷ [])) (passed 67108864 1024 0 ([] ∷ [] ∷ []) [] (256 ∷ 256 ∷ []))
-    ∷ checked (plain (1 ∷ []) (65535 ∷ [])) (passed 65535 1 0 ([] ∷ []) [] (65535 ∷ []))
+    ∷ checked (plain (1024 ∷ []) (256 ∷ 256 ∷ [])) (passed 67108864 1024 0 0 ([] ∷ [] ∷ []) [] (256 ∷ 256 ∷ []))
+    ∷ checked (plain (1 ∷ []) (65535 ∷ [])) (passed 65535 1 0 0 ([] ∷ []) [] (65535 ∷ []))
     ∷ checked (plain (1 ∷ []) (256 ∷ 257 ∷ [])) (refuse 13 0)
     ∷ checked (plain (1 ∷ []) (2 ∷ 32769 ∷ [])) (refuse 13 0)
-    ∷ checked (plain (1 ∷ []) (16 ∷ 64 ∷ 64 ∷ [])) (passed 65536 1 0 ([] ∷ [] ∷ [] ∷ []) [] (16 ∷ 64 ∷ 64 ∷ []))
+    ∷ checked (plain (1 ∷ []) (16 ∷ 64 ∷ 64 ∷ [])) (passed 65536 1 0 0 ([] ∷ [] ∷ [] ∷ []) [] (16 ∷ 64 ∷ 64 ∷ []))
     ∷ checked (plain (1 ∷ []) (16 ∷ 64 ∷ 65 ∷ [])) (refuse 13 0)
     -- "0 to 64 steps": "64 steps pass, 65 give 5"
-    ∷ checked (toAndFro 0) (passed 4 2 0 ([] ∷ []) [] (2 ∷ []))
-    ∷ checked (toAndFro 64) (passed 4 2 64 ([] ∷ []) [] (2 ∷ []))
+    ∷ checked (toAndFro 0) (passed 4 2 0 0 ([] ∷ []) [] (2 ∷ []))
+    ∷ checked (toAndFro 64) (passed 4 2 64 64 ([] ∷ []) [] (2 ∷ []))
     ∷ checked (toAndFro 65) (refuse 5 0)
     -- "file 18 to" 8,192 bytes: a header alone has no mesh, and W1 filled up to the most bytes has bytes left; 1 before 3, 2 before 3
     ∷ checked (replicate 17 0) (refuse 1 0)

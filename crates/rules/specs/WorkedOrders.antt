@@ -68,7 +68,7 @@ orders =
     ∷ refuses (2 ∷ 2 ∷ []) cabled (1 ∷ 1 ∷ []) 3 15
     ∷ refuses (2 ∷ 2 ∷ []) cabled (1 ∷ []) 3 33
     -- "The replicated list is present in edition 3 and may be empty"
-    ∷ checked (third (1 ∷ 0 ∷ []) [] []) (passed 4 4 0 ((1 ∷ 0 ∷ []) ∷ []) [] (1 ∷ []))
+    ∷ checked (third (1 ∷ 0 ∷ []) [] []) (passed 4 4 0 0 ((1 ∷ 0 ∷ []) ∷ []) [] (1 ∷ []))
     -- one that is not empty counts as in edition 2
     ∷ checked (fileIn 3 (2 ∷ 2 ∷ []) cabled (4 ∷ []) ((0 ∷ []) ∷ [] ∷ (1 ∷ []) ∷ []) []) (accept (record {
       room = 8;
@@ -77,6 +77,7 @@ orders =
       rank = 1;
       sharding = record { dims = (0 ∷ []) ∷ []; unreduced = []; replicated = 1 ∷ [] };
       shard = 2 ∷ [];
+      moved = 0;
     }))
     ∷ checked (fileIn 3 (2 ∷ 2 ∷ []) cabled (4 ∷ []) ([] ∷ [] ∷ (1 ∷ []) ∷ []) ((1 ∷ 1 ∷ 1 ∷ []) ∷ [])) (refuse 23 1)
     -- a device is placed by the coordinates at which it is listed, in every state; 001's order in a file; a number of two bytes
@@ -90,13 +91,13 @@ orders =
     ∷ placed (fileIn 3 (257 ∷ []) (tab 257 (λ i. (i + 1) % 257)) (257 ∷ []) ((0 ∷ []) ∷ [] ∷ [] ∷ []) []) 0 256
     (found ((0 ∷ []) ∷ []) [] (1 ∷ []) (255 ∷ []))
     -- shards lie by device number before the first step and after the last: no steps, a gather, a reduction, a slice; two steps
-    ∷ leaves (third (1 ∷ 0 ∷ []) [] []) 4 (1 ∷ 2 ∷ 3 ∷ 4 ∷ []) (1 ∷ 2 ∷ 3 ∷ 4 ∷ [])
-    ∷ leaves (third (1 ∷ 0 ∷ []) [] ((2 ∷ 1 ∷ 0 ∷ []) ∷ [])) 8 (1 ∷ 2 ∷ 3 ∷ 4 ∷ []) (1 ∷ 2 ∷ 1 ∷ 2 ∷ 3 ∷ 4 ∷ 3 ∷ 4 ∷ [])
-    ∷ leaves (third [] (0 ∷ []) ((3 ∷ 1 ∷ 0 ∷ []) ∷ [])) 16 (tab 16 (λ k. k + 1)) (
+    ∷ leaves (third (1 ∷ 0 ∷ []) [] []) 4 0 (1 ∷ 2 ∷ 3 ∷ 4 ∷ []) (1 ∷ 2 ∷ 3 ∷ 4 ∷ [])
+    ∷ leaves (third (1 ∷ 0 ∷ []) [] ((2 ∷ 1 ∷ 0 ∷ []) ∷ [])) 8 4 (1 ∷ 2 ∷ 3 ∷ 4 ∷ []) (1 ∷ 2 ∷ 1 ∷ 2 ∷ 3 ∷ 4 ∷ 3 ∷ 4 ∷ [])
+    ∷ leaves (third [] (0 ∷ []) ((3 ∷ 1 ∷ 0 ∷ []) ∷ [])) 16 16 (tab 16 (λ k. k + 1)) (
     6 ∷ 8 ∷ 10 ∷ 12 ∷ 6 ∷ 8 ∷ 10 ∷ 12 ∷ 22 ∷ 24 ∷ 26 ∷ 28 ∷ 22 ∷ 24 ∷ 26 ∷ 28 ∷ []
     )
-    ∷ leaves (third [] [] ((1 ∷ 2 ∷ 1 ∷ 0 ∷ []) ∷ [])) 16 (tab 16 (λ k. k + 1)) (3 ∷ 8 ∷ 9 ∷ 14 ∷ [])
-    ∷ leaves (third (1 ∷ 0 ∷ []) [] ((2 ∷ 1 ∷ 0 ∷ []) ∷ (1 ∷ 1 ∷ 0 ∷ []) ∷ [])) 8 (1 ∷ 2 ∷ 3 ∷ 4 ∷ []) (1 ∷ 2 ∷ 3 ∷ 4 ∷ [])
+    ∷ leaves (third [] [] ((1 ∷ 2 ∷ 1 ∷ 0 ∷ []) ∷ [])) 16 0 (tab 16 (λ k. k + 1)) (3 ∷ 8 ∷ 9 ∷ 14 ∷ [])
+    ∷ leaves (third (1 ∷ 0 ∷ []) [] ((2 ∷ 1 ∷ 0 ∷ []) ∷ (1 ∷ 1 ∷ 0 ∷ []) ∷ [])) 8 4 (1 ∷ 2 ∷ 3 ∷ 4 ∷ []) (1 ∷ 2 ∷ 3 ∷ 4 ∷ [])
     -- "tested after 11 and after 7 for these bytes": 10 and 11, then 7, then 19, then the tensor's 6
     ∷ checked (set (withOrder []) 18 0) (refuse 10 0)
     ∷ checked (set (withOrder []) 19 8) (refuse 11 0)

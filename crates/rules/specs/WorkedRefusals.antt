@@ -57,7 +57,7 @@ refusedListing mesh axes places number = listed mesh axes (nines places) (record
 
 abbrev pub refusedRun : (file : List ℕ) → (work spare number step : ℕ) → Case
 refusedRun file work spare number step =
-    ran file (nines work) (nines spare) (record { outcome = refuse number step; work = nines work; spare = nines spare })
+    ran file (nines work) (nines spare) (record { outcome = refuse number step; moved = 0; work = nines work; spare = nines spare })
 
 -- ---- the refusals
 

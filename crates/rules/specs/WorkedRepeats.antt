@@ -93,13 +93,13 @@ abbrev pub repeats : List Case
 repeats =
     -- "a count byte (the block is run that many times), a byte with the number of inner steps, then those steps"; the check's count is that of
     -- outermost steps, and "0 to 64 steps" is a limit of theirs
-    checked (whole (times 2 (swings 1) ∷ [])) (passed 4 2 1 ([] ∷ []) [] (2 ∷ []))
-    ∷ checked mixed (passed 4 2 3 ([] ∷ []) [] (2 ∷ []))
-    ∷ checked (whole (times 1 (swings 33) ∷ slice ∷ [])) (passed 4 2 2 ((0 ∷ []) ∷ []) [] (1 ∷ []))
+    checked (whole (times 2 (swings 1) ∷ [])) (passed 4 2 1 4 ([] ∷ []) [] (2 ∷ []))
+    ∷ checked mixed (passed 4 2 3 18 ([] ∷ []) [] (2 ∷ []))
+    ∷ checked (whole (times 1 (swings 33) ∷ slice ∷ [])) (passed 4 2 2 66 ((0 ∷ []) ∷ []) [] (1 ∷ []))
     -- "which may be repeats themselves down to depth 4 (an outermost one is 1)": also one after another
-    ∷ checked (whole (nested 4 (swings 1))) (passed 4 2 1 ([] ∷ []) [] (2 ∷ []))
-    ∷ checked (whole (nested 4 (swings 1) ++ nested 4 (swings 1))) (passed 4 2 2 ([] ∷ []) [] (2 ∷ []))
-    ∷ checked (whole (times 2 (nested 3 (swings 1) ++ nested 3 (swings 1)) ∷ [])) (passed 4 2 1 ([] ∷ []) [] (2 ∷ []))
+    ∷ checked (whole (nested 4 (swings 1))) (passed 4 2 1 2 ([] ∷ []) [] (2 ∷ []))
+    ∷ checked (whole (nested 4 (swings 1) ++ nested 4 (swings 1))) (passed 4 2 2 4 ([] ∷ []) [] (2 ∷ []))
+    ∷ checked (whole (times 2 (nested 3 (swings 1) ++ nested 3 (swings 1)) ∷ [])) (passed 4 2 1 8 ([] ∷ []) [] (2 ∷ []))
     -- "depth above 4 is 42": at the repeat's own number, before what stands in it
     ∷ checked (whole (nested 5 (swings 1))) (refuse 42 5)
     ∷ checked (whole (times 2 (nested 3 (swings 1) ++ nested 4 (swings 1)) ∷ [])) (refuse 42 10)
@@ -175,35 +175,35 @@ repeats =
     ∷ checked (set (whole (times 2 (swings 1) ∷ slice ∷ [])) 6 1) (refuse 9 0)
     ∷ checked (set (whole (times 2 (swings 1) ∷ slice ∷ [])) 6 4) (refuse 7 0)
     -- "The room counts states inside blocks.": none outside has as many words; of an inner block; the third state of a block, where the plan has two
-    ∷ checked (halves (times 1 (gather ∷ slice ∷ []) ∷ [])) (passed 4 2 1 ((0 ∷ []) ∷ []) [] (1 ∷ []))
-    ∷ checked (halves (times 3 (times 2 (gather ∷ slice ∷ []) ∷ []) ∷ [])) (passed 4 2 1 ((0 ∷ []) ∷ []) [] (1 ∷ []))
+    ∷ checked (halves (times 1 (gather ∷ slice ∷ []) ∷ [])) (passed 4 2 1 2 ((0 ∷ []) ∷ []) [] (1 ∷ []))
+    ∷ checked (halves (times 3 (times 2 (gather ∷ slice ∷ []) ∷ []) ∷ [])) (passed 4 2 1 12 ((0 ∷ []) ∷ []) [] (1 ∷ []))
     ∷ checked (quarters (times 2 ((2 ∷ 1 ∷ 1 ∷ []) ∷ (1 ∷ 1 ∷ 1 ∷ []) ∷ (2 ∷ 2 ∷ 0 ∷ 1 ∷ []) ∷ (1 ∷ 2 ∷ 0 ∷ 1 ∷ []) ∷ []) ∷ []))
-    (passed 16 4 1 ((0 ∷ 1 ∷ []) ∷ []) [] (1 ∷ []))
+    (passed 16 4 1 32 ((0 ∷ 1 ∷ []) ∷ []) [] (1 ∷ []))
     ∷ refusedRun (halves (times 1 (gather ∷ slice ∷ []) ∷ [])) 3 4 30 0
     ∷ refusedRun (halves (times 1 (gather ∷ slice ∷ []) ∷ [])) 4 3 31 0
     ∷ refusedRun (whole (times 1 (slice ∷ []) ∷ [])) 4 4 41 1
-    ∷ leaves (halves (times 1 (gather ∷ slice ∷ []) ∷ [])) 4 (5 ∷ 6 ∷ []) (5 ∷ 6 ∷ [])
+    ∷ leaves (halves (times 1 (gather ∷ slice ∷ []) ∷ [])) 4 2 (5 ∷ 6 ∷ []) (5 ∷ 6 ∷ [])
     -- "Demand 3 holds after every plain step run", and the words are fixed for unfaithful buffers as well. Each device begins with words of its own: a
     -- block of three steps, run once, twice and three times
-    ∷ leaves (square (times 1 (sliceRows ∷ toColumns ∷ gatherColumns ∷ []) ∷ [])) 8 (tab 8 (λ k. k + 1)) (1 ∷ 2 ∷ 7 ∷ 8 ∷ 1 ∷ 2 ∷ 7 ∷ 8 ∷ [])
-    ∷ leaves (square (times 2 (sliceRows ∷ toColumns ∷ gatherColumns ∷ []) ∷ [])) 8 (tab 8 (λ k. k + 1)) (1 ∷ 2 ∷ 7 ∷ 8 ∷ 1 ∷ 2 ∷ 7 ∷ 8 ∷ [])
-    ∷ leaves (square (times 3 (sliceRows ∷ toColumns ∷ gatherColumns ∷ []) ∷ [])) 8 (tab 8 (λ k. k + 1)) (1 ∷ 2 ∷ 7 ∷ 8 ∷ 1 ∷ 2 ∷ 7 ∷ 8 ∷ [])
+    ∷ leaves (square (times 1 (sliceRows ∷ toColumns ∷ gatherColumns ∷ []) ∷ [])) 8 6 (tab 8 (λ k. k + 1)) (1 ∷ 2 ∷ 7 ∷ 8 ∷ 1 ∷ 2 ∷ 7 ∷ 8 ∷ [])
+    ∷ leaves (square (times 2 (sliceRows ∷ toColumns ∷ gatherColumns ∷ []) ∷ [])) 8 12 (tab 8 (λ k. k + 1)) (1 ∷ 2 ∷ 7 ∷ 8 ∷ 1 ∷ 2 ∷ 7 ∷ 8 ∷ [])
+    ∷ leaves (square (times 3 (sliceRows ∷ toColumns ∷ gatherColumns ∷ []) ∷ [])) 8 18 (tab 8 (λ k. k + 1)) (1 ∷ 2 ∷ 7 ∷ 8 ∷ 1 ∷ 2 ∷ 7 ∷ 8 ∷ [])
     -- "its list is these steps in running order": the first to slice decides on the words, inside a repeat or after it; steps before and after a block
-    ∷ leaves (square (times 2 (times 3 (sliceRows ∷ gatherRows ∷ []) ∷ sliceColumns ∷ gatherColumns ∷ []) ∷ [])) 8 (tab 8 (λ k. k + 1))
+    ∷ leaves (square (times 2 (times 3 (sliceRows ∷ gatherRows ∷ []) ∷ sliceColumns ∷ gatherColumns ∷ []) ∷ [])) 8 32 (tab 8 (λ k. k + 1))
     (1 ∷ 2 ∷ 7 ∷ 8 ∷ 1 ∷ 2 ∷ 7 ∷ 8 ∷ [])
-    ∷ leaves (square (times 2 (sliceColumns ∷ gatherColumns ∷ times 3 (sliceRows ∷ gatherRows ∷ []) ∷ []) ∷ [])) 8 (tab 8 (λ k. k + 1))
+    ∷ leaves (square (times 2 (sliceColumns ∷ gatherColumns ∷ times 3 (sliceRows ∷ gatherRows ∷ []) ∷ []) ∷ [])) 8 32 (tab 8 (λ k. k + 1))
     (1 ∷ 6 ∷ 3 ∷ 8 ∷ 1 ∷ 6 ∷ 3 ∷ 8 ∷ [])
-    ∷ leaves (square (sliceRows ∷ times 3 (toColumns ∷ toRows ∷ []) ∷ toColumns ∷ [])) 8 (tab 8 (λ k. k + 1)) (1 ∷ 7 ∷ 2 ∷ 8 ∷ [])
-    ∷ leaves mixed 4 (1 ∷ 2 ∷ 3 ∷ 4 ∷ []) (1 ∷ 4 ∷ 1 ∷ 4 ∷ [])
-    ∷ leaves (fileOf (2 ∷ 2 ∷ []) (2 ∷ []) ([] ∷ (0 ∷ []) ∷ []) (times 3 ((1 ∷ 1 ∷ 1 ∷ []) ∷ (2 ∷ 1 ∷ 1 ∷ []) ∷ []) ∷ reduce ∷ [])) 8
+    ∷ leaves (square (sliceRows ∷ times 3 (toColumns ∷ toRows ∷ []) ∷ toColumns ∷ [])) 8 14 (tab 8 (λ k. k + 1)) (1 ∷ 7 ∷ 2 ∷ 8 ∷ [])
+    ∷ leaves mixed 4 18 (1 ∷ 2 ∷ 3 ∷ 4 ∷ []) (1 ∷ 4 ∷ 1 ∷ 4 ∷ [])
+    ∷ leaves (fileOf (2 ∷ 2 ∷ []) (2 ∷ []) ([] ∷ (0 ∷ []) ∷ []) (times 3 ((1 ∷ 1 ∷ 1 ∷ []) ∷ (2 ∷ 1 ∷ 1 ∷ []) ∷ []) ∷ reduce ∷ [])) 8 20
     (tab 8 (λ k. k + 1)) (6 ∷ 12 ∷ 6 ∷ 12 ∷ 6 ∷ 12 ∷ 6 ∷ 12 ∷ [])
     -- in files of editions 2 and 3: no step changes the replicated list, so a block comes back under one; 23 of its axis and 41 of the unreduced list
     -- stay; shards lie by device number
-    ∷ checked (second [] (0 ∷ []) (1 ∷ []) (reduce ∷ times 2 (swings 1) ∷ [])) (passed2x2 16 2 (shardingOf [] [] (1 ∷ [])) 4)
+    ∷ checked (second [] (0 ∷ []) (1 ∷ []) (reduce ∷ times 2 (swings 1) ∷ [])) (passed2x2 16 2 32 (shardingOf [] [] (1 ∷ [])) 4)
     ∷ checked (second [] (0 ∷ []) (1 ∷ []) (reduce ∷ times 2 (slice ∷ (1 ∷ 1 ∷ 1 ∷ []) ∷ []) ∷ [])) (refuse 23 4)
     ∷ checked (second [] (0 ∷ []) (1 ∷ []) (times 1 (reduce ∷ []) ∷ [])) (refuse 41 1)
-    ∷ checked (third [] [] (times 2 (swings 1) ∷ [])) (passed 16 4 1 ([] ∷ []) [] (4 ∷ []))
-    ∷ leaves (third [] [] (times 2 (slice ∷ (1 ∷ 1 ∷ 1 ∷ []) ∷ (2 ∷ 2 ∷ 0 ∷ 1 ∷ []) ∷ []) ∷ [])) 16 (tab 16 (λ k. k + 1)) (
+    ∷ checked (third [] [] (times 2 (swings 1) ∷ [])) (passed 16 4 1 16 ([] ∷ []) [] (4 ∷ []))
+    ∷ leaves (third [] [] (times 2 (slice ∷ (1 ∷ 1 ∷ 1 ∷ []) ∷ (2 ∷ 2 ∷ 0 ∷ 1 ∷ []) ∷ []) ∷ [])) 16 24 (tab 16 (λ k. k + 1)) (
     9 ∷ 2 ∷ 15 ∷ 8 ∷ 9 ∷ 2 ∷ 15 ∷ 8 ∷ 9 ∷ 2 ∷ 15 ∷ 8 ∷ 9 ∷ 2 ∷ 15 ∷ 8 ∷ []
     )
     ∷ []

@@ -32,35 +32,35 @@ sliceBoth = 1 ∷ 2 ∷ 0 ∷ 1 ∷ []
 abbrev pub routes : List Case
 routes =
     -- an all-slice and the all-gather of its list, beside no step: a faithful spread comes back, other words do not
-    leaves (whole (slice ∷ gather ∷ [])) 4 (1 ∷ 2 ∷ 1 ∷ 2 ∷ []) (1 ∷ 2 ∷ 1 ∷ 2 ∷ [])
-    ∷ leaves (whole []) 4 (1 ∷ 2 ∷ 3 ∷ 4 ∷ []) (1 ∷ 2 ∷ 3 ∷ 4 ∷ [])
-    ∷ leaves (whole (slice ∷ gather ∷ [])) 4 (1 ∷ 2 ∷ 3 ∷ 4 ∷ []) (1 ∷ 4 ∷ 1 ∷ 4 ∷ [])
+    leaves (whole (slice ∷ gather ∷ [])) 4 2 (1 ∷ 2 ∷ 1 ∷ 2 ∷ []) (1 ∷ 2 ∷ 1 ∷ 2 ∷ [])
+    ∷ leaves (whole []) 4 0 (1 ∷ 2 ∷ 3 ∷ 4 ∷ []) (1 ∷ 2 ∷ 3 ∷ 4 ∷ [])
+    ∷ leaves (whole (slice ∷ gather ∷ [])) 4 2 (1 ∷ 2 ∷ 3 ∷ 4 ∷ []) (1 ∷ 4 ∷ 1 ∷ 4 ∷ [])
     -- a table 2x2 to columns, by rows and at once
-    ∷ leaves (square (sliceRows ∷ toColumns ∷ [])) 8 (1 ∷ 2 ∷ 3 ∷ 4 ∷ 1 ∷ 2 ∷ 3 ∷ 4 ∷ []) (1 ∷ 3 ∷ 2 ∷ 4 ∷ [])
-    ∷ leaves (square (sliceColumns ∷ [])) 8 (1 ∷ 2 ∷ 3 ∷ 4 ∷ 1 ∷ 2 ∷ 3 ∷ 4 ∷ []) (1 ∷ 3 ∷ 2 ∷ 4 ∷ [])
-    ∷ leaves (square (sliceRows ∷ toColumns ∷ [])) 8 (tab 8 (λ k. k + 1)) (1 ∷ 7 ∷ 2 ∷ 8 ∷ [])
-    ∷ leaves (square (sliceColumns ∷ [])) 8 (tab 8 (λ k. k + 1)) (1 ∷ 3 ∷ 6 ∷ 8 ∷ [])
+    ∷ leaves (square (sliceRows ∷ toColumns ∷ [])) 8 2 (1 ∷ 2 ∷ 3 ∷ 4 ∷ 1 ∷ 2 ∷ 3 ∷ 4 ∷ []) (1 ∷ 3 ∷ 2 ∷ 4 ∷ [])
+    ∷ leaves (square (sliceColumns ∷ [])) 8 0 (1 ∷ 2 ∷ 3 ∷ 4 ∷ 1 ∷ 2 ∷ 3 ∷ 4 ∷ []) (1 ∷ 3 ∷ 2 ∷ 4 ∷ [])
+    ∷ leaves (square (sliceRows ∷ toColumns ∷ [])) 8 2 (tab 8 (λ k. k + 1)) (1 ∷ 7 ∷ 2 ∷ 8 ∷ [])
+    ∷ leaves (square (sliceColumns ∷ [])) 8 0 (tab 8 (λ k. k + 1)) (1 ∷ 3 ∷ 6 ∷ 8 ∷ [])
     -- under an order of the devices, along both axes at once and one by one
-    ∷ leaves (third [] [] (sliceBoth ∷ [])) 16 (tab 16 (λ k. k % 4 + 1)) (2 ∷ 4 ∷ 1 ∷ 3 ∷ [])
-    ∷ leaves (third [] [] (slice ∷ sliceSecond ∷ [])) 16 (tab 16 (λ k. k % 4 + 1)) (2 ∷ 4 ∷ 1 ∷ 3 ∷ [])
+    ∷ leaves (third [] [] (sliceBoth ∷ [])) 16 0 (tab 16 (λ k. k % 4 + 1)) (2 ∷ 4 ∷ 1 ∷ 3 ∷ [])
+    ∷ leaves (third [] [] (slice ∷ sliceSecond ∷ [])) 16 0 (tab 16 (λ k. k % 4 + 1)) (2 ∷ 4 ∷ 1 ∷ 3 ∷ [])
     -- other factors: 1 and 2
-    ∷ leaves (oneWord []) 2 (7 ∷ 7 ∷ []) (7 ∷ 7 ∷ [])
-    ∷ leaves (oneWord (reduce ∷ [])) 2 (7 ∷ 7 ∷ []) (14 ∷ 14 ∷ [])
+    ∷ leaves (oneWord []) 2 0 (7 ∷ 7 ∷ []) (7 ∷ 7 ∷ [])
+    ∷ leaves (oneWord (reduce ∷ [])) 2 2 (7 ∷ 7 ∷ []) (14 ∷ 14 ∷ [])
     -- one factor, 4, along one axis twice and along two axes
-    ∷ leaves (oneOnFour (reduce ∷ reduce ∷ [])) 4 (7 ∷ 7 ∷ 7 ∷ 7 ∷ []) (28 ∷ 28 ∷ 28 ∷ 28 ∷ [])
-    ∷ leaves (oneOnFour (reduceBoth ∷ [])) 4 (7 ∷ 7 ∷ 7 ∷ 7 ∷ []) (28 ∷ 28 ∷ 28 ∷ 28 ∷ [])
-    ∷ leaves (oneOnFour (reduce ∷ reduce ∷ [])) 4 (1 ∷ 2 ∷ 3 ∷ 4 ∷ []) (8 ∷ 12 ∷ 8 ∷ 12 ∷ [])
-    ∷ leaves (oneOnFour (reduceBoth ∷ [])) 4 (1 ∷ 2 ∷ 3 ∷ 4 ∷ []) (10 ∷ 10 ∷ 10 ∷ 10 ∷ [])
+    ∷ leaves (oneOnFour (reduce ∷ reduce ∷ [])) 4 8 (7 ∷ 7 ∷ 7 ∷ 7 ∷ []) (28 ∷ 28 ∷ 28 ∷ 28 ∷ [])
+    ∷ leaves (oneOnFour (reduceBoth ∷ [])) 4 12 (7 ∷ 7 ∷ 7 ∷ 7 ∷ []) (28 ∷ 28 ∷ 28 ∷ 28 ∷ [])
+    ∷ leaves (oneOnFour (reduce ∷ reduce ∷ [])) 4 8 (1 ∷ 2 ∷ 3 ∷ 4 ∷ []) (8 ∷ 12 ∷ 8 ∷ 12 ∷ [])
+    ∷ leaves (oneOnFour (reduceBoth ∷ [])) 4 12 (1 ∷ 2 ∷ 3 ∷ 4 ∷ []) (10 ∷ 10 ∷ 10 ∷ 10 ∷ [])
     -- parts of sums that are added up: from two spreads of one table, and from a start that has the table whole
-    ∷ leaves (parts (reduce ∷ [])) 4 (1 ∷ 2 ∷ 5 ∷ 6 ∷ []) (6 ∷ 8 ∷ 6 ∷ 8 ∷ [])
-    ∷ leaves (parts (scatter ∷ gather ∷ [])) 4 (1 ∷ 2 ∷ 5 ∷ 6 ∷ []) (6 ∷ 8 ∷ 6 ∷ 8 ∷ [])
-    ∷ leaves (parts (scatter ∷ gather ∷ [])) 4 (6 ∷ 8 ∷ 0 ∷ 0 ∷ []) (6 ∷ 8 ∷ 6 ∷ 8 ∷ [])
-    ∷ leaves (whole []) 4 (6 ∷ 8 ∷ 6 ∷ 8 ∷ []) (6 ∷ 8 ∷ 6 ∷ 8 ∷ [])
+    ∷ leaves (parts (reduce ∷ [])) 4 4 (1 ∷ 2 ∷ 5 ∷ 6 ∷ []) (6 ∷ 8 ∷ 6 ∷ 8 ∷ [])
+    ∷ leaves (parts (scatter ∷ gather ∷ [])) 4 4 (1 ∷ 2 ∷ 5 ∷ 6 ∷ []) (6 ∷ 8 ∷ 6 ∷ 8 ∷ [])
+    ∷ leaves (parts (scatter ∷ gather ∷ [])) 4 4 (6 ∷ 8 ∷ 0 ∷ 0 ∷ []) (6 ∷ 8 ∷ 6 ∷ 8 ∷ [])
+    ∷ leaves (whole []) 4 0 (6 ∷ 8 ∷ 6 ∷ 8 ∷ []) (6 ∷ 8 ∷ 6 ∷ 8 ∷ [])
     -- parts that stay parts: of one spread two routes leave the same, of two spreads of one table they do not
-    ∷ leaves (partsOnFour []) 8 (1 ∷ 2 ∷ 1 ∷ 2 ∷ 5 ∷ 6 ∷ 5 ∷ 6 ∷ []) (1 ∷ 2 ∷ 1 ∷ 2 ∷ 5 ∷ 6 ∷ 5 ∷ 6 ∷ [])
-    ∷ leaves (partsOnFour (sliceSecond ∷ gatherSecond ∷ [])) 8 (1 ∷ 2 ∷ 1 ∷ 2 ∷ 5 ∷ 6 ∷ 5 ∷ 6 ∷ []) (1 ∷ 2 ∷ 1 ∷ 2 ∷ 5 ∷ 6 ∷ 5 ∷ 6 ∷ [])
-    ∷ leaves (partsOnFour (sliceSecond ∷ gatherSecond ∷ [])) 8 (6 ∷ 8 ∷ 6 ∷ 8 ∷ 0 ∷ 0 ∷ 0 ∷ 0 ∷ []) (6 ∷ 8 ∷ 6 ∷ 8 ∷ 0 ∷ 0 ∷ 0 ∷ 0 ∷ [])
-    ∷ leaves (partsOnFour (sliceSecond ∷ gatherSecond ∷ [])) 8 (tab 8 (λ k. k + 1)) (1 ∷ 4 ∷ 1 ∷ 4 ∷ 5 ∷ 8 ∷ 5 ∷ 8 ∷ [])
+    ∷ leaves (partsOnFour []) 8 0 (1 ∷ 2 ∷ 1 ∷ 2 ∷ 5 ∷ 6 ∷ 5 ∷ 6 ∷ []) (1 ∷ 2 ∷ 1 ∷ 2 ∷ 5 ∷ 6 ∷ 5 ∷ 6 ∷ [])
+    ∷ leaves (partsOnFour (sliceSecond ∷ gatherSecond ∷ [])) 8 4 (1 ∷ 2 ∷ 1 ∷ 2 ∷ 5 ∷ 6 ∷ 5 ∷ 6 ∷ []) (1 ∷ 2 ∷ 1 ∷ 2 ∷ 5 ∷ 6 ∷ 5 ∷ 6 ∷ [])
+    ∷ leaves (partsOnFour (sliceSecond ∷ gatherSecond ∷ [])) 8 4 (6 ∷ 8 ∷ 6 ∷ 8 ∷ 0 ∷ 0 ∷ 0 ∷ 0 ∷ []) (6 ∷ 8 ∷ 6 ∷ 8 ∷ 0 ∷ 0 ∷ 0 ∷ 0 ∷ [])
+    ∷ leaves (partsOnFour (sliceSecond ∷ gatherSecond ∷ [])) 8 4 (tab 8 (λ k. k + 1)) (1 ∷ 4 ∷ 1 ∷ 4 ∷ 5 ∷ 8 ∷ 5 ∷ 8 ∷ [])
     ∷ []
 
 pub routed : All Holds routes

@@ -37,32 +37,32 @@ after step = fileOf (2 ∷ 2 ∷ []) (4 ∷ 3 ∷ []) parts ((3 ∷ 1 ∷ 0 ∷ 
 abbrev pub scatters : List Case
 scatters =
     -- "we go by the picture, where 1 2 3 4 and 5 6 7 8 become 6 8 and 10 12"; "the room doesn't count the state between"
-    leaves (picture (scatter ∷ [])) 8 (tab 8 (λ k. k + 1)) (6 ∷ 8 ∷ 10 ∷ 12 ∷ [])
-    ∷ checked (picture (scatter ∷ [])) (passed 8 2 1 ((0 ∷ []) ∷ []) [] (2 ∷ []))
+    leaves (picture (scatter ∷ [])) 8 4 (tab 8 (λ k. k + 1)) (6 ∷ 8 ∷ 10 ∷ 12 ∷ [])
+    ∷ checked (picture (scatter ∷ [])) (passed 8 2 1 4 ((0 ∷ []) ∷ []) [] (2 ∷ []))
     ∷ placed (picture (scatter ∷ [])) 1 1 (found ((0 ∷ []) ∷ []) [] (2 ∷ []) (2 ∷ []))
     ∷ refusedRun (picture (scatter ∷ [])) 7 8 30 0
     ∷ refusedRun (picture (scatter ∷ [])) 8 7 31 0
     -- a sum past 2^32; gathered again, it is an all-reduce
-    ∷ leaves (twoParts (scatter ∷ [])) 4 (4294967295 ∷ 1 ∷ 2 ∷ 3 ∷ []) (1 ∷ 4 ∷ [])
-    ∷ leaves (picture (scatter ∷ gather ∷ [])) 8 (tab 8 (λ k. k + 1)) (6 ∷ 8 ∷ 10 ∷ 12 ∷ 6 ∷ 8 ∷ 10 ∷ 12 ∷ [])
+    ∷ leaves (twoParts (scatter ∷ [])) 4 2 (4294967295 ∷ 1 ∷ 2 ∷ 3 ∷ []) (1 ∷ 4 ∷ [])
+    ∷ leaves (picture (scatter ∷ gather ∷ [])) 8 8 (tab 8 (λ k. k + 1)) (6 ∷ 8 ∷ 10 ∷ 12 ∷ 6 ∷ 8 ∷ 10 ∷ 12 ∷ [])
     -- 000's own: mesh 2x2, a table of rank 2 split along axis 0
-    ∷ leaves (on2x2 (4 ∷ 2 ∷ []) ((0 ∷ []) ∷ [] ∷ (1 ∷ []) ∷ []) (5 ∷ 1 ∷ 1 ∷ 0 ∷ [])) 16 (tab 16 (λ k. k + 1)) (6 ∷ 8 ∷ 10 ∷ 12 ∷ 22 ∷ 24 ∷ 26 ∷ 28 ∷ [])
+    ∷ leaves (on2x2 (4 ∷ 2 ∷ []) ((0 ∷ []) ∷ [] ∷ (1 ∷ []) ∷ []) (5 ∷ 1 ∷ 1 ∷ 0 ∷ [])) 16 8 (tab 16 (λ k. k + 1)) (6 ∷ 8 ∷ 10 ∷ 12 ∷ 22 ∷ 24 ∷ 26 ∷ 28 ∷ [])
     -- the words are fixed for unfaithful buffers as well: axis 1 is replicated, and devices along it hold unequal words
-    ∷ leaves (on2x2 (2 ∷ []) ([] ∷ (0 ∷ []) ∷ []) scatter) 8 (tab 8 (λ k. k + 1)) (6 ∷ 10 ∷ 8 ∷ 12 ∷ [])
+    ∷ leaves (on2x2 (2 ∷ []) ([] ∷ (0 ∷ []) ∷ []) scatter) 8 4 (tab 8 (λ k. k + 1)) (6 ∷ 10 ∷ 8 ∷ 12 ∷ [])
     -- "then the all-slice with the step's lists": in their order, one per dimension
-    ∷ leaves (on2x2 (4 ∷ []) ([] ∷ (0 ∷ 1 ∷ []) ∷ []) (5 ∷ 2 ∷ 1 ∷ 0 ∷ [])) 16 (tab 16 (λ k. k + 1)) (28 ∷ 36 ∷ 32 ∷ 40 ∷ [])
-    ∷ leaves (on2x2 (2 ∷ 2 ∷ []) ([] ∷ [] ∷ (0 ∷ 1 ∷ []) ∷ []) (5 ∷ 1 ∷ 1 ∷ 1 ∷ 0 ∷ [])) 16 (tab 16 (λ k. k + 1)) (28 ∷ 36 ∷ 32 ∷ 40 ∷ [])
+    ∷ leaves (on2x2 (4 ∷ []) ([] ∷ (0 ∷ 1 ∷ []) ∷ []) (5 ∷ 2 ∷ 1 ∷ 0 ∷ [])) 16 12 (tab 16 (λ k. k + 1)) (28 ∷ 36 ∷ 32 ∷ 40 ∷ [])
+    ∷ leaves (on2x2 (2 ∷ 2 ∷ []) ([] ∷ [] ∷ (0 ∷ 1 ∷ []) ∷ []) (5 ∷ 1 ∷ 1 ∷ 1 ∷ 0 ∷ [])) 16 12 (tab 16 (λ k. k + 1)) (28 ∷ 36 ∷ 32 ∷ 40 ∷ [])
     -- "It leaves the unreduced list and joins the end of its dimension's list.": in the step's order, behind what is there, and the others stay
-    ∷ checked (on2x2 (4 ∷ []) ([] ∷ (0 ∷ 1 ∷ []) ∷ []) (5 ∷ 2 ∷ 1 ∷ 0 ∷ [])) (passed 16 4 1 ((1 ∷ 0 ∷ []) ∷ []) [] (1 ∷ []))
-    ∷ checked (on2x2 (4 ∷ []) ((1 ∷ []) ∷ (0 ∷ []) ∷ []) scatter) (passed 8 4 1 ((1 ∷ 0 ∷ []) ∷ []) [] (1 ∷ []))
-    ∷ leaves (on2x2 (4 ∷ []) ((1 ∷ []) ∷ (0 ∷ []) ∷ []) scatter) 8 (tab 8 (λ k. k + 1)) (6 ∷ 10 ∷ 8 ∷ 12 ∷ [])
-    ∷ checked (fileOf (2 ∷ 2 ∷ 2 ∷ []) (2 ∷ []) ([] ∷ (0 ∷ 1 ∷ 2 ∷ []) ∷ []) ((5 ∷ 1 ∷ 1 ∷ []) ∷ [])) (passed 16 8 1 ((1 ∷ []) ∷ []) (0 ∷ 2 ∷ []) (1 ∷ []))
+    ∷ checked (on2x2 (4 ∷ []) ([] ∷ (0 ∷ 1 ∷ []) ∷ []) (5 ∷ 2 ∷ 1 ∷ 0 ∷ [])) (passed 16 4 1 12 ((1 ∷ 0 ∷ []) ∷ []) [] (1 ∷ []))
+    ∷ checked (on2x2 (4 ∷ []) ((1 ∷ []) ∷ (0 ∷ []) ∷ []) scatter) (passed 8 4 1 4 ((1 ∷ 0 ∷ []) ∷ []) [] (1 ∷ []))
+    ∷ leaves (on2x2 (4 ∷ []) ((1 ∷ []) ∷ (0 ∷ []) ∷ []) scatter) 8 4 (tab 8 (λ k. k + 1)) (6 ∷ 10 ∷ 8 ∷ 12 ∷ [])
+    ∷ checked (fileOf (2 ∷ 2 ∷ 2 ∷ []) (2 ∷ []) ([] ∷ (0 ∷ 1 ∷ 2 ∷ []) ∷ []) ((5 ∷ 1 ∷ 1 ∷ []) ∷ [])) (passed 16 8 1 8 ((1 ∷ []) ∷ []) (0 ∷ 2 ∷ []) (1 ∷ []))
     -- what is left for the next step: another unreduced axis, the end of the list, the replicated list
-    ∷ checked (fileOf (2 ∷ 2 ∷ []) (4 ∷ []) ([] ∷ (0 ∷ 1 ∷ []) ∷ []) ((5 ∷ 1 ∷ 1 ∷ []) ∷ scatter ∷ [])) (passed 16 4 2 ((1 ∷ 0 ∷ []) ∷ []) [] (1 ∷ []))
-    ∷ checked (fileOf (2 ∷ 2 ∷ []) (4 ∷ []) ((1 ∷ []) ∷ (0 ∷ []) ∷ []) (scatter ∷ (2 ∷ 1 ∷ 0 ∷ []) ∷ [])) (passed 8 4 2 ((1 ∷ []) ∷ []) [] (2 ∷ []))
+    ∷ checked (fileOf (2 ∷ 2 ∷ []) (4 ∷ []) ([] ∷ (0 ∷ 1 ∷ []) ∷ []) ((5 ∷ 1 ∷ 1 ∷ []) ∷ scatter ∷ [])) (passed 16 4 2 12 ((1 ∷ 0 ∷ []) ∷ []) [] (1 ∷ []))
+    ∷ checked (fileOf (2 ∷ 2 ∷ []) (4 ∷ []) ((1 ∷ []) ∷ (0 ∷ []) ∷ []) (scatter ∷ (2 ∷ 1 ∷ 0 ∷ []) ∷ [])) (passed 8 4 2 8 ((1 ∷ []) ∷ []) [] (2 ∷ []))
     ∷ checked (second [] (0 ∷ []) (1 ∷ []) (scatter ∷ (1 ∷ 1 ∷ 1 ∷ []) ∷ [])) (refuse 23 2)
     -- a table of rank 4: every list counts, in the words, in 23 and in 27
-    ∷ leaves (on2x2 (1 ∷ 1 ∷ 2 ∷ 2 ∷ []) ([] ∷ [] ∷ [] ∷ [] ∷ (0 ∷ 1 ∷ []) ∷ []) (5 ∷ 0 ∷ 0 ∷ 1 ∷ 1 ∷ 1 ∷ 0 ∷ [])) 16 (tab 16 (λ k. k + 1))
+    ∷ leaves (on2x2 (1 ∷ 1 ∷ 2 ∷ 2 ∷ []) ([] ∷ [] ∷ [] ∷ [] ∷ (0 ∷ 1 ∷ []) ∷ []) (5 ∷ 0 ∷ 0 ∷ 1 ∷ 1 ∷ 1 ∷ 0 ∷ [])) 16 12 (tab 16 (λ k. k + 1))
     (28 ∷ 36 ∷ 32 ∷ 40 ∷ [])
     ∷ checked (on2x2 (1 ∷ 1 ∷ 2 ∷ 2 ∷ []) ([] ∷ [] ∷ [] ∷ [] ∷ (0 ∷ 1 ∷ []) ∷ []) (5 ∷ 0 ∷ 0 ∷ 1 ∷ 0 ∷ 1 ∷ 0 ∷ [])) (refuse 23 1)
     ∷ checked (on2x2 (1 ∷ 1 ∷ 2 ∷ 2 ∷ []) ([] ∷ [] ∷ [] ∷ [] ∷ (0 ∷ []) ∷ []) (5 ∷ 0 ∷ 0 ∷ 1 ∷ 0 ∷ 1 ∷ 1 ∷ [])) (refuse 27 1)
@@ -98,15 +98,15 @@ scatters =
     ∷ checked (after (5 ∷ 2 ∷ 1 ∷ 1 ∷ 0 ∷ [])) (refuse 23 2)
     ∷ checked (after (5 ∷ 1 ∷ 0 ∷ 0 ∷ [])) (refuse 27 2)
     ∷ checked (after (5 ∷ 0 ∷ 1 ∷ 1 ∷ [])) (refuse 25 2)
-    ∷ checked (after (5 ∷ 1 ∷ 1 ∷ 0 ∷ [])) (passed 48 4 2 ((1 ∷ []) ∷ [] ∷ []) [] (2 ∷ 3 ∷ []))
+    ∷ checked (after (5 ∷ 1 ∷ 1 ∷ 0 ∷ [])) (passed 48 4 2 72 ((1 ∷ []) ∷ [] ∷ []) [] (2 ∷ 3 ∷ []))
     ∷ checked (picture (scatter ∷ scatter ∷ [])) (refuse 27 2)
     ∷ checked (picture (scatter ∷ (3 ∷ 1 ∷ 0 ∷ []) ∷ [])) (refuse 27 2)
     -- inside a repeat nothing makes the axis unreduced again
     ∷ checked (twoParts (times 1 (scatter ∷ gather ∷ []) ∷ [])) (refuse 41 1)
     -- in files of editions 2 and 3: the replicated list stays, and shards lie by device number
     ∷ checked (second [] (0 ∷ []) (1 ∷ []) (scatter ∷ []))
-    (accept (record { room = 16; devices = 4; steps = 1; rank = 1; sharding = shardingOf (0 ∷ []) [] (1 ∷ []); shard = 2 ∷ [] }))
-    ∷ leaves (third [] (0 ∷ []) (scatter ∷ [])) 16 (tab 16 (λ k. k + 1)) (6 ∷ 8 ∷ 10 ∷ 12 ∷ 22 ∷ 24 ∷ 26 ∷ 28 ∷ [])
+    (accept (record { room = 16; devices = 4; steps = 1; rank = 1; sharding = shardingOf (0 ∷ []) [] (1 ∷ []); shard = 2 ∷ []; moved = 8 }))
+    ∷ leaves (third [] (0 ∷ []) (scatter ∷ [])) 16 8 (tab 16 (λ k. k + 1)) (6 ∷ 8 ∷ 10 ∷ 12 ∷ 22 ∷ 24 ∷ 26 ∷ 28 ∷ [])
     ∷ []
 
 pub scattered : All Holds scatters

@@ -14,6 +14,7 @@ use Rattle.rules.specs.Sharding.{shardSizes}
 use Rattle.rules.specs.Limits.{mostDevices, mostWords}
 use Rattle.rules.specs.Refusals.{accept, refuse}
 use Rattle.rules.specs.PlanFile.{Plan, judge, announcedShape, room}
+use Rattle.rules.specs.Moved.{wordsMoved}
 use Rattle.rules.specs.Calls.{lastState, runnable, Ran, runLeaves, runOf}
 use Rattle.laws.specs.Demands.{Fits}
 use Rattle.laws.proofs.Accepted.{AcceptedPlan, accepted}
@@ -25,7 +26,7 @@ use Rattle.plan.specs.declared.Whole.{Whole}
 -- ---- the four ways out
 
 module _ (file work spare : List ℕ) where
-  pub stops-file : {n k : ℕ} → judge file ≡ refuse n k → runOf file work spare ≡ record { outcome = refuse n k; work = work; spare = spare }
+  pub stops-file : {n k : ℕ} → judge file ≡ refuse n k → runOf file work spare ≡ record { outcome = refuse n k; moved = 0; work = work; spare = spare }
   unfolding runOf runnable
   stops-file e = rw e refl
 
@@ -33,15 +34,15 @@ module _ (file work spare : List ℕ) where
     abbrev left : Bool → Bool → Ran
     left b c = runLeaves (judged file p e work spare b c) work spare
 
-    pub stops-work : length work < room p → runOf file work spare ≡ record { outcome = refuse 30 0; work = work; spare = spare }
+    pub stops-work : length work < room p → runOf file work spare ≡ record { outcome = refuse 30 0; moved = 0; work = work; spare = spare }
     stops-work l = run-is file p e work spare ∙ ap (λ (b : Bool). left b (leb (room p) (length spare))) (lt-leb (room p) (length work) l)
 
-    pub stops-spare : room p ≤ length work → length spare < room p → runOf file work spare ≡ record { outcome = refuse 31 0; work = work; spare = spare }
+    pub stops-spare : room p ≤ length work → length spare < room p → runOf file work spare ≡ record { outcome = refuse 31 0; moved = 0; work = work; spare = spare }
     stops-spare l m = run-is file p e work spare ∙ ap₂ left (le-leb (room p) (length work) l) (lt-leb (room p) (length spare) m)
 
-    pub finishes : Fits p work spare → {work′ spare′ : List ℕ} → work′ ≡ lastState p work ++ replicate (length work - length (lastState p work)) 0
-        → spare′ ≡ replicate (length spare) 0 → runOf file work spare ≡ record { outcome = accept tt; work = work′; spare = spare′ }
-    finishes f w s = run-fits file p e work spare f ∙ (λ i. record { outcome = accept tt; work = sym w i; spare = sym s i })
+    pub finishes : Fits p work spare → {moved : ℕ} {work′ spare′ : List ℕ} → wordsMoved p ≡ moved → work′ ≡ lastState p work ++ replicate (length work - length (lastState p work)) 0
+        → spare′ ≡ replicate (length spare) 0 → runOf file work spare ≡ record { outcome = accept tt; moved = moved; work = work′; spare = spare′ }
+    finishes f m w s = run-fits file p e work spare f ∙ (λ i. record { outcome = accept tt; moved = m i; work = sym w i; spare = sym s i })
 
 -- ---- the last state, as the code has it
 

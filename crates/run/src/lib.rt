@@ -26,6 +26,7 @@ use rounds::Progress;
 use rounds::run_row;
 use types::Device;
 use types::PlanFile;
+use types::Ran;
 use types::Reason;
 use types::Refusal;
 use types::RunOutcome;
@@ -189,31 +190,45 @@ fn last_words(whole: Whole) -> usize
     whole.devices * words(shard)
 }
 
-fn refused(reason: Reason) -> RunOutcome
-    ensures { λ r. ⌜ r ≡ RunOutcome.Refused (record { reason = reason; step = 0 }) ⌝ }
+// Refused, with no words moved.
+fn refused(refusal: Refusal) -> Ran
+    ensures { λ r. ⌜ r ≡ record { outcome = RunOutcome.Refused refusal; moved = 0 } ⌝ }
 {
-    RunOutcome::Refused(Refusal { reason, step: 0 })
+    Ran {
+        outcome: RunOutcome::Refused(refusal),
+        moved: 0,
+    }
 }
 
-// The run: the file's refusal, then 30, then 31; or the steps in order, and 0 in the rest of work and in all of spare.
-pub fn run(file: &[u8], work: &mut [u32], spare: &mut [u32]) -> RunOutcome
+// The run: the file's refusal, then 30, then 31; or the steps in order, with the words that they move between devices, and 0 in the rest of work and in
+// all of spare.
+pub fn run(file: &[u8], work: &mut [u32], spare: &mut [u32]) -> Ran
     ensures { λ r. ⌜ RunPromise (now (file .entry)) (now (work .entry)) (now (spare .entry)) r (now (work .exit)) (now (spare .exit)) ⌝ }
 {
     let whole = judge_file(file);
     let next = whole.next;
     let Next::At(at) = next else {
-        return RunOutcome::Refused(next.refusal());
+        return refused(next.refusal());
     };
     let room = whole.devices * whole.most;
     if work.len() < room {
-        return refused(Reason::WorkTooShort);
+        return refused(Refusal {
+            reason: Reason::WorkTooShort,
+            step: 0,
+        });
     }
     if spare.len() < room {
-        return refused(Reason::SpareTooShort);
+        return refused(Refusal {
+            reason: Reason::SpareTooShort,
+            step: 0,
+        });
     }
     let in_work = run_plan(file, at, whole, work, spare);
     let last = last_words(whole);
     bring_home(in_work, last, work, spare);
     clear(&mut work[last..]);
-    RunOutcome::Finished
+    Ran {
+        outcome: RunOutcome::Finished,
+        moved: whole.moved,
+    }
 }

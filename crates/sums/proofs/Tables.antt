@@ -15,8 +15,6 @@ use native.Mathlib.Nat.{
   mul-le-mul,
   mul-le-mul-right,
   le-refl,
-  le-mul-of-pos-right,
-  mul-comm,
   mod-lt,
   div-add-mod',
 }
@@ -26,13 +24,13 @@ use borrow.Author.Tests.{lt-ltb, le-ltb}
 use lib.ListN.{length, getD, set, drop, List·getD-append}
 use lib.Seq.{set-comm, getD-set-other, ext-getD, getD-drop, getD-append-add, length-front, length-take-le}
 use Rattle.rules.specs.Lists.{tab, pick, product, In, Distinct, Below}
-use Rattle.rules.specs.Mesh.{number, coords, span, position, member, members, remaining, IsGroup}
+use Rattle.rules.specs.Mesh.{number, coords, span, position, member, members, IsGroup}
 use Rattle.rules.specs.Spread.{tabulate, held}
 use Rattle.rules.specs.Collectives.{Place, made, reducePlaces, word}
 use Rattle.laws.proofs.Lists.{length-tab, getD-tab, tab-cong, map-tab}
-use Rattle.laws.proofs.Positions.{div-lt, pos-of-lt, span-append, position-lt, below-member}
+use Rattle.laws.proofs.Positions.{div-lt, pos-of-lt, position-lt, below-member}
 use Rattle.laws.proofs.Buffers.{number-lt, coords-number, below-coords, number-coords, tabulate-same}
-use Rattle.laws.proofs.Groups.{group-by-position, span-remaining}
+use Rattle.laws.proofs.Groups.{group-by-position, group-few}
 use Rattle.laws.proofs.Fronts.{part-in}
 use Rattle.strided.specs.Strided.{offset, mostPlaces, Counts}
 use Rattle.digits.specs.Digits.{mostRoom, meshStrides, dot, cleared, axisDigits, meshDigits, HasStrides}
@@ -383,14 +381,6 @@ reduced-all {W} addAll z mesh shape L old =
     ap (λ (t : Bool). pick t (made addAll (reducePlaces mesh L) (held z mesh shape old) x i) (held z mesh shape old x i))
     (lt-ltb (position mesh L x) (span mesh L) (position-lt mesh L bx))))
 
--- a group has at most all devices
-pub group-few : (mesh L : List ℕ) → 0 < product mesh → Distinct L → ((a : ℕ) → In a L → a < length mesh) → span mesh L ≤ product mesh
-group-few mesh L some once of-mesh =
-    let s : ℕ = span mesh (remaining mesh L) in
-    let e : s * span mesh L ≡ product mesh = sym (span-append mesh (remaining mesh L) L) ∙ span-remaining mesh L once of-mesh in
-    let p : 0 < s = group-pos mesh (remaining mesh L) some in
-    rw (← e) (omega (arith, le-mul-of-pos-right (span mesh L) p, mul-comm s (span mesh L)))
-
 -- ---- what the listing of places is asked, and what it leaves
 
 pub mesh-offsets : {firsts strides mesh : List ℕ} → Firsts firsts strides mesh → Counts (meshDigits mesh strides []) (length firsts) 0 mostPlaces
@@ -421,7 +411,7 @@ module _ {firsts shifts strides mesh L : List ℕ} {m : ℕ} (t : Tables firsts 
   pub shifts-asked : (strides′ : List ℕ) → strides′ ≡ meshStrides mesh m → Shifting shifts strides′ mesh L
   shifts-asked strides′ e =
       let on = t .has .on in
-      let g : span mesh L ≤ product mesh = group-few mesh L (on .devices-pos) (t .once) (t .of-mesh) in
+      let g : span mesh L ≤ product mesh = group-few mesh L (t .once) (t .of-mesh) (on .devices-pos) in
       record {
         has = record { on = on; places = ap length e ∙ strides-length mesh m };
         of-mesh = t .of-mesh;

@@ -1,2 +1,3 @@
 -- What a step taken is.
 pub mod Taking
+pub mod Charges

@@ -129,7 +129,7 @@ refusalOf n k = record { reason = reasonOf n; step = k }
 -- The answer of the code, every place of it: past the rank no axes and sizes of 0, and so in every place beside a refusal.
 abbrev pub checkedOf : Judged CheckAnswer → Checked
 checkedOf (accept a) = record {
-  outcome = check.Passed (record { room = a .room; devices = a .devices; steps = a .steps; rank = a .rank });
+  outcome = check.Passed (record { room = a .room; devices = a .devices; steps = a .steps; rank = a .rank; moved = a .moved });
   sharding = shardingFrom (a .sharding);
   shard = fourPlaces 0 (a .shard);
 }

@@ -62,7 +62,7 @@ nowhere = record { dims = record { 0 = none ∷ none ∷ none ∷ none ∷ [] };
 pub places :
     -- the check: W1, and W6 with gather [1]
     (checkedOf (checkOf w1) ≡ record {
-      outcome = check.Passed (record { room = 32; devices = 4; steps = 1; rank = 2 });
+      outcome = check.Passed (record { room = 32; devices = 4; steps = 1; rank = 2; moved = 16 });
       sharding = split;
       shard = 2 ∷ 4 ∷ 0 ∷ 0 ∷ [];
     })
@@ -70,7 +70,7 @@ pub places :
     ≡ record { outcome = check.Refused (record { reason = NotTail; step = 1 }); sharding = nowhere; shard = 0 ∷ 0 ∷ 0 ∷ 0 ∷ [] })
     -- mesh 2x2x2x2, table 4x2, sharding [[3, 0], [2]], unreduced [1]
     × (checkedOf (checkOf (fileOf (2 ∷ 2 ∷ 2 ∷ 2 ∷ []) (4 ∷ 2 ∷ []) ((3 ∷ 0 ∷ []) ∷ (2 ∷ []) ∷ (1 ∷ []) ∷ []) [])) ≡ record {
-      outcome = check.Passed (record { room = 16; devices = 16; steps = 0; rank = 2 });
+      outcome = check.Passed (record { room = 16; devices = 16; steps = 0; rank = 2; moved = 0 });
       sharding = record {
         dims = record { 0 = list 2 (3 ∷ 0 ∷ 0 ∷ 0 ∷ 0 ∷ 0 ∷ []) ∷ single 2 ∷ none ∷ none ∷ [] };
         unreduced = single 1;
@@ -98,7 +98,7 @@ pub places :
     })
     -- every dimension, and the unreduced axes
     × (checkedOf (checkOf four) ≡ record {
-      outcome = check.Passed (record { room = 768; devices = 32; steps = 0; rank = 4 });
+      outcome = check.Passed (record { room = 768; devices = 32; steps = 0; rank = 4; moved = 0 });
       sharding = crossed;
       shard = 1 ∷ 2 ∷ 3 ∷ 4 ∷ [];
     })
@@ -106,7 +106,7 @@ pub places :
     ≡ record { outcome = place.Found 4; sharding = crossed; shard = 1 ∷ 2 ∷ 3 ∷ 4 ∷ []; first = 1 ∷ 2 ∷ 3 ∷ 4 ∷ [] })
     -- the replicated axes
     × (checkedOf (checkOf kept) ≡ record {
-      outcome = check.Passed (record { room = 8; devices = 8; steps = 0; rank = 1 });
+      outcome = check.Passed (record { room = 8; devices = 8; steps = 0; rank = 1; moved = 0 });
       sharding = keeping;
       shard = 1 ∷ 0 ∷ 0 ∷ 0 ∷ [];
     })

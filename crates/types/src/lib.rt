@@ -222,12 +222,13 @@ pub struct Refusal {
     pub step: u16,
 }
 
-// The check's totals.
+// The check's totals; `moved` is the words that a run moves between devices.
 pub struct Totals {
     pub room: u32,
     pub devices: u16,
     pub steps: u16,
     pub rank: usize,
+    pub moved: u64,
 }
 
 pub enum CheckOutcome {
@@ -266,6 +267,12 @@ pub enum GroupsOutcome {
 pub enum RunOutcome {
     Finished,
     Refused(Refusal),
+}
+
+// The run's answer: beside the outcome, the words that it moved between devices, 0 beside a refusal.
+pub struct Ran {
+    pub outcome: RunOutcome,
+    pub moved: u64,
 }
 
 impl AxisList {

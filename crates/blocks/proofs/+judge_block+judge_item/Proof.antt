@@ -11,7 +11,7 @@ use Rattle.reader.proofs.Next.refusal.Reads as Next-refusal-reads
 use Rattle.blocks.specs.Blocks.{summarized}
 use Rattle.blocks.proofs.Heads.{repeat-inside, head-facts, head-on, head-stopped}
 use Rattle.blocks.proofs.Plain.{summary-stops}
-use Rattle.blocks.proofs.Inner.{Inner, inner-start, inner-stops, inner-done, number-few, runs-few, inner-step}
+use Rattle.blocks.proofs.Inner.{Inner, inner-start, inner-stops, inner-done, number-few, runs-few, next-few, inner-step}
 use Rattle.blocks.proofs.Items.{head-halts, inner-halts, closes, item-repeat, item-plain}
 use Rattle.blocks.proofs.judge_block.Reads as judge-block
 use Rattle.blocks.proofs.judge_block.Kinds as judge-block-kinds
@@ -48,12 +48,12 @@ abbrev judge-item-below : ℕ → In 1 judge-item-kinds.ps
 judge-item-below t = and 1 judge-item-kinds.ps (falls 1 judge-item-kinds.ps _<_ μ-judge-item t) judge-item.Pre
 
 abbrev judge-block-Inv-loop : judge-block-lts.InvT-loop
-judge-block-Inv-loop file at k depth mesh table total largest sharding count inner steps below place₀ number₀ runs₀ most₀ after₀ i₀ place number runs most after i =
-    Inner (meshOf mesh) (sizesOf table) file (depth - 1) steps (k + 1) (at + 2) largest (shardingOf (table .rank) sharding) i number place runs most
+judge-block-Inv-loop file at k depth mesh table extent largest sharding count inner steps below place₀ number₀ runs₀ most₀ moved₀ after₀ i₀ place number runs most moved after i =
+    Inner (meshOf mesh) (sizesOf table) file (depth - 1) steps (k + 1) (at + 2) largest (shardingOf (table .rank) sharding) i number place runs most moved
     (shardingOf (table .rank) after)
 
 abbrev judge-block-μ-loop : judge-block-lts.MeasureT-loop
-judge-block-μ-loop file at k depth mesh table total largest sharding count inner steps below place₀ number₀ runs₀ most₀ after₀ i₀ place number runs most after i =
+judge-block-μ-loop file at k depth mesh table extent largest sharding count inner steps below place₀ number₀ runs₀ most₀ moved₀ after₀ i₀ place number runs most moved after i =
     steps - i
 
 pub +judge-block+judge-item-spec : {M : Type 1} → statement M
@@ -109,7 +109,7 @@ pub +judge-block+judge-item-spec : {M : Type 1} → statement M
       omega (arith, f .inside, g .takes .bytes, g .takes .inside, g .at-is, s .pre .0),
       record {
         ready = record { fits = p .ready .fits; sound = g .sound };
-        total-is = p .total-is;
+        extends = p .extends;
         counted = g .counted;
         number-few = number-few (meshOf (a .mesh)) (sizesOf (a .table)) (a .file .now) (a .depth - 1) g (omega (arith, p .number-few));
         inside = omega (arith, g .takes .inside, g .at-is);
@@ -136,21 +136,32 @@ pub +judge-block+judge-item-spec : {M : Type 1} → statement M
     let a = s .args in
     let f = head-facts (a .depth) (a .k) (a .file .now) (a .at) (head-on (h .read-repeat .ensures) (l .before .before .head .given .1)) in
     let m = read-on _ (i .judge-item .ensures .reads) (c .before .before .next .given .1) in
-    let r = runs-few (meshOf (a .mesh)) (sizesOf (a .table)) (a .file .now) (a .depth - 1) g (s .pre .1 .ready .fits .sized .least) (i .before .loop-test .taken) m in
+    let r = runs-few (meshOf (a .mesh)) (sizesOf (a .table)) (a .file .now) (a .depth - 1) g (s .pre .1 .extends .within) (i .before .loop-test .taken) m in
     omega (arith, r, g .takes .few, g .runs-are, g .few, f .number-is, h .before .shared-slice-known .given (a .at + 1)))
-    (λ c. let l = c .before .before .before .before .before .before .before in
+    (λ c. let i = c .before .before .before .before .before in
+    let l = i .before .before in
+    let g = l .loop .inv in
+    let h = l .before .before .before .before in
+    let s = h .before .before in
+    let a = s .args in
+    let f = head-facts (a .depth) (a .k) (a .file .now) (a .at) (head-on (h .read-repeat .ensures) (l .before .before .head .given .1)) in
+    let m = read-on _ (i .judge-item .ensures .reads) (c .before .before .before .next .given .1) in
+    let r = runs-few (meshOf (a .mesh)) (sizesOf (a .table)) (a .file .now) (a .depth - 1) g (s .pre .1 .extends .within) (i .before .loop-test .taken) m in
+    let n = next-few (meshOf (a .mesh)) (sizesOf (a .table)) (a .file .now) (a .depth - 1) g (s .pre .1 .extends .within) (i .before .loop-test .taken) m in
+    omega (arith, r, n, g .moved-few, g .takes .few, g .runs-are, g .few, f .number-is, h .before .shared-slice-known .given (a .at + 1)))
+    (λ c. let l = c .before .before .before .before .before .before .before .before in
     let g = l .loop .inv in
     let h = l .before .before .before .before in
     let a = h .before .before .args in
     let f = head-facts (a .depth) (a .k) (a .file .now) (a .at) (head-on (h .read-repeat .ensures) (l .before .before .head .given .1)) in
     omega (arith, g .few, f .number-is, h .before .shared-slice-known .given (a .at + 1)))
     (λ c. search needs)
-    (λ c. let i = c .before .before .before .before .before in
+    (λ c. let i = c .before .before .before .before .before .before in
     let l = i .before .before in
     let s = l .before .before .before .before .before .before in
     let a = s .args in
-    let m = read-on _ (i .judge-item .ensures .reads) (c .before .before .before .next .given .1) in
-    inner-step (meshOf (a .mesh)) (sizesOf (a .table)) (a .file .now) (a .depth - 1) (l .loop .inv) (s .pre .1 .ready .fits .sized .least) (i .before .loop-test .taken) m)
+    let m = read-on _ (i .judge-item .ensures .reads) (c .before .before .before .before .next .given .1) in
+    inner-step (meshOf (a .mesh)) (sizesOf (a .table)) (a .file .now) (a .depth - 1) (l .loop .inv) (s .pre .1 .extends .within) (i .before .loop-test .taken) m)
     (λ c κs. let l = c .before in
     let g = l .loop .inv in
     let h = l .before .before .before .before in
@@ -161,6 +172,7 @@ pub +judge-block+judge-item-spec : {M : Type 1} → statement M
       goes-on = (_, refl);
       rank-few = s .pre .1 .ready .fits .rank;
       runs-few = omega (arith, g .takes .few, g .runs-are, g .few, f .number-is, h .before .shared-slice-known .given (a .at + 1));
+      moved-few = g .moved-few;
     })
     (λ c. let l = c .before .before in
     let g = l .loop .inv in
@@ -169,7 +181,7 @@ pub +judge-block+judge-item-spec : {M : Type 1} → statement M
     let r = head-on (h .read-repeat .ensures) (l .before .before .head .given .1) in
     let done = inner-done (meshOf (a .mesh)) (sizesOf (a .table)) (a .file .now) (a .depth - 1) g (c .before .loop-test .left) in
     retold (c .close-block .ensures)
-    (closes (meshOf (a .mesh)) (sizesOf (a .table)) (a .file .now) (a .depth) (a .k) (a .at) (shardingOf (a .table .rank) (a .sharding)) r (a .largest) done (g .number-is) (g .runs-are) (g .largest-is) (g .here) (g .at-is))))
+    (closes (meshOf (a .mesh)) (sizesOf (a .table)) (a .file .now) (a .depth) (a .k) (a .at) (shardingOf (a .table .rank) (a .sharding)) r (a .largest) done (g .number-is) (g .runs-are) (g .largest-is) (g .moved-is) (g .here) (g .at-is))))
     λ t. judge-item-lts.spec (
       is-repeat-reads.Asked,
       is-repeat-reads.Learnt,
@@ -189,7 +201,7 @@ pub +judge-block+judge-item-spec : {M : Type 1} → statement M
       omega (arith, l, s .pre .0),
       record {
         ready = p .ready;
-        total-is = p .total-is;
+        extends = p .extends;
         counted = p .counted;
         number-few = omega (arith, p .number-few);
         inside = omega (arith, l);

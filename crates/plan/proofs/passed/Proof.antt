@@ -24,7 +24,7 @@ passed-spec =
     let w : Whole = s .before .before .before .before .args .whole in
     let sizes = l .before .sizes-within .ensures ∙ ap (λ (n : List ℕ). fourPlaces 0 n) (s .shard-of .ensures .1) in
     (λ i. record {
-      outcome = check.Passed (record { room = w .devices * w .most; devices = w .devices; steps = w .steps; rank = w .table .rank });
+      outcome = check.Passed (record { room = w .devices * w .most; devices = w .devices; steps = w .steps; rank = w .table .rank; moved = w .moved });
       sharding = l .lists-within .ensures i;
       shard = sizes i;
     })))

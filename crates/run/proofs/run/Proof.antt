@@ -7,8 +7,7 @@ use denote.Ref.{now}
 use Rattle.rules.specs.Lists.{pick}
 use Rattle.rules.specs.PlanFile.{room}
 use Rattle.types.specs.Answers.{runMeaning}
-use Rattle.types.specs.declared.RunOutcome.{RunOutcome}
-use Rattle.types.specs.declared.RunOutcome.the-variants.{Finished}
+use Rattle.types.specs.declared.Ran.{Ran}
 use Rattle.types.proofs.Promises.{run-promise}
 use Rattle.plan.proofs.Wholes.{plan-held, whole-stopped, bounded}
 use Rattle.run.proofs.Returns.{stops-file, stops-work, stops-spare, finishes, last-size, last-fits}
@@ -52,10 +51,13 @@ run-spec =
     (λ c. search needs)
     enum-told
     (λ c κs. search needs)
-    (λ c. let j = c .before .before .before in
+    (λ c κs. search needs)
+    (λ c. let j = c .before .before .before .before in
     let s = j .before .before .before .before in
-    let e = whole-stopped _ _ (j .judge-file .ensures) (c .before .enum-told .given .1) (c .refusal .ensures) in
-    run-promise _ _ _ _ (λ i. j .before .before .slice-known .given i .fits) (stops-file _ (now (s .args .work)) (now (s .args .spare)) e))
+    let e = whole-stopped _ _ (j .judge-file .ensures) (c .before .before .enum-told .given .1) (c .before .refusal .ensures) in
+    run-promise _ _ _ (c .refused .result) (λ i. j .before .before .slice-known .given i .fits)
+    (stops-file _ (now (s .args .work)) (now (s .args .spare)) e
+    ∙ ap (λ (x : Ran). record { outcome = runMeaning (x .outcome); moved = x .moved; work = now (s .args .work); spare = now (s .args .spare) }) (sym (c .refused .ensures))))
     (λ c. let b = bounded _ (plan-held _ _ (c .before .before .before .before .judge-file .ensures) (c .before .before .next .given .1)) in
     omega (arith, b .room-few))
     (λ c κs. search needs)
@@ -63,18 +65,18 @@ run-spec =
     let s = j .before .before .before .before in
     let h = plan-held _ _ (j .judge-file .ensures) (c .before .before .before .before .next .given .1) in
     let l : length (now (s .args .work)) < room (h .0) = omega (arith, h .2 .room-is, c .before .if1 .taken) in
-    run-promise _ _ _ (c .refused .result) (λ i. j .before .before .slice-known .given i .fits)
+    run-promise _ _ _ (c .refused2 .result) (λ i. j .before .before .slice-known .given i .fits)
     (stops-work _ (now (s .args .work)) (now (s .args .spare)) (h .1) l
-    ∙ ap (λ (o : RunOutcome). record { outcome = runMeaning o; work = now (s .args .work); spare = now (s .args .spare) }) (sym (c .refused .ensures))))
+    ∙ ap (λ (x : Ran). record { outcome = runMeaning (x .outcome); moved = x .moved; work = now (s .args .work); spare = now (s .args .spare) }) (sym (c .refused2 .ensures))))
     (λ c κs. search needs)
     (λ c. let j = c .before .before .before .before .before .before .before in
     let s = j .before .before .before .before in
     let h = plan-held _ _ (j .judge-file .ensures) (c .before .before .before .before .before .next .given .1) in
     let w : room (h .0) ≤ length (now (s .args .work)) = omega (arith, h .2 .room-is, c .before .before .if1 .left) in
     let l : length (now (s .args .spare)) < room (h .0) = omega (arith, h .2 .room-is, c .before .if2 .taken) in
-    run-promise _ _ _ (c .refused2 .result) (λ i. j .before .before .slice-known .given i .fits)
+    run-promise _ _ _ (c .refused3 .result) (λ i. j .before .before .slice-known .given i .fits)
     (stops-spare _ (now (s .args .work)) (now (s .args .spare)) (h .1) w l
-    ∙ ap (λ (o : RunOutcome). record { outcome = runMeaning o; work = now (s .args .work); spare = now (s .args .spare) }) (sym (c .refused2 .ensures))))
+    ∙ ap (λ (x : Ran). record { outcome = runMeaning (x .outcome); moved = x .moved; work = now (s .args .work); spare = now (s .args .spare) }) (sym (c .refused3 .ensures))))
     (λ c κs. let j = c .before .before .before .before .before .before .before .before in
     let h = plan-held _ _ (j .judge-file .ensures) (c .before .before .before .before .before .before .next .given .1) in
     record {
@@ -109,6 +111,6 @@ run-spec =
     let f = ap (λ (n : ℕ). take n (g .bring-home .last .1 .1 .0)) (sym e) ∙ g .bring-home .ensures .1
     ∙ ap (λ (n : ℕ). take n (pick (r .run-plan .result) (r .run-plan .last .1 .1 .1 .0) (r .run-plan .last .1 .1 .1 .1 .0))) e
     ∙ r .run-plan .ensures (h .0) (h .1) in
-    run-promise _ _ _ Finished (λ i. j .before .before .slice-known .given i .fits)
-    (finishes _ work spare (h .1) (w, q) (cleared-behind _ work _ _ _ e (sub-clear (c .before .before .before .before)) lw f (c .before .before .clear .ensures))
+    run-promise _ _ _ _ (λ i. j .before .before .slice-known .given i .fits)
+    (finishes _ work spare (h .1) (w, q) (h .2 .moved-is) (cleared-behind _ work _ _ _ e (sub-clear (c .before .before .before .before)) lw f (c .before .before .clear .ensures))
     (g .bring-home .ensures .0 ∙ ap (λ (n : ℕ). replicate n 0) ls))))

@@ -6,7 +6,8 @@ use lib.ListN.{length, take}
 use denote.Ref.{now}
 use Rattle.rules.specs.Spread.{addWords}
 use Rattle.types.specs.Types.{axesOf}
-use Rattle.sums.proofs.Tables.{groups-asked, groups-leave, group-few}
+use Rattle.laws.proofs.Groups.{group-few}
+use Rattle.sums.proofs.Tables.{groups-asked, groups-leave}
 use Rattle.sums.proofs.sum_with.Statement.{statement}
 use Rattle.sums.proofs.sum_with.Tie as tie
 
@@ -28,7 +29,7 @@ sum-with-spec =
     (λ c. let f = told (c .before .before .before) in
     let s = filled f in
     let t = s .pre .0 in
-    let g = group-few (now (s .args .mesh)) (axesOf (s .args .axes)) (t .has .on .devices-pos) (t .once) (t .of-mesh) in
+    let g = group-few (now (s .args .mesh)) (axesOf (s .args .axes)) (t .once) (t .of-mesh) (t .has .on .devices-pos) in
     omega (arith, f .fill-tables .ensures .0, f .fill-tables .kept .1 .0, t .shifts-room, t .has .on .devices-few))
     (λ c κs. let f = told (c .before .before .before .before) in
     let s = filled f in
