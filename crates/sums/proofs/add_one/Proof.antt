@@ -7,7 +7,7 @@ use mathlib.Core.List.{[]}
 use lib.ListN.{length, getD, length-set}
 use denote.Ref.{now}
 use Rattle.sums.specs.Sums.{written, addedWord}
-use Rattle.sums.proofs.Adding.{wrapped-adds, next-in, next-word, own-word}
+use Rattle.sums.proofs.Adding.{wrapped-adds, next-word, own-word}
 use Rattle.sums.proofs.Writing.{write-start, write-step}
 use Rattle.sums.proofs.add_one.Statement.{statement}
 use Rattle.sums.proofs.add_one.Tie as tie
@@ -18,11 +18,7 @@ Inv-loop words₀ shifts at q m a t₀ words t = (t ≤ m) × (words ≡ written
 abbrev μ-loop : tie.MeasureT-loop
 μ-loop words₀ shifts at q m a t₀ words t = m - t
 
--- the shard of a member that is added is within the words
-inside : (s : tie.Start Inv-loop μ-loop) (j : ℕ) → j < 1
-    → s .args .at + getD (now (s .args .shifts)) (s .args .q + j) 0 + s .args .m ≤ length (now (s .args .words))
-inside s j h = next-in (now (s .args .words)) (s .pre .0) (s .pre .1) j h
-
+-- the shard that is added is within the words
 first : (s : tie.Start Inv-loop μ-loop) → s .args .at + getD (now (s .args .shifts)) (s .args .q) 0 + s .args .m ≤ length (now (s .args .words))
 first s = s .pre .0 .inside (s .args .q) (omega (arith, s .pre .1 .inside))
 
@@ -41,28 +37,35 @@ add-one-spec =
     (λ c. let s = c .before .before .before in
     (omega arith, write-start 0 (now (s .args .words)) (s .args .at) (addedWord (now (s .args .words)) (now (s .args .shifts)) (s .args .at) (s .args .q) 1), refl))
     (λ c. let s = c .before .before .before .before .before in
-    omega (arith, s .pre .0 .inside 0 (s .pre .0 .some), s .pre .0 .first, first s, c .before .loop .inv .2, c .loop-test .taken))
+    let l = c .before .loop in
+    omega (arith, s .pre .0 .inside 0 (s .pre .0 .some), s .pre .0 .first, l .inv .2, c .loop-test .taken))
     (λ c. let s = c .before .before .before .before .before in
-    omega (arith, s .pre .0 .inside 0 (s .pre .0 .some), s .pre .0 .first, first s, c .before .loop .inv .2, c .loop-test .taken))
+    let l = c .before .loop in
+    omega (arith, s .pre .0 .inside 0 (s .pre .0 .some), s .pre .0 .first, l .inv .2, c .loop-test .taken))
     (λ c. let s = c .before .before .before .before .before .before in
-    omega (arith, s .pre .0 .inside 0 (s .pre .0 .some), s .pre .0 .first, first s, c .before .before .loop .inv .2, c .before .loop-test .taken))
+    let l = c .before .before .loop in
+    omega (arith, s .pre .0 .inside 0 (s .pre .0 .some), s .pre .0 .first, l .inv .2, c .before .loop-test .taken))
     (λ c. let s = c .before .before .before .before .before .before in
-    omega (arith, s .pre .0 .inside 0 (s .pre .0 .some), s .pre .0 .first, first s, c .before .before .loop .inv .2, c .before .loop-test .taken))
+    let l = c .before .before .loop in
+    omega (arith, first s, l .inv .2, c .before .loop-test .taken))
     (λ c. let s = c .before .before .before .before .before .before in
-    omega (arith, s .pre .0 .inside 0 (s .pre .0 .some), s .pre .0 .first, first s, c .before .before .loop .inv .2, c .before .loop-test .taken))
+    let l = c .before .before .loop in
+    omega (arith, first s, l .inv .2, c .before .loop-test .taken))
     (λ c. let s = c .before .before .before .before .before .before .before in
-    omega (arith, s .pre .0 .inside 0 (s .pre .0 .some), s .pre .0 .first, first s, c .before .before .before .loop .inv .2, c .before .before .loop-test .taken))
+    let l = c .before .before .before .loop in
+    omega (arith, first s, l .inv .2, c .before .before .loop-test .taken))
     (λ c κs. search needs)
     (λ c. let s = c .before .before .before .before .before .before .before .before in
-    omega (arith, s .pre .0 .inside 0 (s .pre .0 .some), s .pre .0 .first, first s, c .before .before .before .before .loop .inv .2, c .before .before .before .loop-test .taken))
+    let l = c .before .before .before .before .loop in
+    omega (arith, s .pre .0 .inside 0 (s .pre .0 .some), s .pre .0 .first, l .inv .2, c .before .before .before .loop-test .taken))
     (λ c. let s = c .before .before .before .before .before .before .before .before in
-    omega (arith, s .pre .0 .inside 0 (s .pre .0 .some), s .pre .0 .first, first s, c .before .before .before .before .loop .inv .2, c .before .before .before .loop-test .taken))
+    let l = c .before .before .before .before .loop in
+    omega (arith, s .pre .0 .inside 0 (s .pre .0 .some), s .pre .0 .first, l .inv .2, c .before .before .before .loop-test .taken))
     (λ c. let s = c .before .before .before .before .before .before .before .before in
-    omega (arith, s .pre .0 .inside 0 (s .pre .0 .some), s .pre .0 .first, first s, c .before .before .before .before .loop .inv .2, c .before .before .before .loop-test .taken))
-    (λ c. let s = c .before .before .before .before .before .before .before .before in
-    omega (arith, s .pre .0 .inside 0 (s .pre .0 .some), s .pre .0 .first, first s, c .before .before .before .before .loop .inv .2, c .before .before .before .loop-test .taken))
-    (λ c. let s = c .before .before .before .before .before .before .before .before in
-    omega (arith, s .pre .0 .inside 0 (s .pre .0 .some), s .pre .0 .first, first s, c .before .before .before .before .loop .inv .2, c .before .before .before .loop-test .taken))
+    let l = c .before .before .before .before .loop in
+    omega (arith, s .pre .0 .inside 0 (s .pre .0 .some), s .pre .0 .first, l .inv .2, c .before .before .before .loop-test .taken))
+    (λ c. omega (arith, c .before .before .before .loop-test .taken))
+    (λ c. omega (arith, c .before .before .before .loop-test .taken))
     (λ c. let l = c .before .before .before .before .loop in
     let s = c .before .before .before .before .before .before .before .before in
     let t = l .t in
@@ -73,7 +76,8 @@ add-one-spec =
     let word : ℕ → ℕ = addedWord w shifts at q 1 in
     let own : getD (l .words) (at + t) 0 ≡ getD w (at + t) 0 = ap (λ x. getD x (at + t) 0) (l .inv .1) ∙ own-word w (s .pre .0) (s .pre .1) t word in
     let old : (j : ℕ) → j < 1 → getD (l .words) (at + getD shifts (q + j) 0 + t) 0 ≡ getD w (at + getD shifts (q + j) 0 + t) 0 = λ j h.
-    ap (λ x. getD x (at + getD shifts (q + j) 0 + t) 0) (l .inv .1) ∙ next-word w (s .pre .0) (s .pre .1) t word j h (omega (arith, c .before .before .before .loop-test .taken)) in
+    ap (λ x. getD x (at + getD shifts (q + j) 0 + t) 0) (l .inv .1)
+    ∙ next-word w (s .pre .0) (s .pre .1) t word j h (omega (arith, c .before .before .before .loop-test .taken)) in
     let first-old : getD (l .words) (at + getD shifts q 0 + t) 0 ≡ getD w (at + getD shifts (q + 0) 0 + t) 0 =
     ap (λ n. getD (l .words) (at + getD shifts n 0 + t) 0) (sym (add-zero q)) ∙ old 0 (omega arith) in
     let e : c .wrapping-add-u32 .result ≡ word t =
@@ -83,7 +87,8 @@ add-one-spec =
       first-old,
     ) (wrapped-adds (getD w (at + t) 0) (getD w (at + getD shifts (q + 0) 0 + t) 0) ([])) in (
       omega (arith, c .before .before .before .loop-test .taken),
-      rw (l .inv .1, e) (write-step 0 w at t word (omega (arith, s .pre .0 .inside 0 (s .pre .0 .some), s .pre .0 .first, c .before .before .before .loop-test .taken))),
+      rw (l .inv .1, e)
+          (write-step 0 w at t word (omega (arith, s .pre .0 .inside 0 (s .pre .0 .some), s .pre .0 .first, c .before .before .before .loop-test .taken))),
       rw length-set (l .inv .2),
     ))
     (λ c. c .before .loop .inv .2)

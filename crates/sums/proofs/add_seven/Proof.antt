@@ -33,126 +33,151 @@ add-seven-spec =
     Inv-loop
     μ-loop
     (λ c. let s = c .before .before in
-    omega (arith, s .pre .1 .inside, first s, inside s 1 (omega arith), inside s 2 (omega arith), inside s 3 (omega arith), inside s 4 (omega arith), inside s 5 (omega arith), inside s 6 (omega arith)))
+    omega (arith, s .pre .1 .inside, first s))
     (λ c. let s = c .before .before .before in
-    omega (arith, s .pre .1 .inside, first s, inside s 1 (omega arith), inside s 2 (omega arith), inside s 3 (omega arith), inside s 4 (omega arith), inside s 5 (omega arith), inside s 6 (omega arith)))
+    omega (arith, s .pre .1 .inside, first s))
     (λ c. let s = c .before .before .before in
-    omega (arith, s .pre .1 .inside, first s, inside s 1 (omega arith), inside s 2 (omega arith), inside s 3 (omega arith), inside s 4 (omega arith), inside s 5 (omega arith), inside s 6 (omega arith)))
+    omega (arith, s .pre .1 .inside, first s))
     (λ c. let s = c .before .before .before in
-    omega (arith, s .pre .1 .inside, first s, inside s 1 (omega arith), inside s 2 (omega arith), inside s 3 (omega arith), inside s 4 (omega arith), inside s 5 (omega arith), inside s 6 (omega arith)))
+    omega (arith, s .pre .1 .inside, inside s 1 (omega arith)))
     (λ c. let s = c .before .before .before in
-    omega (arith, s .pre .1 .inside, first s, inside s 1 (omega arith), inside s 2 (omega arith), inside s 3 (omega arith), inside s 4 (omega arith), inside s 5 (omega arith), inside s 6 (omega arith)))
+    omega (arith, s .pre .1 .inside, inside s 1 (omega arith)))
     (λ c. let s = c .before .before .before .before in
-    omega (arith, s .pre .1 .inside, first s, inside s 1 (omega arith), inside s 2 (omega arith), inside s 3 (omega arith), inside s 4 (omega arith), inside s 5 (omega arith), inside s 6 (omega arith)))
+    omega (arith, s .pre .1 .inside, inside s 1 (omega arith)))
     (λ c. let s = c .before .before .before .before in
-    omega (arith, s .pre .1 .inside, first s, inside s 1 (omega arith), inside s 2 (omega arith), inside s 3 (omega arith), inside s 4 (omega arith), inside s 5 (omega arith), inside s 6 (omega arith)))
+    omega (arith, s .pre .1 .inside, inside s 1 (omega arith)))
     (λ c. let s = c .before .before .before .before in
-    omega (arith, s .pre .1 .inside, first s, inside s 1 (omega arith), inside s 2 (omega arith), inside s 3 (omega arith), inside s 4 (omega arith), inside s 5 (omega arith), inside s 6 (omega arith)))
+    omega (arith, s .pre .1 .inside, inside s 2 (omega arith)))
     (λ c. let s = c .before .before .before .before in
-    omega (arith, s .pre .1 .inside, first s, inside s 1 (omega arith), inside s 2 (omega arith), inside s 3 (omega arith), inside s 4 (omega arith), inside s 5 (omega arith), inside s 6 (omega arith)))
+    omega (arith, s .pre .1 .inside, inside s 2 (omega arith)))
     (λ c. let s = c .before .before .before .before .before in
-    omega (arith, s .pre .1 .inside, first s, inside s 1 (omega arith), inside s 2 (omega arith), inside s 3 (omega arith), inside s 4 (omega arith), inside s 5 (omega arith), inside s 6 (omega arith)))
+    omega (arith, s .pre .1 .inside, inside s 2 (omega arith)))
     (λ c. let s = c .before .before .before .before .before in
-    omega (arith, s .pre .1 .inside, first s, inside s 1 (omega arith), inside s 2 (omega arith), inside s 3 (omega arith), inside s 4 (omega arith), inside s 5 (omega arith), inside s 6 (omega arith)))
+    omega (arith, s .pre .1 .inside, inside s 2 (omega arith)))
     (λ c. let s = c .before .before .before .before .before in
-    omega (arith, s .pre .1 .inside, first s, inside s 1 (omega arith), inside s 2 (omega arith), inside s 3 (omega arith), inside s 4 (omega arith), inside s 5 (omega arith), inside s 6 (omega arith)))
+    omega (arith, s .pre .1 .inside, inside s 3 (omega arith)))
     (λ c. let s = c .before .before .before .before .before in
-    omega (arith, s .pre .1 .inside, first s, inside s 1 (omega arith), inside s 2 (omega arith), inside s 3 (omega arith), inside s 4 (omega arith), inside s 5 (omega arith), inside s 6 (omega arith)))
+    omega (arith, s .pre .1 .inside, inside s 3 (omega arith)))
     (λ c. let s = c .before .before .before .before .before .before in
-    omega (arith, s .pre .1 .inside, first s, inside s 1 (omega arith), inside s 2 (omega arith), inside s 3 (omega arith), inside s 4 (omega arith), inside s 5 (omega arith), inside s 6 (omega arith)))
+    omega (arith, s .pre .1 .inside, inside s 3 (omega arith)))
     (λ c. let s = c .before .before .before .before .before .before in
-    omega (arith, s .pre .1 .inside, first s, inside s 1 (omega arith), inside s 2 (omega arith), inside s 3 (omega arith), inside s 4 (omega arith), inside s 5 (omega arith), inside s 6 (omega arith)))
+    omega (arith, s .pre .1 .inside, inside s 3 (omega arith)))
     (λ c. let s = c .before .before .before .before .before .before in
-    omega (arith, s .pre .1 .inside, first s, inside s 1 (omega arith), inside s 2 (omega arith), inside s 3 (omega arith), inside s 4 (omega arith), inside s 5 (omega arith), inside s 6 (omega arith)))
+    omega (arith, s .pre .1 .inside, inside s 4 (omega arith)))
     (λ c. let s = c .before .before .before .before .before .before in
-    omega (arith, s .pre .1 .inside, first s, inside s 1 (omega arith), inside s 2 (omega arith), inside s 3 (omega arith), inside s 4 (omega arith), inside s 5 (omega arith), inside s 6 (omega arith)))
+    omega (arith, s .pre .1 .inside, inside s 4 (omega arith)))
     (λ c. let s = c .before .before .before .before .before .before .before in
-    omega (arith, s .pre .1 .inside, first s, inside s 1 (omega arith), inside s 2 (omega arith), inside s 3 (omega arith), inside s 4 (omega arith), inside s 5 (omega arith), inside s 6 (omega arith)))
+    omega (arith, s .pre .1 .inside, inside s 4 (omega arith)))
     (λ c. let s = c .before .before .before .before .before .before .before in
-    omega (arith, s .pre .1 .inside, first s, inside s 1 (omega arith), inside s 2 (omega arith), inside s 3 (omega arith), inside s 4 (omega arith), inside s 5 (omega arith), inside s 6 (omega arith)))
+    omega (arith, s .pre .1 .inside, inside s 4 (omega arith)))
     (λ c. let s = c .before .before .before .before .before .before .before in
-    omega (arith, s .pre .1 .inside, first s, inside s 1 (omega arith), inside s 2 (omega arith), inside s 3 (omega arith), inside s 4 (omega arith), inside s 5 (omega arith), inside s 6 (omega arith)))
+    omega (arith, s .pre .1 .inside, inside s 5 (omega arith)))
     (λ c. let s = c .before .before .before .before .before .before .before in
-    omega (arith, s .pre .1 .inside, first s, inside s 1 (omega arith), inside s 2 (omega arith), inside s 3 (omega arith), inside s 4 (omega arith), inside s 5 (omega arith), inside s 6 (omega arith)))
+    omega (arith, s .pre .1 .inside, inside s 5 (omega arith)))
     (λ c. let s = c .before .before .before .before .before .before .before .before in
-    omega (arith, s .pre .1 .inside, first s, inside s 1 (omega arith), inside s 2 (omega arith), inside s 3 (omega arith), inside s 4 (omega arith), inside s 5 (omega arith), inside s 6 (omega arith)))
+    omega (arith, s .pre .1 .inside, inside s 5 (omega arith)))
     (λ c. let s = c .before .before .before .before .before .before .before .before in
-    omega (arith, s .pre .1 .inside, first s, inside s 1 (omega arith), inside s 2 (omega arith), inside s 3 (omega arith), inside s 4 (omega arith), inside s 5 (omega arith), inside s 6 (omega arith)))
+    omega (arith, s .pre .1 .inside, inside s 5 (omega arith)))
     (λ c. let s = c .before .before .before .before .before .before .before .before in
-    omega (arith, s .pre .1 .inside, first s, inside s 1 (omega arith), inside s 2 (omega arith), inside s 3 (omega arith), inside s 4 (omega arith), inside s 5 (omega arith), inside s 6 (omega arith)))
+    omega (arith, s .pre .1 .inside, inside s 6 (omega arith)))
     (λ c. let s = c .before .before .before .before .before .before .before .before in
-    omega (arith, s .pre .1 .inside, first s, inside s 1 (omega arith), inside s 2 (omega arith), inside s 3 (omega arith), inside s 4 (omega arith), inside s 5 (omega arith), inside s 6 (omega arith)))
+    omega (arith, s .pre .1 .inside, inside s 6 (omega arith)))
     (λ c. let s = c .before .before .before .before .before .before .before .before .before in
-    omega (arith, s .pre .1 .inside, first s, inside s 1 (omega arith), inside s 2 (omega arith), inside s 3 (omega arith), inside s 4 (omega arith), inside s 5 (omega arith), inside s 6 (omega arith)))
+    omega (arith, s .pre .1 .inside, inside s 6 (omega arith)))
     (λ c. let s = c .before .before .before .before .before .before .before .before .before in
-    omega (arith, s .pre .1 .inside, first s, inside s 1 (omega arith), inside s 2 (omega arith), inside s 3 (omega arith), inside s 4 (omega arith), inside s 5 (omega arith), inside s 6 (omega arith)))
+    omega (arith, s .pre .1 .inside, inside s 6 (omega arith)))
     (λ c. let s = c .before .before .before .before .before .before .before .before .before in
     (omega arith, write-start 0 (now (s .args .words)) (s .args .at) (addedWord (now (s .args .words)) (now (s .args .shifts)) (s .args .at) (s .args .q) 7), refl))
     (λ c. let s = c .before .before .before .before .before .before .before .before .before .before .before in
-    omega (arith, s .pre .0 .inside 0 (s .pre .0 .some), s .pre .0 .first, first s, inside s 1 (omega arith), inside s 2 (omega arith), inside s 3 (omega arith), inside s 4 (omega arith), inside s 5 (omega arith), inside s 6 (omega arith), c .before .loop .inv .2, c .loop-test .taken))
+    let l = c .before .loop in
+    omega (arith, s .pre .0 .inside 0 (s .pre .0 .some), s .pre .0 .first, l .inv .2, c .loop-test .taken))
     (λ c. let s = c .before .before .before .before .before .before .before .before .before .before .before in
-    omega (arith, s .pre .0 .inside 0 (s .pre .0 .some), s .pre .0 .first, first s, inside s 1 (omega arith), inside s 2 (omega arith), inside s 3 (omega arith), inside s 4 (omega arith), inside s 5 (omega arith), inside s 6 (omega arith), c .before .loop .inv .2, c .loop-test .taken))
+    let l = c .before .loop in
+    omega (arith, s .pre .0 .inside 0 (s .pre .0 .some), s .pre .0 .first, l .inv .2, c .loop-test .taken))
     (λ c. let s = c .before .before .before .before .before .before .before .before .before .before .before .before in
-    omega (arith, s .pre .0 .inside 0 (s .pre .0 .some), s .pre .0 .first, first s, inside s 1 (omega arith), inside s 2 (omega arith), inside s 3 (omega arith), inside s 4 (omega arith), inside s 5 (omega arith), inside s 6 (omega arith), c .before .before .loop .inv .2, c .before .loop-test .taken))
+    let l = c .before .before .loop in
+    omega (arith, s .pre .0 .inside 0 (s .pre .0 .some), s .pre .0 .first, l .inv .2, c .before .loop-test .taken))
     (λ c. let s = c .before .before .before .before .before .before .before .before .before .before .before .before in
-    omega (arith, s .pre .0 .inside 0 (s .pre .0 .some), s .pre .0 .first, first s, inside s 1 (omega arith), inside s 2 (omega arith), inside s 3 (omega arith), inside s 4 (omega arith), inside s 5 (omega arith), inside s 6 (omega arith), c .before .before .loop .inv .2, c .before .loop-test .taken))
+    let l = c .before .before .loop in
+    omega (arith, first s, l .inv .2, c .before .loop-test .taken))
     (λ c. let s = c .before .before .before .before .before .before .before .before .before .before .before .before in
-    omega (arith, s .pre .0 .inside 0 (s .pre .0 .some), s .pre .0 .first, first s, inside s 1 (omega arith), inside s 2 (omega arith), inside s 3 (omega arith), inside s 4 (omega arith), inside s 5 (omega arith), inside s 6 (omega arith), c .before .before .loop .inv .2, c .before .loop-test .taken))
+    let l = c .before .before .loop in
+    omega (arith, first s, l .inv .2, c .before .loop-test .taken))
     (λ c. let s = c .before .before .before .before .before .before .before .before .before .before .before .before .before in
-    omega (arith, s .pre .0 .inside 0 (s .pre .0 .some), s .pre .0 .first, first s, inside s 1 (omega arith), inside s 2 (omega arith), inside s 3 (omega arith), inside s 4 (omega arith), inside s 5 (omega arith), inside s 6 (omega arith), c .before .before .before .loop .inv .2, c .before .before .loop-test .taken))
+    let l = c .before .before .before .loop in
+    omega (arith, first s, l .inv .2, c .before .before .loop-test .taken))
     (λ c κs. search needs)
     (λ c. let s = c .before .before .before .before .before .before .before .before .before .before .before .before .before .before in
-    omega (arith, s .pre .0 .inside 0 (s .pre .0 .some), s .pre .0 .first, first s, inside s 1 (omega arith), inside s 2 (omega arith), inside s 3 (omega arith), inside s 4 (omega arith), inside s 5 (omega arith), inside s 6 (omega arith), c .before .before .before .before .loop .inv .2, c .before .before .before .loop-test .taken))
+    let l = c .before .before .before .before .loop in
+    omega (arith, inside s 1 (omega arith), l .inv .2, c .before .before .before .loop-test .taken))
     (λ c. let s = c .before .before .before .before .before .before .before .before .before .before .before .before .before .before in
-    omega (arith, s .pre .0 .inside 0 (s .pre .0 .some), s .pre .0 .first, first s, inside s 1 (omega arith), inside s 2 (omega arith), inside s 3 (omega arith), inside s 4 (omega arith), inside s 5 (omega arith), inside s 6 (omega arith), c .before .before .before .before .loop .inv .2, c .before .before .before .loop-test .taken))
+    let l = c .before .before .before .before .loop in
+    omega (arith, inside s 1 (omega arith), l .inv .2, c .before .before .before .loop-test .taken))
     (λ c. let s = c .before .before .before .before .before .before .before .before .before .before .before .before .before .before .before in
-    omega (arith, s .pre .0 .inside 0 (s .pre .0 .some), s .pre .0 .first, first s, inside s 1 (omega arith), inside s 2 (omega arith), inside s 3 (omega arith), inside s 4 (omega arith), inside s 5 (omega arith), inside s 6 (omega arith), c .before .before .before .before .before .loop .inv .2, c .before .before .before .before .loop-test .taken))
+    let l = c .before .before .before .before .before .loop in
+    omega (arith, inside s 1 (omega arith), l .inv .2, c .before .before .before .before .loop-test .taken))
     (λ c κs. search needs)
     (λ c. let s = c .before .before .before .before .before .before .before .before .before .before .before .before .before .before .before .before in
-    omega (arith, s .pre .0 .inside 0 (s .pre .0 .some), s .pre .0 .first, first s, inside s 1 (omega arith), inside s 2 (omega arith), inside s 3 (omega arith), inside s 4 (omega arith), inside s 5 (omega arith), inside s 6 (omega arith), c .before .before .before .before .before .before .loop .inv .2, c .before .before .before .before .before .loop-test .taken))
+    let l = c .before .before .before .before .before .before .loop in
+    omega (arith, inside s 2 (omega arith), l .inv .2, c .before .before .before .before .before .loop-test .taken))
     (λ c. let s = c .before .before .before .before .before .before .before .before .before .before .before .before .before .before .before .before in
-    omega (arith, s .pre .0 .inside 0 (s .pre .0 .some), s .pre .0 .first, first s, inside s 1 (omega arith), inside s 2 (omega arith), inside s 3 (omega arith), inside s 4 (omega arith), inside s 5 (omega arith), inside s 6 (omega arith), c .before .before .before .before .before .before .loop .inv .2, c .before .before .before .before .before .loop-test .taken))
+    let l = c .before .before .before .before .before .before .loop in
+    omega (arith, inside s 2 (omega arith), l .inv .2, c .before .before .before .before .before .loop-test .taken))
     (λ c. let s = c .before .before .before .before .before .before .before .before .before .before .before .before .before .before .before .before .before in
-    omega (arith, s .pre .0 .inside 0 (s .pre .0 .some), s .pre .0 .first, first s, inside s 1 (omega arith), inside s 2 (omega arith), inside s 3 (omega arith), inside s 4 (omega arith), inside s 5 (omega arith), inside s 6 (omega arith), c .before .before .before .before .before .before .before .loop .inv .2, c .before .before .before .before .before .before .loop-test .taken))
+    let l = c .before .before .before .before .before .before .before .loop in
+    omega (arith, inside s 2 (omega arith), l .inv .2, c .before .before .before .before .before .before .loop-test .taken))
     (λ c κs. search needs)
     (λ c. let s = c .before .before .before .before .before .before .before .before .before .before .before .before .before .before .before .before .before .before in
-    omega (arith, s .pre .0 .inside 0 (s .pre .0 .some), s .pre .0 .first, first s, inside s 1 (omega arith), inside s 2 (omega arith), inside s 3 (omega arith), inside s 4 (omega arith), inside s 5 (omega arith), inside s 6 (omega arith), c .before .before .before .before .before .before .before .before .loop .inv .2, c .before .before .before .before .before .before .before .loop-test .taken))
+    let l = c .before .before .before .before .before .before .before .before .loop in
+    omega (arith, inside s 3 (omega arith), l .inv .2, c .before .before .before .before .before .before .before .loop-test .taken))
     (λ c. let s = c .before .before .before .before .before .before .before .before .before .before .before .before .before .before .before .before .before .before in
-    omega (arith, s .pre .0 .inside 0 (s .pre .0 .some), s .pre .0 .first, first s, inside s 1 (omega arith), inside s 2 (omega arith), inside s 3 (omega arith), inside s 4 (omega arith), inside s 5 (omega arith), inside s 6 (omega arith), c .before .before .before .before .before .before .before .before .loop .inv .2, c .before .before .before .before .before .before .before .loop-test .taken))
+    let l = c .before .before .before .before .before .before .before .before .loop in
+    omega (arith, inside s 3 (omega arith), l .inv .2, c .before .before .before .before .before .before .before .loop-test .taken))
     (λ c. let s = c .before .before .before .before .before .before .before .before .before .before .before .before .before .before .before .before .before .before .before in
-    omega (arith, s .pre .0 .inside 0 (s .pre .0 .some), s .pre .0 .first, first s, inside s 1 (omega arith), inside s 2 (omega arith), inside s 3 (omega arith), inside s 4 (omega arith), inside s 5 (omega arith), inside s 6 (omega arith), c .before .before .before .before .before .before .before .before .before .loop .inv .2, c .before .before .before .before .before .before .before .before .loop-test .taken))
+    let l = c .before .before .before .before .before .before .before .before .before .loop in
+    omega (arith, inside s 3 (omega arith), l .inv .2, c .before .before .before .before .before .before .before .before .loop-test .taken))
     (λ c κs. search needs)
     (λ c. let s = c .before .before .before .before .before .before .before .before .before .before .before .before .before .before .before .before .before .before .before .before in
-    omega (arith, s .pre .0 .inside 0 (s .pre .0 .some), s .pre .0 .first, first s, inside s 1 (omega arith), inside s 2 (omega arith), inside s 3 (omega arith), inside s 4 (omega arith), inside s 5 (omega arith), inside s 6 (omega arith), c .before .before .before .before .before .before .before .before .before .before .loop .inv .2, c .before .before .before .before .before .before .before .before .before .loop-test .taken))
+    let l = c .before .before .before .before .before .before .before .before .before .before .loop in
+    omega (arith, inside s 4 (omega arith), l .inv .2, c .before .before .before .before .before .before .before .before .before .loop-test .taken))
     (λ c. let s = c .before .before .before .before .before .before .before .before .before .before .before .before .before .before .before .before .before .before .before .before in
-    omega (arith, s .pre .0 .inside 0 (s .pre .0 .some), s .pre .0 .first, first s, inside s 1 (omega arith), inside s 2 (omega arith), inside s 3 (omega arith), inside s 4 (omega arith), inside s 5 (omega arith), inside s 6 (omega arith), c .before .before .before .before .before .before .before .before .before .before .loop .inv .2, c .before .before .before .before .before .before .before .before .before .loop-test .taken))
+    let l = c .before .before .before .before .before .before .before .before .before .before .loop in
+    omega (arith, inside s 4 (omega arith), l .inv .2, c .before .before .before .before .before .before .before .before .before .loop-test .taken))
     (λ c. let s = c .before .before .before .before .before .before .before .before .before .before .before .before .before .before .before .before .before .before .before .before .before in
-    omega (arith, s .pre .0 .inside 0 (s .pre .0 .some), s .pre .0 .first, first s, inside s 1 (omega arith), inside s 2 (omega arith), inside s 3 (omega arith), inside s 4 (omega arith), inside s 5 (omega arith), inside s 6 (omega arith), c .before .before .before .before .before .before .before .before .before .before .before .loop .inv .2, c .before .before .before .before .before .before .before .before .before .before .loop-test .taken))
+    let l = c .before .before .before .before .before .before .before .before .before .before .before .loop in
+    omega (arith, inside s 4 (omega arith), l .inv .2, c .before .before .before .before .before .before .before .before .before .before .loop-test .taken))
     (λ c κs. search needs)
     (λ c. let s = c .before .before .before .before .before .before .before .before .before .before .before .before .before .before .before .before .before .before .before .before .before .before in
-    omega (arith, s .pre .0 .inside 0 (s .pre .0 .some), s .pre .0 .first, first s, inside s 1 (omega arith), inside s 2 (omega arith), inside s 3 (omega arith), inside s 4 (omega arith), inside s 5 (omega arith), inside s 6 (omega arith), c .before .before .before .before .before .before .before .before .before .before .before .before .loop .inv .2, c .before .before .before .before .before .before .before .before .before .before .before .loop-test .taken))
+    let l = c .before .before .before .before .before .before .before .before .before .before .before .before .loop in
+    omega (arith, inside s 5 (omega arith), l .inv .2, c .before .before .before .before .before .before .before .before .before .before .before .loop-test .taken))
     (λ c. let s = c .before .before .before .before .before .before .before .before .before .before .before .before .before .before .before .before .before .before .before .before .before .before in
-    omega (arith, s .pre .0 .inside 0 (s .pre .0 .some), s .pre .0 .first, first s, inside s 1 (omega arith), inside s 2 (omega arith), inside s 3 (omega arith), inside s 4 (omega arith), inside s 5 (omega arith), inside s 6 (omega arith), c .before .before .before .before .before .before .before .before .before .before .before .before .loop .inv .2, c .before .before .before .before .before .before .before .before .before .before .before .loop-test .taken))
+    let l = c .before .before .before .before .before .before .before .before .before .before .before .before .loop in
+    omega (arith, inside s 5 (omega arith), l .inv .2, c .before .before .before .before .before .before .before .before .before .before .before .loop-test .taken))
     (λ c. let s = c .before .before .before .before .before .before .before .before .before .before .before .before .before .before .before .before .before .before .before .before .before .before .before in
-    omega (arith, s .pre .0 .inside 0 (s .pre .0 .some), s .pre .0 .first, first s, inside s 1 (omega arith), inside s 2 (omega arith), inside s 3 (omega arith), inside s 4 (omega arith), inside s 5 (omega arith), inside s 6 (omega arith), c .before .before .before .before .before .before .before .before .before .before .before .before .before .loop .inv .2, c .before .before .before .before .before .before .before .before .before .before .before .before .loop-test .taken))
+    let l = c .before .before .before .before .before .before .before .before .before .before .before .before .before .loop in
+    omega (arith, inside s 5 (omega arith), l .inv .2, c .before .before .before .before .before .before .before .before .before .before .before .before .loop-test .taken))
     (λ c κs. search needs)
     (λ c. let s = c .before .before .before .before .before .before .before .before .before .before .before .before .before .before .before .before .before .before .before .before .before .before .before .before in
-    omega (arith, s .pre .0 .inside 0 (s .pre .0 .some), s .pre .0 .first, first s, inside s 1 (omega arith), inside s 2 (omega arith), inside s 3 (omega arith), inside s 4 (omega arith), inside s 5 (omega arith), inside s 6 (omega arith), c .before .before .before .before .before .before .before .before .before .before .before .before .before .before .loop .inv .2, c .before .before .before .before .before .before .before .before .before .before .before .before .before .loop-test .taken))
+    let l = c .before .before .before .before .before .before .before .before .before .before .before .before .before .before .loop in
+    omega (arith, inside s 6 (omega arith), l .inv .2, c .before .before .before .before .before .before .before .before .before .before .before .before .before .loop-test .taken))
     (λ c. let s = c .before .before .before .before .before .before .before .before .before .before .before .before .before .before .before .before .before .before .before .before .before .before .before .before in
-    omega (arith, s .pre .0 .inside 0 (s .pre .0 .some), s .pre .0 .first, first s, inside s 1 (omega arith), inside s 2 (omega arith), inside s 3 (omega arith), inside s 4 (omega arith), inside s 5 (omega arith), inside s 6 (omega arith), c .before .before .before .before .before .before .before .before .before .before .before .before .before .before .loop .inv .2, c .before .before .before .before .before .before .before .before .before .before .before .before .before .loop-test .taken))
+    let l = c .before .before .before .before .before .before .before .before .before .before .before .before .before .before .loop in
+    omega (arith, inside s 6 (omega arith), l .inv .2, c .before .before .before .before .before .before .before .before .before .before .before .before .before .loop-test .taken))
     (λ c. let s = c .before .before .before .before .before .before .before .before .before .before .before .before .before .before .before .before .before .before .before .before .before .before .before .before .before in
-    omega (arith, s .pre .0 .inside 0 (s .pre .0 .some), s .pre .0 .first, first s, inside s 1 (omega arith), inside s 2 (omega arith), inside s 3 (omega arith), inside s 4 (omega arith), inside s 5 (omega arith), inside s 6 (omega arith), c .before .before .before .before .before .before .before .before .before .before .before .before .before .before .before .loop .inv .2, c .before .before .before .before .before .before .before .before .before .before .before .before .before .before .loop-test .taken))
+    let l = c .before .before .before .before .before .before .before .before .before .before .before .before .before .before .before .loop in
+    omega (arith, inside s 6 (omega arith), l .inv .2, c .before .before .before .before .before .before .before .before .before .before .before .before .before .before .loop-test .taken))
     (λ c κs. search needs)
     (λ c. let s = c .before .before .before .before .before .before .before .before .before .before .before .before .before .before .before .before .before .before .before .before .before .before .before .before .before .before in
-    omega (arith, s .pre .0 .inside 0 (s .pre .0 .some), s .pre .0 .first, first s, inside s 1 (omega arith), inside s 2 (omega arith), inside s 3 (omega arith), inside s 4 (omega arith), inside s 5 (omega arith), inside s 6 (omega arith), c .before .before .before .before .before .before .before .before .before .before .before .before .before .before .before .before .loop .inv .2, c .before .before .before .before .before .before .before .before .before .before .before .before .before .before .before .loop-test .taken))
+    let l = c .before .before .before .before .before .before .before .before .before .before .before .before .before .before .before .before .loop in
+    omega (arith, s .pre .0 .inside 0 (s .pre .0 .some), s .pre .0 .first, l .inv .2, c .before .before .before .before .before .before .before .before .before .before .before .before .before .before .before .loop-test .taken))
     (λ c. let s = c .before .before .before .before .before .before .before .before .before .before .before .before .before .before .before .before .before .before .before .before .before .before .before .before .before .before in
-    omega (arith, s .pre .0 .inside 0 (s .pre .0 .some), s .pre .0 .first, first s, inside s 1 (omega arith), inside s 2 (omega arith), inside s 3 (omega arith), inside s 4 (omega arith), inside s 5 (omega arith), inside s 6 (omega arith), c .before .before .before .before .before .before .before .before .before .before .before .before .before .before .before .before .loop .inv .2, c .before .before .before .before .before .before .before .before .before .before .before .before .before .before .before .loop-test .taken))
+    let l = c .before .before .before .before .before .before .before .before .before .before .before .before .before .before .before .before .loop in
+    omega (arith, s .pre .0 .inside 0 (s .pre .0 .some), s .pre .0 .first, l .inv .2, c .before .before .before .before .before .before .before .before .before .before .before .before .before .before .before .loop-test .taken))
     (λ c. let s = c .before .before .before .before .before .before .before .before .before .before .before .before .before .before .before .before .before .before .before .before .before .before .before .before .before .before in
-    omega (arith, s .pre .0 .inside 0 (s .pre .0 .some), s .pre .0 .first, first s, inside s 1 (omega arith), inside s 2 (omega arith), inside s 3 (omega arith), inside s 4 (omega arith), inside s 5 (omega arith), inside s 6 (omega arith), c .before .before .before .before .before .before .before .before .before .before .before .before .before .before .before .before .loop .inv .2, c .before .before .before .before .before .before .before .before .before .before .before .before .before .before .before .loop-test .taken))
-    (λ c. let s = c .before .before .before .before .before .before .before .before .before .before .before .before .before .before .before .before .before .before .before .before .before .before .before .before .before .before in
-    omega (arith, s .pre .0 .inside 0 (s .pre .0 .some), s .pre .0 .first, first s, inside s 1 (omega arith), inside s 2 (omega arith), inside s 3 (omega arith), inside s 4 (omega arith), inside s 5 (omega arith), inside s 6 (omega arith), c .before .before .before .before .before .before .before .before .before .before .before .before .before .before .before .before .loop .inv .2, c .before .before .before .before .before .before .before .before .before .before .before .before .before .before .before .loop-test .taken))
-    (λ c. let s = c .before .before .before .before .before .before .before .before .before .before .before .before .before .before .before .before .before .before .before .before .before .before .before .before .before .before in
-    omega (arith, s .pre .0 .inside 0 (s .pre .0 .some), s .pre .0 .first, first s, inside s 1 (omega arith), inside s 2 (omega arith), inside s 3 (omega arith), inside s 4 (omega arith), inside s 5 (omega arith), inside s 6 (omega arith), c .before .before .before .before .before .before .before .before .before .before .before .before .before .before .before .before .loop .inv .2, c .before .before .before .before .before .before .before .before .before .before .before .before .before .before .before .loop-test .taken))
+    let l = c .before .before .before .before .before .before .before .before .before .before .before .before .before .before .before .before .loop in
+    omega (arith, s .pre .0 .inside 0 (s .pre .0 .some), s .pre .0 .first, l .inv .2, c .before .before .before .before .before .before .before .before .before .before .before .before .before .before .before .loop-test .taken))
+    (λ c. omega (arith, c .before .before .before .before .before .before .before .before .before .before .before .before .before .before .before .loop-test .taken))
+    (λ c. omega (arith, c .before .before .before .before .before .before .before .before .before .before .before .before .before .before .before .loop-test .taken))
     (λ c. let l = c .before .before .before .before .before .before .before .before .before .before .before .before .before .before .before .before .loop in
     let s = c .before .before .before .before .before .before .before .before .before .before .before .before .before .before .before .before .before .before .before .before .before .before .before .before .before .before in
     let t = l .t in
@@ -163,7 +188,8 @@ add-seven-spec =
     let word : ℕ → ℕ = addedWord w shifts at q 7 in
     let own : getD (l .words) (at + t) 0 ≡ getD w (at + t) 0 = ap (λ x. getD x (at + t) 0) (l .inv .1) ∙ own-word w (s .pre .0) (s .pre .1) t word in
     let old : (j : ℕ) → j < 7 → getD (l .words) (at + getD shifts (q + j) 0 + t) 0 ≡ getD w (at + getD shifts (q + j) 0 + t) 0 = λ j h.
-    ap (λ x. getD x (at + getD shifts (q + j) 0 + t) 0) (l .inv .1) ∙ next-word w (s .pre .0) (s .pre .1) t word j h (omega (arith, c .before .before .before .before .before .before .before .before .before .before .before .before .before .before .before .loop-test .taken)) in
+    ap (λ x. getD x (at + getD shifts (q + j) 0 + t) 0) (l .inv .1)
+    ∙ next-word w (s .pre .0) (s .pre .1) t word j h (omega (arith, c .before .before .before .before .before .before .before .before .before .before .before .before .before .before .before .loop-test .taken)) in
     let first-old : getD (l .words) (at + getD shifts q 0 + t) 0 ≡ getD w (at + getD shifts (q + 0) 0 + t) 0 =
     ap (λ n. getD (l .words) (at + getD shifts n 0 + t) 0) (sym (add-zero q)) ∙ old 0 (omega arith) in
     let e : c .wrapping-add-u327 .result ≡ word t =
@@ -185,7 +211,8 @@ add-seven-spec =
       old 6 (omega arith),
     ) (wrapped-adds (getD w (at + t) 0) (getD w (at + getD shifts (q + 0) 0 + t) 0) (getD w (at + getD shifts (q + 1) 0 + t) 0 ∷ getD w (at + getD shifts (q + 2) 0 + t) 0 ∷ getD w (at + getD shifts (q + 3) 0 + t) 0 ∷ getD w (at + getD shifts (q + 4) 0 + t) 0 ∷ getD w (at + getD shifts (q + 5) 0 + t) 0 ∷ getD w (at + getD shifts (q + 6) 0 + t) 0 ∷ [])) in (
       omega (arith, c .before .before .before .before .before .before .before .before .before .before .before .before .before .before .before .loop-test .taken),
-      rw (l .inv .1, e) (write-step 0 w at t word (omega (arith, s .pre .0 .inside 0 (s .pre .0 .some), s .pre .0 .first, c .before .before .before .before .before .before .before .before .before .before .before .before .before .before .before .loop-test .taken))),
+      rw (l .inv .1, e)
+          (write-step 0 w at t word (omega (arith, s .pre .0 .inside 0 (s .pre .0 .some), s .pre .0 .first, c .before .before .before .before .before .before .before .before .before .before .before .before .before .before .before .loop-test .taken))),
       rw length-set (l .inv .2),
     ))
     (λ c. c .before .loop .inv .2)
