@@ -192,12 +192,12 @@ fn reduce_groups(words: &mut [u32], firsts: &[usize], shifts: &[usize], m: usize
     }
 }
 
-// The places that the digits count, from at on.
+// The places that the digits count, from at on. Where they count one place, whatever digits of size 1 are left, that is it.
 fn list_offsets(to: &mut [usize], digits: &[usize], at: usize)
     requires { ⌜ Counts (now digits) (length (now to)) at mostPlaces ⌝ }
     ensures { λ _. ⌜ now (to .exit) ≡ tab (length (now (to .entry))) (λ t. at + offset (now (digits .entry)) t) ⌝ }
 {
-    if digits.len() == 0 {
+    if to.len() == 1 {
         to[0] = at;
         return;
     }
