@@ -30,7 +30,7 @@ run-is z old words stride at k e ek h =
     ap (λ (k : ℕ). take k (drop at old)) ek ∙ part-tab z old at words h
     ∙ tab-cong words (λ t. getD old (at + t) z) (λ t. getD old (at + t * stride) z) (λ t q. rw (e, mul-one t))
 
-offset-zero : (r : List ℕ) → offset r 0 ≡ 0
+pub offset-zero : (r : List ℕ) → offset r 0 ≡ 0
 offset-zero [] = refl
 offset-zero (s ∷ []) = refl
 offset-zero (s ∷ m ∷ []) = refl

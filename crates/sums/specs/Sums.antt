@@ -25,6 +25,10 @@ written words at m g = (take at words ++ tab m g) ++ drop (at + m) words
 abbrev pub partWord : {W : Type 0} → (List W → W) → W → (old : List W) → (shifts : List ℕ) → (at q o : ℕ) → W
 partWord addAll z old shifts at q o = addAll (tab q (λ p. getD old (at + getD shifts p 0 + o) z))
 
+-- word o of the shard at `at` and of the k members from position q on, added
+abbrev pub addedWord : (words shifts : List ℕ) → (at q k o : ℕ) → ℕ
+addedWord words shifts at q k o = addWords (getD words (at + o) 0 ∷ tab k (λ j. getD words (at + getD shifts (q + j) 0 + o) 0))
+
 -- word o of the sum of the shards that begin at the shifts from `at` on
 unfoldable pub groupWord : {W : Type 0} → (List W → W) → W → (old : List W) → (shifts : List ℕ) → ℕ → ℕ → W
 groupWord addAll z old shifts at o = addAll (tab (length shifts) (λ q. getD old (at + getD shifts q 0 + o) z))
@@ -89,6 +93,11 @@ pub record Group (shifts : List ℕ) (m at words : ℕ) : Type 0 where
   pub first : getD shifts 0 0 ≡ 0
   pub apart : (p q : ℕ) → p < q → q < length shifts → (getD shifts p 0 + m ≤ getD shifts q 0) ⊎ (getD shifts q 0 + m ≤ getD shifts p 0)
   pub inside : (q : ℕ) → q < length shifts → at + getD shifts q 0 + m ≤ words
+
+-- k members of a group from position q on, which is not the first
+pub record Next (q k : ℕ) (shifts : List ℕ) : Type 0 where
+  pub later : 0 < q
+  pub inside : q + k ≤ length shifts
 
 -- so many members of a group, at least its first one
 pub record Some (n : ℕ) (shifts : List ℕ) : Type 0 where

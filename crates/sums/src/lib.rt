@@ -9,7 +9,7 @@ use mesh::product_from;
 use types;
 ghost use mathlib.Core.Path.{_≡_};
 ghost use mathlib.Core.List.{[]};
-ghost use Prim.Native.Nat.{_+_, _*_, _%_, _^_, _≤_, _<_};
+ghost use Prim.Native.Nat.{_+_, _*_, _≤_, _<_};
 ghost use lib.ListN.{length, getD, take};
 ghost use Rattle.rules.specs.Lists.{tab, pick, product};
 ghost use Rattle.rules.specs.Mesh.{span};
@@ -17,8 +17,8 @@ ghost use Rattle.rules.specs.Spread.{addWords};
 ghost use Rattle.types.specs.Types.{axesOf};
 ghost use Rattle.strided.specs.Strided.{offset, mostPlaces, Counts};
 ghost use Rattle.digits.specs.Digits.{cleared, axisDigits, meshDigits};
-ghost use Rattle.sums.specs.Sums.{written, partWord, groupWord, reducedBuffer, summedBuffer, firstWords, shiftWords};
-ghost use Rattle.sums.specs.Sums.{Behind, Group, Some, Shared, Groups, Summed, Shifting, Firsts, Tables, Reducing};
+ghost use Rattle.sums.specs.Sums.{written, addedWord, groupWord, reducedBuffer, summedBuffer, firstWords, shiftWords};
+ghost use Rattle.sums.specs.Sums.{Behind, Group, Next, Some, Shared, Groups, Summed, Shifting, Firsts, Tables, Reducing};
 
 // The numbers of the digits of a group's axes, or of all devices.
 const ROOM: usize = 3 * types::Axis::MOST;
@@ -27,12 +27,13 @@ const ROOM: usize = 3 * types::Axis::MOST;
 // for each member is then read in long runs.
 const BLOCK: usize = 2048;
 
-// Adds the words of the shard at a to those of the shard at `at`, modulo 2^32.
-fn add_one(words: &mut [u32], at: usize, a: usize, m: usize)
-    requires { ⌜ Behind at a m (length (now words)) ⌝ }
-    ensures { λ _. ⌜ now (words .exit) ≡ written (now (words .entry)) at m (λ o. (getD (now (words .entry)) (at + o) 0
-        + getD (now (words .entry)) (a + o) 0) % 2 ^ 32) ⌝ }
+// Adds the words of the member at position q to those of the shard at `at`, modulo 2^32.
+fn add_one(words: &mut [u32], shifts: &[usize], at: usize, q: usize, m: usize)
+    requires { ⌜ Group (now shifts) m at (length (now words)) ⌝ }
+    requires { ⌜ Next q 1 (now shifts) ⌝ }
+    ensures { λ _. ⌜ now (words .exit) ≡ written (now (words .entry)) at m (addedWord (now (words .entry)) (now (shifts .entry)) at q 1) ⌝ }
 {
+    let a = at + shifts[q];
     let mut t: usize = 0;
     while t < m {
         words[at + t] = std::num::wrapping_add_u32(words[at + t], words[a + t]);
@@ -40,14 +41,15 @@ fn add_one(words: &mut [u32], at: usize, a: usize, m: usize)
     }
 }
 
-// Adds the words of three shards, at a, b and c, to those of the shard at `at`, modulo 2^32.
-fn add_three(words: &mut [u32], at: usize, a: usize, b: usize, c: usize, m: usize)
-    requires { ⌜ Behind at a m (length (now words)) ⌝ }
-    requires { ⌜ Behind at b m (length (now words)) ⌝ }
-    requires { ⌜ Behind at c m (length (now words)) ⌝ }
-    ensures { λ _. ⌜ now (words .exit) ≡ written (now (words .entry)) at m (λ o. (getD (now (words .entry)) (at + o) 0
-        + getD (now (words .entry)) (a + o) 0 + getD (now (words .entry)) (b + o) 0 + getD (now (words .entry)) (c + o) 0) % 2 ^ 32) ⌝ }
+// The same of three members, from position q on.
+fn add_three(words: &mut [u32], shifts: &[usize], at: usize, q: usize, m: usize)
+    requires { ⌜ Group (now shifts) m at (length (now words)) ⌝ }
+    requires { ⌜ Next q 3 (now shifts) ⌝ }
+    ensures { λ _. ⌜ now (words .exit) ≡ written (now (words .entry)) at m (addedWord (now (words .entry)) (now (shifts .entry)) at q 3) ⌝ }
 {
+    let a = at + shifts[q];
+    let b = at + shifts[q + 1];
+    let c = at + shifts[q + 2];
     let mut t: usize = 0;
     while t < m {
         let one = std::num::wrapping_add_u32(words[at + t], words[a + t]);
@@ -57,22 +59,49 @@ fn add_three(words: &mut [u32], at: usize, a: usize, b: usize, c: usize, m: usiz
     }
 }
 
-// The sum of the shards of most members of a group, in place of the first one's: three at a time, since that passes over the sum a third as often.
-// Answers how many members that is.
-fn sum_most(words: &mut [u32], shifts: &[usize], at: usize, m: usize) -> usize
+// The same of seven members: with the sum that is as many shards as the nearest cache has places for words that lie a power of two apart.
+fn add_seven(words: &mut [u32], shifts: &[usize], at: usize, q: usize, m: usize)
     requires { ⌜ Group (now shifts) m at (length (now words)) ⌝ }
-    ensures { λ r. ⌜ (0 < r) × (r ≤ length (now (shifts .entry))) ⌝ }
-    ensures { λ r. ⌜ now (words .exit) ≡ written (now (words .entry)) at m (partWord addWords 0 (now (words .entry)) (now (shifts .entry)) at r) ⌝ }
+    requires { ⌜ Next q 7 (now shifts) ⌝ }
+    ensures { λ _. ⌜ now (words .exit) ≡ written (now (words .entry)) at m (addedWord (now (words .entry)) (now (shifts .entry)) at q 7) ⌝ }
 {
-    let mut q: usize = 1;
-    while q + 2 < shifts.len() {
-        let a = at + shifts[q];
-        let b = at + shifts[q + 1];
-        let c = at + shifts[q + 2];
-        add_three(words, at, a, b, c, m);
-        q += 3;
+    let a = at + shifts[q];
+    let b = at + shifts[q + 1];
+    let c = at + shifts[q + 2];
+    let d = at + shifts[q + 3];
+    let e = at + shifts[q + 4];
+    let f = at + shifts[q + 5];
+    let g = at + shifts[q + 6];
+    let mut t: usize = 0;
+    while t < m {
+        let one = std::num::wrapping_add_u32(words[at + t], words[a + t]);
+        let two = std::num::wrapping_add_u32(one, words[b + t]);
+        let three = std::num::wrapping_add_u32(two, words[c + t]);
+        let four = std::num::wrapping_add_u32(three, words[d + t]);
+        let five = std::num::wrapping_add_u32(four, words[e + t]);
+        let six = std::num::wrapping_add_u32(five, words[f + t]);
+        words[at + t] = std::num::wrapping_add_u32(six, words[g + t]);
+        t += 1;
     }
-    q
+}
+
+// Adds as many members at a time as there are functions for, since each time passes over the sum. Answers how many that is.
+fn add_some(words: &mut [u32], shifts: &[usize], at: usize, q: usize, m: usize) -> usize
+    requires { ⌜ Group (now shifts) m at (length (now words)) ⌝ }
+    requires { ⌜ Next q 1 (now shifts) ⌝ }
+    ensures { λ r. ⌜ (0 < r) × (q + r ≤ length (now (shifts .entry))) ⌝ }
+    ensures { λ r. ⌜ now (words .exit) ≡ written (now (words .entry)) at m (addedWord (now (words .entry)) (now (shifts .entry)) at q r) ⌝ }
+{
+    if q + 6 < shifts.len() {
+        add_seven(words, shifts, at, q, m);
+        return 7;
+    }
+    if q + 2 < shifts.len() {
+        add_three(words, shifts, at, q, m);
+        return 3;
+    }
+    add_one(words, shifts, at, q, m);
+    1
 }
 
 // The sum of the shards of one group, in place of its first member's.
@@ -80,10 +109,10 @@ fn sum_group(words: &mut [u32], shifts: &[usize], at: usize, m: usize)
     requires { ⌜ Group (now shifts) m at (length (now words)) ⌝ }
     ensures { λ _. ⌜ now (words .exit) ≡ written (now (words .entry)) at m (groupWord addWords 0 (now (words .entry)) (now (shifts .entry)) at) ⌝ }
 {
-    let mut q = sum_most(words, shifts, at, m);
+    let mut q: usize = 1;
     while q < shifts.len() {
-        add_one(words, at, at + shifts[q], m);
-        q += 1;
+        let more = add_some(words, shifts, at, q, m);
+        q += more;
     }
 }
 
@@ -163,12 +192,12 @@ fn reduce_groups(words: &mut [u32], firsts: &[usize], shifts: &[usize], m: usize
     }
 }
 
-// The places that the digits count, from at on.
+// The places that the digits count, from at on. Where they count one place, whatever digits of size 1 are left, that is it.
 fn list_offsets(to: &mut [usize], digits: &[usize], at: usize)
     requires { ⌜ Counts (now digits) (length (now to)) at mostPlaces ⌝ }
     ensures { λ _. ⌜ now (to .exit) ≡ tab (length (now (to .entry))) (λ t. at + offset (now (digits .entry)) t) ⌝ }
 {
-    if digits.len() == 0 {
+    if to.len() == 1 {
         to[0] = at;
         return;
     }

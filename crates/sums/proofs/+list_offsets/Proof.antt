@@ -8,8 +8,8 @@ use borrow.Fn.Kinds.{In}
 use borrow.Fn.PlainCycle.{Measures, is, falls, and}
 use Rattle.laws.proofs.Fronts.{Filled, fill-start, fill-part, fill-end, part-length, next-part, tail-all}
 use Rattle.strided.specs.Strided.{mostPlaces, offset}
-use Rattle.strided.proofs.Laws.{Turn, one-digit, words-are, turn, turn-places}
-use Rattle.sums.proofs.Listing.{no-digits, one-place}
+use Rattle.strided.proofs.Laws.{Turn, offset-zero, one-digit, words-are, turn, turn-places}
+use Rattle.sums.proofs.Listing.{some-digits, one-place}
 use Rattle.sums.proofs.list_offsets.Reads as reads
 use Rattle.sums.proofs.list_offsets.Kinds as kinds
 use Rattle.sums.proofs.+list_offsets.Lts-list_offsets as lts
@@ -35,8 +35,11 @@ abbrev μ-loop : lts.MeasureT-loop
 abbrev Start : ℕ → Type 0
 Start t = lts.Start (calls t) (asked t) reads.Post Inv-loop μ-loop
 
-long : (t : ℕ) (s : Start t) → ¬ (length (now (s .args .digits)) ≡ 0) → 3 ≤ length (now (s .args .digits))
-long t s h = one-digit (now (s .args .digits)) (omega (arith, h)) (s .pre .1 .nested)
+some : (t : ℕ) (s : Start t) → ¬ (length (now (s .args .to)) ≡ 1) → 0 < length (now (s .args .digits))
+some t s h = some-digits (now (s .args .digits)) (s .pre .1) h
+
+long : (t : ℕ) (s : Start t) → ¬ (length (now (s .args .to)) ≡ 1) → 3 ≤ length (now (s .args .digits))
+long t s h = one-digit (now (s .args .digits)) (some t s h) (s .pre .1 .nested)
 
 turning : (t : ℕ) (c : lts.In-loop (calls t) (asked t) reads.Post Inv-loop μ-loop)
     → (let s = c .before .before .before .before .before .before .before .before in
@@ -44,7 +47,7 @@ turning : (t : ℕ) (c : lts.In-loop (calls t) (asked t) reads.Post Inv-loop μ-
     Turn digits (length (now (s .args .to))) (s .args .at) mostPlaces (c .before .loop .i) (getD digits 0 0) (getD digits 1 0) (getD digits 2 0))
 turning t c =
     let s = c .before .before .before .before .before .before .before .before in
-    turn (now (s .args .digits)) (c .before .loop .i) (omega (arith, c .before .before .before .before .before .if1 .left)) (s .pre .1) (c .loop-test .taken)
+    turn (now (s .args .digits)) (c .before .loop .i) (some t s (c .before .before .before .before .before .if1 .left)) (s .pre .1) (c .loop-test .taken)
 
 -- the digits after the first, as they are lent
 rest-is : (t : ℕ) (s : Start t) → (let digits = now (s .args .digits) in take (length digits - 3) (drop 3 digits) ≡ drop 3 digits)
@@ -57,8 +60,7 @@ pub +list-offsets-spec : {M : Type 1} → statement M
     (λ c. length-set (now (c .before .before .before .args .to)) 0 (c .before .before .before .args .at))
     (λ c. let s = c .before .before .before in
     let digits = now (s .args .digits) in
-    let n = no-digits digits (s .pre .1) (c .if1 .taken) in
-    one-place (now (s .args .to)) (s .args .at) (λ t. s .args .at + offset digits t) (n .0) (rw (n .1 0) (add-zero (s .args .at))))
+    one-place (now (s .args .to)) (s .args .at) (λ t. s .args .at + offset digits t) (c .if1 .taken) (rw (offset-zero digits) (add-zero (s .args .at))))
     (λ c. omega (arith, long t (c .before .before .before .before) (c .before .if1 .left)))
     (λ c. omega (arith, long t (c .before .before .before .before .before) (c .before .before .if1 .left)))
     (λ c. omega (arith, long t (c .before .before .before .before .before .before) (c .before .before .before .if1 .left)))
@@ -114,4 +116,4 @@ pub +list-offsets-spec : {M : Type 1} → statement M
     let s = c .before .before .before .before .before .before .before .before in
     let digits = now (s .args .digits) in
     let e : l .loop .i ≡ getD digits 0 0 = omega (arith, c .loop-test .left) in
-    fill-end (l .loop .inv .1) (rw e (omega (arith, words-are digits (omega (arith, c .before .before .before .before .before .if1 .left)) (s .pre .1)))))
+    fill-end (l .loop .inv .1) (rw e (omega (arith, words-are digits (some t s (c .before .before .before .before .before .if1 .left)) (s .pre .1)))))

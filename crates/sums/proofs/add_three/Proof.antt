@@ -1,24 +1,30 @@
 use borrow.Author.Needs.{needs}
+use native.Mathlib.Nat.{add-zero}
 use native.Mathlib.Omega.{arith}
-use Prim.Native.Nat.{ℕ, _≤_, _+_, _-_, _%_, _^_}
-use mathlib.Core.Path.{_≡_, refl, ap, _∙_}
-use mathlib.Core.List.{List}
+use Prim.Native.Nat.{ℕ, _≤_, _<_, _+_, _-_}
+use mathlib.Core.Path.{_≡_, refl, sym, ap, _∙_}
+use mathlib.Core.List.{[], _∷_}
 use lib.ListN.{length, getD, length-set}
 use denote.Ref.{now}
-use Rattle.sums.specs.Sums.{written}
-use Rattle.sums.proofs.Adding.{wrap-three}
-use Rattle.sums.proofs.Writing.{write-start, write-step, read-behind}
+use Rattle.sums.specs.Sums.{written, addedWord}
+use Rattle.sums.proofs.Adding.{wrapped-adds, next-in, next-word, own-word}
+use Rattle.sums.proofs.Writing.{write-start, write-step}
 use Rattle.sums.proofs.add_three.Statement.{statement}
 use Rattle.sums.proofs.add_three.Tie as tie
 
-abbrev added : List ℕ → (at a b c o : ℕ) → ℕ
-added words at a b c o = (getD words (at + o) 0 + getD words (a + o) 0 + getD words (b + o) 0 + getD words (c + o) 0) % 2 ^ 32
-
 abbrev Inv-loop : tie.InvT-loop
-Inv-loop words₀ at a b c m t₀ words t = (t ≤ m) × (words ≡ written words₀ at t (added words₀ at a b c)) × (length words ≡ length words₀)
+Inv-loop words₀ shifts at q m a b c t₀ words t = (t ≤ m) × (words ≡ written words₀ at t (addedWord words₀ shifts at q 3)) × (length words ≡ length words₀)
 
 abbrev μ-loop : tie.MeasureT-loop
-μ-loop words₀ at a b c m t₀ words t = m - t
+μ-loop words₀ shifts at q m a b c t₀ words t = m - t
+
+-- the shard of a member that is added is within the words
+inside : (s : tie.Start Inv-loop μ-loop) (j : ℕ) → j < 3
+    → s .args .at + getD (now (s .args .shifts)) (s .args .q + j) 0 + s .args .m ≤ length (now (s .args .words))
+inside s j h = next-in (now (s .args .words)) (s .pre .0) (s .pre .1) j h
+
+first : (s : tie.Start Inv-loop μ-loop) → s .args .at + getD (now (s .args .shifts)) (s .args .q) 0 + s .args .m ≤ length (now (s .args .words))
+first s = s .pre .0 .inside (s .args .q) (omega (arith, s .pre .1 .inside))
 
 pub add-three-spec : {M : Type 1} → statement M
 add-three-spec =
@@ -26,53 +32,110 @@ add-three-spec =
     (tie.spec
     Inv-loop
     μ-loop
-    (λ c. let s = c .before .args in
-    (omega arith, write-start 0 (now (s .words)) (s .at) (added (now (s .words)) (s .at) (s .a) (s .b) (s .c)), refl))
-    (λ c. omega arith)
-    (λ c. omega arith)
-    (λ c. omega arith)
-    (λ c. omega arith)
-    (λ c. omega arith)
-    (λ c. omega arith)
+    (λ c. let s = c .before .before in
+    omega (arith, s .pre .1 .inside, first s))
+    (λ c. let s = c .before .before .before in
+    omega (arith, s .pre .1 .inside, first s))
+    (λ c. let s = c .before .before .before in
+    omega (arith, s .pre .1 .inside, first s))
+    (λ c. let s = c .before .before .before in
+    omega (arith, s .pre .1 .inside, inside s 1 (omega arith)))
+    (λ c. let s = c .before .before .before in
+    omega (arith, s .pre .1 .inside, inside s 1 (omega arith)))
+    (λ c. let s = c .before .before .before .before in
+    omega (arith, s .pre .1 .inside, inside s 1 (omega arith)))
+    (λ c. let s = c .before .before .before .before in
+    omega (arith, s .pre .1 .inside, inside s 1 (omega arith)))
+    (λ c. let s = c .before .before .before .before in
+    omega (arith, s .pre .1 .inside, inside s 2 (omega arith)))
+    (λ c. let s = c .before .before .before .before in
+    omega (arith, s .pre .1 .inside, inside s 2 (omega arith)))
+    (λ c. let s = c .before .before .before .before .before in
+    omega (arith, s .pre .1 .inside, inside s 2 (omega arith)))
+    (λ c. let s = c .before .before .before .before .before in
+    omega (arith, s .pre .1 .inside, inside s 2 (omega arith)))
+    (λ c. let s = c .before .before .before .before .before in
+    (omega arith, write-start 0 (now (s .args .words)) (s .args .at) (addedWord (now (s .args .words)) (now (s .args .shifts)) (s .args .at) (s .args .q) 3), refl))
+    (λ c. let s = c .before .before .before .before .before .before .before in
+    let l = c .before .loop in
+    omega (arith, s .pre .0 .inside 0 (s .pre .0 .some), s .pre .0 .first, l .inv .2, c .loop-test .taken))
+    (λ c. let s = c .before .before .before .before .before .before .before in
+    let l = c .before .loop in
+    omega (arith, s .pre .0 .inside 0 (s .pre .0 .some), s .pre .0 .first, l .inv .2, c .loop-test .taken))
+    (λ c. let s = c .before .before .before .before .before .before .before .before in
+    let l = c .before .before .loop in
+    omega (arith, s .pre .0 .inside 0 (s .pre .0 .some), s .pre .0 .first, l .inv .2, c .before .loop-test .taken))
+    (λ c. let s = c .before .before .before .before .before .before .before .before in
+    let l = c .before .before .loop in
+    omega (arith, first s, l .inv .2, c .before .loop-test .taken))
+    (λ c. let s = c .before .before .before .before .before .before .before .before in
+    let l = c .before .before .loop in
+    omega (arith, first s, l .inv .2, c .before .loop-test .taken))
+    (λ c. let s = c .before .before .before .before .before .before .before .before .before in
+    let l = c .before .before .before .loop in
+    omega (arith, first s, l .inv .2, c .before .before .loop-test .taken))
     (λ c κs. search needs)
-    (λ c. omega arith)
-    (λ c. omega arith)
-    (λ c. omega arith)
+    (λ c. let s = c .before .before .before .before .before .before .before .before .before .before in
+    let l = c .before .before .before .before .loop in
+    omega (arith, inside s 1 (omega arith), l .inv .2, c .before .before .before .loop-test .taken))
+    (λ c. let s = c .before .before .before .before .before .before .before .before .before .before in
+    let l = c .before .before .before .before .loop in
+    omega (arith, inside s 1 (omega arith), l .inv .2, c .before .before .before .loop-test .taken))
+    (λ c. let s = c .before .before .before .before .before .before .before .before .before .before .before in
+    let l = c .before .before .before .before .before .loop in
+    omega (arith, inside s 1 (omega arith), l .inv .2, c .before .before .before .before .loop-test .taken))
     (λ c κs. search needs)
-    (λ c. omega arith)
-    (λ c. omega arith)
-    (λ c. omega arith)
+    (λ c. let s = c .before .before .before .before .before .before .before .before .before .before .before .before in
+    let l = c .before .before .before .before .before .before .loop in
+    omega (arith, inside s 2 (omega arith), l .inv .2, c .before .before .before .before .before .loop-test .taken))
+    (λ c. let s = c .before .before .before .before .before .before .before .before .before .before .before .before in
+    let l = c .before .before .before .before .before .before .loop in
+    omega (arith, inside s 2 (omega arith), l .inv .2, c .before .before .before .before .before .loop-test .taken))
+    (λ c. let s = c .before .before .before .before .before .before .before .before .before .before .before .before .before in
+    let l = c .before .before .before .before .before .before .before .loop in
+    omega (arith, inside s 2 (omega arith), l .inv .2, c .before .before .before .before .before .before .loop-test .taken))
     (λ c κs. search needs)
-    (λ c. omega arith)
-    (λ c. omega arith)
-    (λ c. omega arith)
-    (λ c. omega arith)
-    (λ c. omega arith)
-    (λ c. let l = c .before .before .before .before .before .before .before .before in
-    let s = c .before .before .before .before .before .before .before .before .before .before in
-    let t = l .loop .t in
+    (λ c. let s = c .before .before .before .before .before .before .before .before .before .before .before .before .before .before in
+    let l = c .before .before .before .before .before .before .before .before .loop in
+    omega (arith, s .pre .0 .inside 0 (s .pre .0 .some), s .pre .0 .first, l .inv .2, c .before .before .before .before .before .before .before .loop-test .taken))
+    (λ c. let s = c .before .before .before .before .before .before .before .before .before .before .before .before .before .before in
+    let l = c .before .before .before .before .before .before .before .before .loop in
+    omega (arith, s .pre .0 .inside 0 (s .pre .0 .some), s .pre .0 .first, l .inv .2, c .before .before .before .before .before .before .before .loop-test .taken))
+    (λ c. let s = c .before .before .before .before .before .before .before .before .before .before .before .before .before .before in
+    let l = c .before .before .before .before .before .before .before .before .loop in
+    omega (arith, s .pre .0 .inside 0 (s .pre .0 .some), s .pre .0 .first, l .inv .2, c .before .before .before .before .before .before .before .loop-test .taken))
+    (λ c. omega (arith, c .before .before .before .before .before .before .before .loop-test .taken))
+    (λ c. omega (arith, c .before .before .before .before .before .before .before .loop-test .taken))
+    (λ c. let l = c .before .before .before .before .before .before .before .before .loop in
+    let s = c .before .before .before .before .before .before .before .before .before .before .before .before .before .before in
+    let t = l .t in
     let at = s .args .at in
+    let q = s .args .q in
     let w = now (s .args .words) in
-    let word : ℕ → ℕ = added w at (s .args .a) (s .args .b) (s .args .c) in
-    let p = s .pre .0 in
-    let q = s .pre .1 .0 in
-    let r = s .pre .1 .1 in
-    let old : (k : ℕ) → at + t ≤ k → getD (l .loop .words) k 0 ≡ getD w k 0 = λ k h.
-    ap (λ x. getD x k 0) (l .loop .inv .1) ∙ read-behind 0 w at t word k (omega (arith, p .behind, p .inside)) h in
+    let shifts = now (s .args .shifts) in
+    let word : ℕ → ℕ = addedWord w shifts at q 3 in
+    let own : getD (l .words) (at + t) 0 ≡ getD w (at + t) 0 = ap (λ x. getD x (at + t) 0) (l .inv .1) ∙ own-word w (s .pre .0) (s .pre .1) t word in
+    let old : (j : ℕ) → j < 3 → getD (l .words) (at + getD shifts (q + j) 0 + t) 0 ≡ getD w (at + getD shifts (q + j) 0 + t) 0 = λ j h.
+    ap (λ x. getD x (at + getD shifts (q + j) 0 + t) 0) (l .inv .1)
+    ∙ next-word w (s .pre .0) (s .pre .1) t word j h (omega (arith, c .before .before .before .before .before .before .before .loop-test .taken)) in
+    let first-old : getD (l .words) (at + getD shifts q 0 + t) 0 ≡ getD w (at + getD shifts (q + 0) 0 + t) 0 =
+    ap (λ n. getD (l .words) (at + getD shifts n 0 + t) 0) (sym (add-zero q)) ∙ old 0 (omega arith) in
     let e : c .wrapping-add-u323 .result ≡ word t =
-    c .wrapping-add-u323 .ensures ∙ rw (
+    rw (
+      c .wrapping-add-u323 .ensures,
       c .before .before .wrapping-add-u322 .ensures,
       c .before .before .before .before .wrapping-add-u32 .ensures,
-      old (at + t) (omega arith),
-      old (s .args .a + t) (omega (arith, p .behind)),
-      old (s .args .b + t) (omega (arith, q .behind)),
-      old (s .args .c + t) (omega (arith, r .behind)),
-    ) (wrap-three (getD w (at + t) 0) (getD w (s .args .a + t) 0) (getD w (s .args .b + t) 0) (getD w (s .args .c + t) 0)) in (
-      omega arith,
-      rw (l .loop .inv .1, e) (write-step 0 w at t word (omega (arith, p .behind, p .inside))),
-      rw length-set (l .loop .inv .2),
+      own,
+      first-old,
+      old 1 (omega arith),
+      old 2 (omega arith),
+    ) (wrapped-adds (getD w (at + t) 0) (getD w (at + getD shifts (q + 0) 0 + t) 0) (getD w (at + getD shifts (q + 1) 0 + t) 0 ∷ getD w (at + getD shifts (q + 2) 0 + t) 0 ∷ [])) in (
+      omega (arith, c .before .before .before .before .before .before .before .loop-test .taken),
+      rw (l .inv .1, e)
+          (write-step 0 w at t word (omega (arith, s .pre .0 .inside 0 (s .pre .0 .some), s .pre .0 .first, c .before .before .before .before .before .before .before .loop-test .taken))),
+      rw length-set (l .inv .2),
     ))
     (λ c. c .before .loop .inv .2)
-    (λ c. let l = c .before in
-    let e : l .loop .t ≡ c .before .before .before .args .m = omega arith in
-    rw e at (l .loop .inv .1)))
+    (λ c. let l = c .before .loop in
+    let e : l .t ≡ c .before .before .before .before .before .before .before .args .m = omega arith in
+    rw e at (l .inv .1)))
