@@ -37,7 +37,7 @@ offset-zero (s ∷ m ∷ []) = refl
 offset-zero (s ∷ m ∷ z ∷ r) = rw (zero-div m, zero-mod m, zero-mul z, offset-zero r)
 
 -- where the inner is 1, only the first digit counts
-last-offset : (digits : List ℕ) (t : ℕ) → 3 ≤ length digits → getD digits 1 0 ≡ 1 → offset digits t ≡ t * getD digits 2 0
+pub last-offset : (digits : List ℕ) (t : ℕ) → 3 ≤ length digits → getD digits 1 0 ≡ 1 → offset digits t ≡ t * getD digits 2 0
 last-offset [] t h e = absurd (omega arith)
 last-offset (s ∷ []) t h e = absurd (omega arith)
 last-offset (s ∷ m ∷ []) t h e = absurd (omega arith)
@@ -133,21 +133,20 @@ module _ {words at room : ℕ} where
   two-digits (s ∷ m ∷ z ∷ a ∷ b ∷ []) c h = absurd (c .counts .nested .1)
   two-digits (s ∷ m ∷ z ∷ a ∷ b ∷ d ∷ r) c h = omega arith
 
-  -- the last digit alone, and the last two, as the code's leaves have them
-  pub row-in : (digits : List ℕ) → Copy digits words at room → getD digits 1 0 ≡ 1 → Row words (getD digits 2 0) at room
-  row-in digits c e = record {
-    filled = c .counts .filled;
-    inside = λ t l. rw (← last-offset digits t (one-digit digits (c .some) (c .counts .nested)) e) (c .counts .inside t l);
-  }
+  pub three-digits : (digits : List ℕ) → Copy digits words at room → getD digits 1 0 ≢ 1 → getD digits 4 0 ≢ 1 → 9 ≤ length digits
+  three-digits [] c h g = absurd (omega (arith, c .some))
+  three-digits (s ∷ []) c h g = absurd (c .counts .nested)
+  three-digits (s ∷ m ∷ []) c h g = absurd (c .counts .nested)
+  three-digits (s ∷ m ∷ z ∷ []) c h g = absurd (h (c .counts .nested .0))
+  three-digits (s ∷ m ∷ z ∷ a ∷ []) c h g = absurd (c .counts .nested .1)
+  three-digits (s ∷ m ∷ z ∷ a ∷ b ∷ []) c h g = absurd (c .counts .nested .1)
+  three-digits (s ∷ m ∷ z ∷ a ∷ b ∷ d ∷ []) c h g = absurd (g (c .counts .nested .1 .0))
+  three-digits (s ∷ m ∷ z ∷ a ∷ b ∷ d ∷ e ∷ []) c h g = absurd (c .counts .nested .1 .1)
+  three-digits (s ∷ m ∷ z ∷ a ∷ b ∷ d ∷ e ∷ f ∷ []) c h g = absurd (c .counts .nested .1 .1)
+  three-digits (s ∷ m ∷ z ∷ a ∷ b ∷ d ∷ e ∷ f ∷ k ∷ r) c h g = omega arith
 
-  pub row-is : {W : Type 0} (z : W) (old : List W) (digits : List ℕ) → Copy digits words at room → getD digits 1 0 ≡ 1
-      → row z words (getD digits 2 0) at old ≡ copied z digits words at old
-  unfolding row copied
-  row-is z old digits c e =
-      tab-cong words (λ t. getD old (at + t * getD digits 2 0) z) (λ t. getD old (at + offset digits t) z)
-      (λ t l. rw (last-offset digits t (one-digit digits (c .some) (c .counts .nested)) e))
-
-  pub rows-in : (digits : List ℕ) → Copy digits words at room → getD digits 1 0 ≢ 1 → getD digits 4 0 ≡ 1
+  -- two digits, as the code's leaves have them
+  pub rows-in : (digits : List ℕ) → Copy digits words at room → 6 ≤ length digits → getD digits 4 0 ≡ 1
       → Rows words (getD digits 0 0) (getD digits 1 0) (getD digits 2 0) (getD digits 5 0) at room
   rows-in digits c h e =
       let n : ℕ = getD digits 0 0 in
@@ -157,14 +156,14 @@ module _ {words at room : ℕ} where
         whole = words-are digits (c .some) (c .counts);
         inside = λ i t li lt.
             let w : offset digits (i * m + t) ≡ i * getD digits 2 0 + t * getD digits 5 0 =
-            rows-offset digits (i * m + t) (two-digits digits c h) e ∙ rw (digits-div i lt, digits-mod i lt) in
+            rows-offset digits (i * m + t) h e ∙ rw (digits-div i lt, digits-mod i lt) in
             omega (arith, c .counts .inside (i * m + t) (omega (arith, turn digits i (c .some) (c .counts) li .part)));
       }
 
-  pub rows-are : {W : Type 0} (z : W) (old : List W) (digits : List ℕ) → Copy digits words at room → getD digits 1 0 ≢ 1 → getD digits 4 0 ≡ 1
+  pub rows-are : {W : Type 0} (z : W) (old : List W) (digits : List ℕ) → Copy digits words at room → 6 ≤ length digits → getD digits 4 0 ≡ 1
       → rows z words (getD digits 1 0) (getD digits 2 0) (getD digits 5 0) at old ≡ copied z digits words at old
   unfolding rows copied
   rows-are z old digits c h e =
       let m : ℕ = getD digits 1 0 in
       tab-cong words (λ k. getD old (at + k / m * getD digits 2 0 + k % m * getD digits 5 0) z) (λ t. getD old (at + offset digits t) z)
-      (λ t l. rw (rows-offset digits t (two-digits digits c h) e, add-assoc at (t / m * getD digits 2 0) (t % m * getD digits 5 0)))
+      (λ t l. rw (rows-offset digits t h e, add-assoc at (t / m * getD digits 2 0) (t % m * getD digits 5 0)))
