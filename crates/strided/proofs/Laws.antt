@@ -1,18 +1,42 @@
 -- Laws of digits: what one turn of a loop over the first one finds (`turn`, `turn-places`). Then of copies with strides: what one digit and two
 -- digits copy (`row-is`, `rows-are`), and that they find their words where the whole copy does (`row-in`, `rows-in`). Assumes nothing.
 use Prim.Native.Nat.{ℕ, suc, _+_, _*_, _/_, _%_, _≤_, _<_, _-_}
-use mathlib.Core.Path.{_≡_, refl, ap, _∙_}
+use mathlib.Core.Path.{_≡_, refl, sym, ap, _∙_}
 use mathlib.Core.Logic.{_≢_}
-use mathlib.Core.List.{List, [], _∷_}
+use mathlib.Core.List.{List, [], _∷_, _++_}
 use native.Mathlib.Nat.{add-zero, add-assoc, zero-mul, mul-one, one-mul, suc-mul, div-one, mod-one, zero-div, zero-mod, mul-le-mul-right, le-mul-of-pos-right}
 use native.Mathlib.Omega.{arith}
-use lib.ListN.{length, getD, take, drop}
+use lib.ListN.{length, getD, set, take, drop}
+use lib.Seq.{drop-at}
 use lib.Arith.{digits-div, digits-mod}
 use Rattle.rules.specs.Lists.{tab}
-use Rattle.laws.proofs.Lists.{tab-cong}
+use Rattle.laws.proofs.Lists.{length-tab, tab-cong}
 use Rattle.laws.proofs.Positions.{pos-of-lt}
-use Rattle.laws.proofs.Fronts.{part-tab}
+use Rattle.laws.proofs.Fronts.{Filled, part-tab, fill-word}
 use Rattle.strided.specs.Strided.{offset, Nested, Row, Rows, Counts, Copy, row, rows, copied}
+
+-- ---- a slice that is being filled
+
+-- four words more
+
+pub fill-four : {W : Type 0} {f : ℕ → W} {old new : List W} {t : ℕ} {a b c d : W} → Filled f old new t → t + 4 ≤ length old → a ≡ f t → b ≡ f (t + 1)
+    → c ≡ f (t + 2) → d ≡ f (t + 3) → Filled f old (set (set (set (set new t a) (t + 1) b) (t + 2) c) (t + 3) d) (t + 4)
+fill-four {W} {f} {old} {new} {t} g h ea eb ec ed =
+    let two : t + 1 + 1 ≡ t + 2 = omega arith in
+    let three : t + 2 + 1 ≡ t + 3 = omega arith in
+    let four : t + 3 + 1 ≡ t + 4 = omega arith in
+    let g₂ = rw two at (fill-word (fill-word g (omega arith) ea) (omega arith) eb) in
+    let g₃ = rw three at (fill-word g₂ (omega arith) ec) in
+    rw four at (fill-word g₃ (omega arith) ed)
+
+-- a loop can go on from what another one filled
+pub fill-anew : {W : Type 0} {f : ℕ → W} {old new : List W} {t : ℕ} → Filled f old new t → Filled f new new t
+fill-anew {W} {f} {old} {new} {t} g = record {
+  few = omega (arith, g .few, g .size);
+  front = g .front
+      ∙ ap (λ (l : List W). tab t f ++ l) (sym (ap (λ (l : List W). drop t l) (g .front) ∙ drop-at (tab t f) (drop t old) t (length-tab t f)));
+  size = refl;
+}
 
 -- ---- one digit
 

@@ -3,7 +3,8 @@
 ghost use mathlib.Core.Path.{_≡_};
 ghost use mathlib.Core.List.{_∷_, _++_};
 ghost use Prim.Native.Nat.{_+_, _≤_, _<_};
-ghost use lib.ListN.{length, take, drop};
+ghost use lib.ListN.{length, getD, take, drop};
+ghost use Rattle.rules.specs.Lists.{tab};
 ghost use Rattle.strided.specs.Strided.{digitRoom, Row, Rows, Copy, Period, Part, Joining, Putting, Alike, planeDigits, row, rows, repeated, copied};
 
 // The most numbers of a copy's digits, and of one more.
@@ -12,58 +13,33 @@ const ROOM: usize = 3 * 17;
 // As many words as stay near the processor when they are read again and again.
 const NEAR: usize = 4096;
 
-// The words of from, four of them: all are read before the first is written, so that the compiler can move them as one.
-fn copy_four(to: &mut [u32], from: &[u32])
-    requires { ⌜ (length (now to) ≡ 4) × (length (now from) ≡ 4) ⌝ }
-    ensures { λ _. ⌜ now (to .exit) ≡ now (from .entry) ⌝ }
+// The first words of from, in fours: each four is read before it is written, so that the compiler can move it as one. Answers how many words that is.
+fn copy_fours(to: &mut [u32], from: &[u32]) -> usize
+    requires { ⌜ length (now to) ≡ length (now from) ⌝ }
+    ensures { λ r. ⌜ (r ≤ length (now (to .entry))) × (length (now (to .entry)) < r + 4) ⌝ }
+    ensures { λ r. ⌜ now (to .exit) ≡ tab r (λ t. getD (now (from .entry)) t 0) ++ drop r (now (to .entry)) ⌝ }
 {
-    let a = from[0];
-    let b = from[1];
-    let c = from[2];
-    let d = from[3];
-    to[0] = a;
-    to[1] = b;
-    to[2] = c;
-    to[3] = d;
+    let mut t: usize = 0;
+    while 4 <= to.len() - t {
+        let a = from[t];
+        let b = from[t + 1];
+        let c = from[t + 2];
+        let d = from[t + 3];
+        to[t] = a;
+        to[t + 1] = b;
+        to[t + 2] = c;
+        to[t + 3] = d;
+        t += 4;
+    }
+    t
 }
 
-// The words of from, eight of them.
-fn copy_eight(to: &mut [u32], from: &[u32])
-    requires { ⌜ (length (now to) ≡ 8) × (length (now from) ≡ 8) ⌝ }
-    ensures { λ _. ⌜ now (to .exit) ≡ now (from .entry) ⌝ }
-{
-    copy_four(&mut to[0..4], &from[0..4]);
-    copy_four(&mut to[4..8], &from[4..8]);
-}
-
-// The words of from, sixteen of them.
-fn copy_sixteen(to: &mut [u32], from: &[u32])
-    requires { ⌜ (length (now to) ≡ 16) × (length (now from) ≡ 16) ⌝ }
-    ensures { λ _. ⌜ now (to .exit) ≡ now (from .entry) ⌝ }
-{
-    copy_eight(&mut to[0..8], &from[0..8]);
-    copy_eight(&mut to[8..16], &from[8..16]);
-}
-
-// The words of from. A loop over few words costs more than they do.
+// The words of from.
 fn copy_run(to: &mut [u32], from: &[u32])
     requires { ⌜ length (now to) ≡ length (now from) ⌝ }
     ensures { λ _. ⌜ now (to .exit) ≡ now (from .entry) ⌝ }
 {
-    let words = to.len();
-    if words == 4 {
-        copy_four(to, from);
-        return;
-    }
-    if words == 8 {
-        copy_eight(to, from);
-        return;
-    }
-    if words == 16 {
-        copy_sixteen(to, from);
-        return;
-    }
-    let mut t: usize = 0;
+    let mut t = copy_fours(to, from);
     while t < to.len() {
         to[t] = from[t];
         t += 1;
