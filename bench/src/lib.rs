@@ -16,6 +16,7 @@ pub mod reference;
 pub mod short;
 pub mod spoilt;
 pub mod spreads;
+pub mod tuned;
 
 use answers::{Axis, Checked, Device, NotPlaced, Placed, Refusal, Sizes};
 use records::{MeshAndTable, Opened, Records, ShardingRecord, StepRecord};

@@ -15,6 +15,16 @@ use std::hint::black_box;
 use std::process::ExitCode;
 use std::time::Instant;
 
+/// Writes a line of the page.
+macro_rules! say {
+    ($page:expr, $($text:tt)*) => {
+        writeln!($page, $($text)*).expect("a text in memory")
+    };
+}
+
+#[path = "speed/shapes.rs"]
+mod shapes;
+
 const ROUNDS: usize = 12;
 const TRIES: usize = 3;
 const RUNS: [usize; 4] = [1, 16, 256, 4096];
@@ -67,13 +77,6 @@ impl Extent {
     }
 }
 
-/// Writes a line of the page.
-macro_rules! say {
-    ($page:expr, $($text:tt)*) => {
-        writeln!($page, $($text)*).expect("a text in memory")
-    };
-}
-
 fn main() -> ExitCode {
     let given = env::args().nth(1);
     let rounds = given.map_or(Some(ROUNDS), |text| text.parse().ok());
@@ -96,6 +99,7 @@ fn main() -> ExitCode {
         one_step_runs(&mut bench);
         scattered_runs(&mut bench);
         steps_alone(&mut bench);
+        shapes::every_shape(&mut bench);
         whole_runs(&mut bench);
         repeated_runs(&mut bench);
         ordered_runs(&mut bench);
@@ -138,6 +142,8 @@ struct Limits {
     long: Limit,
     middle: Limit,
     single: Limit,
+    tuned_long: Limit,
+    tuned_short: Limit,
     whole: Limit,
     reduction: Limit,
     scatter: Limit,
@@ -195,6 +201,8 @@ impl Limits {
             long: Limit::new("step / copy, runs of 256 words and more", 1.5),
             middle: Limit::new("step / copy, runs of 16 words", 4.0),
             single: Limit::new("step / copy, runs of 1 word", 10.0),
+            tuned_long: Limit::new("step / tuned, runs of 16 words and more", 1.5),
+            tuned_short: Limit::new("step / tuned, shorter runs", 2.0),
             whole: Limit::new("64 steps / copies, runs of 256 and more", 3.0),
             reduction: Limit::new("reduction / addition of shards", 1.5),
             scatter: Limit::new("run of a reduce-scatter / plain Rust", 1.5),
@@ -247,6 +255,8 @@ impl Limits {
             &self.order,
         ];
         let beside_others = [
+            &self.tuned_long,
+            &self.tuned_short,
             &self.reduction,
             &self.scatter,
             &self.scatter_in_two,

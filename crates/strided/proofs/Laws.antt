@@ -1,18 +1,42 @@
 -- Laws of digits: what one turn of a loop over the first one finds (`turn`, `turn-places`). Then of copies with strides: what one digit and two
 -- digits copy (`row-is`, `rows-are`), and that they find their words where the whole copy does (`row-in`, `rows-in`). Assumes nothing.
 use Prim.Native.Nat.{ℕ, suc, _+_, _*_, _/_, _%_, _≤_, _<_, _-_}
-use mathlib.Core.Path.{_≡_, refl, ap, _∙_}
+use mathlib.Core.Path.{_≡_, refl, sym, ap, _∙_}
 use mathlib.Core.Logic.{_≢_}
-use mathlib.Core.List.{List, [], _∷_}
+use mathlib.Core.List.{List, [], _∷_, _++_}
 use native.Mathlib.Nat.{add-zero, add-assoc, zero-mul, mul-one, one-mul, suc-mul, div-one, mod-one, zero-div, zero-mod, mul-le-mul-right, le-mul-of-pos-right}
 use native.Mathlib.Omega.{arith}
-use lib.ListN.{length, getD, take, drop}
+use lib.ListN.{length, getD, set, take, drop}
+use lib.Seq.{drop-at}
 use lib.Arith.{digits-div, digits-mod}
 use Rattle.rules.specs.Lists.{tab}
-use Rattle.laws.proofs.Lists.{tab-cong}
+use Rattle.laws.proofs.Lists.{length-tab, tab-cong}
 use Rattle.laws.proofs.Positions.{pos-of-lt}
-use Rattle.laws.proofs.Fronts.{part-tab}
+use Rattle.laws.proofs.Fronts.{Filled, part-tab, fill-word}
 use Rattle.strided.specs.Strided.{offset, Nested, Row, Rows, Counts, Copy, row, rows, copied}
+
+-- ---- a slice that is being filled
+
+-- four words more
+
+pub fill-four : {W : Type 0} {f : ℕ → W} {old new : List W} {t : ℕ} {a b c d : W} → Filled f old new t → t + 4 ≤ length old → a ≡ f t → b ≡ f (t + 1)
+    → c ≡ f (t + 2) → d ≡ f (t + 3) → Filled f old (set (set (set (set new t a) (t + 1) b) (t + 2) c) (t + 3) d) (t + 4)
+fill-four {W} {f} {old} {new} {t} g h ea eb ec ed =
+    let two : t + 1 + 1 ≡ t + 2 = omega arith in
+    let three : t + 2 + 1 ≡ t + 3 = omega arith in
+    let four : t + 3 + 1 ≡ t + 4 = omega arith in
+    let g₂ = rw two at (fill-word (fill-word g (omega arith) ea) (omega arith) eb) in
+    let g₃ = rw three at (fill-word g₂ (omega arith) ec) in
+    rw four at (fill-word g₃ (omega arith) ed)
+
+-- a loop can go on from what another one filled
+pub fill-anew : {W : Type 0} {f : ℕ → W} {old new : List W} {t : ℕ} → Filled f old new t → Filled f new new t
+fill-anew {W} {f} {old} {new} {t} g = record {
+  few = omega (arith, g .few, g .size);
+  front = g .front
+      ∙ ap (λ (l : List W). tab t f ++ l) (sym (ap (λ (l : List W). drop t l) (g .front) ∙ drop-at (tab t f) (drop t old) t (length-tab t f)));
+  size = refl;
+}
 
 -- ---- one digit
 
@@ -37,7 +61,7 @@ offset-zero (s ∷ m ∷ []) = refl
 offset-zero (s ∷ m ∷ z ∷ r) = rw (zero-div m, zero-mod m, zero-mul z, offset-zero r)
 
 -- where the inner is 1, only the first digit counts
-last-offset : (digits : List ℕ) (t : ℕ) → 3 ≤ length digits → getD digits 1 0 ≡ 1 → offset digits t ≡ t * getD digits 2 0
+pub last-offset : (digits : List ℕ) (t : ℕ) → 3 ≤ length digits → getD digits 1 0 ≡ 1 → offset digits t ≡ t * getD digits 2 0
 last-offset [] t h e = absurd (omega arith)
 last-offset (s ∷ []) t h e = absurd (omega arith)
 last-offset (s ∷ m ∷ []) t h e = absurd (omega arith)
@@ -133,21 +157,20 @@ module _ {words at room : ℕ} where
   two-digits (s ∷ m ∷ z ∷ a ∷ b ∷ []) c h = absurd (c .counts .nested .1)
   two-digits (s ∷ m ∷ z ∷ a ∷ b ∷ d ∷ r) c h = omega arith
 
-  -- the last digit alone, and the last two, as the code's leaves have them
-  pub row-in : (digits : List ℕ) → Copy digits words at room → getD digits 1 0 ≡ 1 → Row words (getD digits 2 0) at room
-  row-in digits c e = record {
-    filled = c .counts .filled;
-    inside = λ t l. rw (← last-offset digits t (one-digit digits (c .some) (c .counts .nested)) e) (c .counts .inside t l);
-  }
+  pub three-digits : (digits : List ℕ) → Copy digits words at room → getD digits 1 0 ≢ 1 → getD digits 4 0 ≢ 1 → 9 ≤ length digits
+  three-digits [] c h g = absurd (omega (arith, c .some))
+  three-digits (s ∷ []) c h g = absurd (c .counts .nested)
+  three-digits (s ∷ m ∷ []) c h g = absurd (c .counts .nested)
+  three-digits (s ∷ m ∷ z ∷ []) c h g = absurd (h (c .counts .nested .0))
+  three-digits (s ∷ m ∷ z ∷ a ∷ []) c h g = absurd (c .counts .nested .1)
+  three-digits (s ∷ m ∷ z ∷ a ∷ b ∷ []) c h g = absurd (c .counts .nested .1)
+  three-digits (s ∷ m ∷ z ∷ a ∷ b ∷ d ∷ []) c h g = absurd (g (c .counts .nested .1 .0))
+  three-digits (s ∷ m ∷ z ∷ a ∷ b ∷ d ∷ e ∷ []) c h g = absurd (c .counts .nested .1 .1)
+  three-digits (s ∷ m ∷ z ∷ a ∷ b ∷ d ∷ e ∷ f ∷ []) c h g = absurd (c .counts .nested .1 .1)
+  three-digits (s ∷ m ∷ z ∷ a ∷ b ∷ d ∷ e ∷ f ∷ k ∷ r) c h g = omega arith
 
-  pub row-is : {W : Type 0} (z : W) (old : List W) (digits : List ℕ) → Copy digits words at room → getD digits 1 0 ≡ 1
-      → row z words (getD digits 2 0) at old ≡ copied z digits words at old
-  unfolding row copied
-  row-is z old digits c e =
-      tab-cong words (λ t. getD old (at + t * getD digits 2 0) z) (λ t. getD old (at + offset digits t) z)
-      (λ t l. rw (last-offset digits t (one-digit digits (c .some) (c .counts .nested)) e))
-
-  pub rows-in : (digits : List ℕ) → Copy digits words at room → getD digits 1 0 ≢ 1 → getD digits 4 0 ≡ 1
+  -- two digits, as the code's leaves have them
+  pub rows-in : (digits : List ℕ) → Copy digits words at room → 6 ≤ length digits → getD digits 4 0 ≡ 1
       → Rows words (getD digits 0 0) (getD digits 1 0) (getD digits 2 0) (getD digits 5 0) at room
   rows-in digits c h e =
       let n : ℕ = getD digits 0 0 in
@@ -157,14 +180,14 @@ module _ {words at room : ℕ} where
         whole = words-are digits (c .some) (c .counts);
         inside = λ i t li lt.
             let w : offset digits (i * m + t) ≡ i * getD digits 2 0 + t * getD digits 5 0 =
-            rows-offset digits (i * m + t) (two-digits digits c h) e ∙ rw (digits-div i lt, digits-mod i lt) in
+            rows-offset digits (i * m + t) h e ∙ rw (digits-div i lt, digits-mod i lt) in
             omega (arith, c .counts .inside (i * m + t) (omega (arith, turn digits i (c .some) (c .counts) li .part)));
       }
 
-  pub rows-are : {W : Type 0} (z : W) (old : List W) (digits : List ℕ) → Copy digits words at room → getD digits 1 0 ≢ 1 → getD digits 4 0 ≡ 1
+  pub rows-are : {W : Type 0} (z : W) (old : List W) (digits : List ℕ) → Copy digits words at room → 6 ≤ length digits → getD digits 4 0 ≡ 1
       → rows z words (getD digits 1 0) (getD digits 2 0) (getD digits 5 0) at old ≡ copied z digits words at old
   unfolding rows copied
   rows-are z old digits c h e =
       let m : ℕ = getD digits 1 0 in
       tab-cong words (λ k. getD old (at + k / m * getD digits 2 0 + k % m * getD digits 5 0) z) (λ t. getD old (at + offset digits t) z)
-      (λ t l. rw (rows-offset digits t (two-digits digits c h) e, add-assoc at (t / m * getD digits 2 0) (t % m * getD digits 5 0)))
+      (λ t l. rw (rows-offset digits t h e, add-assoc at (t / m * getD digits 2 0) (t % m * getD digits 5 0)))

@@ -29,6 +29,10 @@ Nested (s ∷ []) = ⊥
 Nested (s ∷ m ∷ []) = ⊥
 Nested (s ∷ m ∷ z ∷ r) = (m ≡ counted r) × Nested r
 
+-- three digits: planes of rows, whose words are a stride apart
+abbrev pub planeDigits : (planes inner far count len apart stride : ℕ) → List ℕ
+planeDigits planes inner far count len apart stride = planes ∷ inner ∷ far ∷ count ∷ len ∷ apart ∷ len ∷ 1 ∷ stride ∷ []
+
 -- What the code asks, of one digit: words a stride apart, from `at` on, that are within `room`;
 pub record Row (words stride at room : ℕ) : Type 0 where
   pub filled : 0 < words
@@ -39,6 +43,12 @@ pub record Rows (words count len apart stride at room : ℕ) : Type 0 where
   pub filled : 0 < len
   pub whole : words ≡ count * len
   pub inside : (i t : ℕ) → i < count → t < len → at + i * apart + t * stride < room
+
+-- of words that are repeated: some, and the whole is a number of them;
+pub record Period (words period : ℕ) : Type 0 where
+  pub filled : 0 < period
+  pub within : period ≤ words
+  pub whole : words % period ≡ 0
 
 -- of any number of them;
 pub record Counts (digits : List ℕ) (words at room : ℕ) : Type 0 where
@@ -59,8 +69,17 @@ row z words stride at old = tab words (λ t. getD old (at + t * stride) z)
 unfoldable pub rows : {W : Type 0} → W → ℕ → ℕ → ℕ → ℕ → ℕ → List W → List W
 rows z words len apart stride at old = tab words (λ k. getD old (at + k / len * apart + k % len * stride) z)
 
+unfoldable pub repeated : {W : Type 0} → W → ℕ → ℕ → List W → List W
+repeated z period words old = tab words (λ t. getD old (t % period) z)
+
 unfoldable pub copied : {W : Type 0} → W → List ℕ → ℕ → ℕ → List W → List W
 copied z digits words at old = tab words (λ t. getD old (at + offset digits t) z)
+
+-- some of the words that are left, as many as whole periods have where the others are whole periods
+pub record Part (done last left part : ℕ) : Type 0 where
+  pub some : 0 < part
+  pub within : part ≤ left
+  pub whole : (period : ℕ) → done % period ≡ 0 → last % period ≡ 0 → left % period ≡ 0 → part % period ≡ 0
 
 -- ---- digits that are joined
 

@@ -2,19 +2,44 @@
 // one goes on from the other, so that the innermost loops are long. specs/Strided.antt says what digits are.
 ghost use mathlib.Core.Path.{_≡_};
 ghost use mathlib.Core.List.{_∷_, _++_};
-ghost use Prim.Native.Nat.{_+_, _≤_};
-ghost use lib.ListN.{length, take, drop};
-ghost use Rattle.strided.specs.Strided.{digitRoom, Row, Rows, Copy, Joining, Putting, Alike, row, rows, copied};
+ghost use Prim.Native.Nat.{_+_, _≤_, _<_};
+ghost use lib.ListN.{length, getD, take, drop};
+ghost use Rattle.rules.specs.Lists.{tab};
+ghost use Rattle.strided.specs.Strided.{digitRoom, Row, Rows, Copy, Period, Part, Joining, Putting, Alike, planeDigits, row, rows, repeated, copied};
 
 // The most numbers of a copy's digits, and of one more.
 const ROOM: usize = 3 * 17;
+
+// As many words as stay near the processor when they are read again and again.
+const NEAR: usize = 4096;
+
+// The first words of from, in fours: each four is read before it is written, so that the compiler can move it as one. Answers how many words that is.
+fn copy_fours(to: &mut [u32], from: &[u32]) -> usize
+    requires { ⌜ length (now to) ≡ length (now from) ⌝ }
+    ensures { λ r. ⌜ (r ≤ length (now (to .entry))) × (length (now (to .entry)) < r + 4) ⌝ }
+    ensures { λ r. ⌜ now (to .exit) ≡ tab r (λ t. getD (now (from .entry)) t 0) ++ drop r (now (to .entry)) ⌝ }
+{
+    let mut t: usize = 0;
+    while 4 <= to.len() - t {
+        let a = from[t];
+        let b = from[t + 1];
+        let c = from[t + 2];
+        let d = from[t + 3];
+        to[t] = a;
+        to[t + 1] = b;
+        to[t + 2] = c;
+        to[t + 3] = d;
+        t += 4;
+    }
+    t
+}
 
 // The words of from.
 fn copy_run(to: &mut [u32], from: &[u32])
     requires { ⌜ length (now to) ≡ length (now from) ⌝ }
     ensures { λ _. ⌜ now (to .exit) ≡ now (from .entry) ⌝ }
 {
-    let mut t: usize = 0;
+    let mut t = copy_fours(to, from);
     while t < to.len() {
         to[t] = from[t];
         t += 1;
@@ -104,7 +129,82 @@ fn copy_rows(
     }
 }
 
-// The words that the digits name, from word at on.
+// Planes of rows, the planes far from each other. All that stands inside is called from here alone, so that the compiler has these loops in one.
+fn copy_planes(
+    to: &mut [u32],
+    from: &[u32],
+    planes: usize,
+    inner: usize,
+    far: usize,
+    count: usize,
+    len: usize,
+    apart: usize,
+    stride: usize,
+    at: usize,
+)
+    requires { ⌜ Copy (planeDigits planes inner far count len apart stride) (length (now to)) at (length (now from)) ⌝ }
+    ensures { λ _. ⌜ now (to .exit) ≡ copied 0 (planeDigits planes inner far count len apart stride) (length (now (to .entry))) at (now (from .entry)) ⌝ }
+{
+    let mut i: usize = 0;
+    while i < planes {
+        let first = i * inner;
+        let end = first + inner;
+        copy_rows(
+            &mut to[first..end],
+            from,
+            count,
+            len,
+            apart,
+            stride,
+            at + i * far,
+        );
+        i += 1;
+    }
+}
+
+// The first words again and again, so many as the period is.
+fn repeat_words(to: &mut [u32], period: usize)
+    requires { ⌜ (0 < period) × (period ≤ length (now to)) ⌝ }
+    ensures { λ _. ⌜ now (to .exit) ≡ repeated 0 period (length (now (to .entry))) (now (to .entry)) ⌝ }
+{
+    let mut t = period;
+    while t < to.len() {
+        to[t] = to[t - period];
+        t += 1;
+    }
+}
+
+// How many words the next turn repeats: all that are done, or as many as the last turn where these no longer stay near, and no more than are left.
+fn part_words(done: usize, last: usize, left: usize) -> usize
+    requires { ⌜ (0 < done) × (0 < last) × (0 < left) ⌝ }
+    ensures { λ r. ⌜ Part done last left r ⌝ }
+{
+    if done < NEAR {
+        if done < left {
+            return done;
+        }
+        return left;
+    }
+    if last < left { last } else { left }
+}
+
+// The first words again and again, in turns that read nothing that they write: such a turn is one long copy.
+fn repeat_block(to: &mut [u32], period: usize)
+    requires { ⌜ Period (length (now to)) period ⌝ }
+    ensures { λ _. ⌜ now (to .exit) ≡ repeated 0 period (length (now (to .entry))) (now (to .entry)) ⌝ }
+{
+    let mut done = period;
+    let mut part = period;
+    while done < to.len() {
+        part = part_words(done, part, to.len() - done);
+        let end = done + part;
+        repeat_words(&mut to[0..end], done);
+        done = end;
+    }
+}
+
+// The words that the digits name, from word at on. A digit of stride 0 names the same words again: they are copied once and repeated. The last digits,
+// three or fewer, are planes of rows.
 fn copy_strided(to: &mut [u32], from: &[u32], digits: &[usize], at: usize)
     requires { ⌜ Copy (now digits) (length (now to)) at (length (now from)) ⌝ }
     ensures { λ _. ⌜ now (to .exit) ≡ copied 0 (now (digits .entry)) (length (now (to .entry))) at (now (from .entry)) ⌝ }
@@ -112,13 +212,36 @@ fn copy_strided(to: &mut [u32], from: &[u32], digits: &[usize], at: usize)
     let size = digits[0];
     let inner = digits[1];
     let stride = digits[2];
+    let words = to.len();
     if inner == 1 {
-        copy_row(to, from, stride, at);
+        copy_planes(to, from, 1, words, 0, 1, words, 0, stride, at);
         return;
     }
-    if digits[4] == 1 {
-        let next = digits[5];
-        copy_rows(to, from, size, inner, stride, next, at);
+    if stride == 0 {
+        copy_strided(&mut to[0..inner], from, &digits[3..], at);
+        repeat_block(to, inner);
+        return;
+    }
+    let len = digits[4];
+    let next = digits[5];
+    if len == 1 {
+        copy_planes(to, from, 1, words, 0, size, inner, stride, next, at);
+        return;
+    }
+    if digits[7] == 1 {
+        let rows = digits[3];
+        copy_planes(
+            to,
+            from,
+            size,
+            inner,
+            stride,
+            rows,
+            len,
+            next,
+            digits[8],
+            at,
+        );
         return;
     }
     let mut i: usize = 0;
