@@ -34,6 +34,11 @@
  *           counts along the list, its first axis most significant
  * room      the words that the run of a plan needs: D times the most words of a shard in any state,
  *           inside blocks too, 67,108,864 at most
+ * moved     the words that cross between devices when a plan is run: for each new word of each step, the
+ *           number of other devices whose word it is made from. A block counts in each of its rounds. A
+ *           step moves 1,023 times 67,108,864 at most. With groups of g devices along all axes of the
+ *           step, and shards of m words before it: 0 for all-slice, D*m*(g-1) for all-gather and
+ *           all-reduce, D*m*(g-1)/g for all-to-all and reduce-scatter
  *
  *
  * A PLAN FILE
@@ -233,7 +238,14 @@ typedef struct {
     uint16_t rank;               /* the number of dimensions */
     uint16_t shard[4];           /* the sizes of a shard; 0 past the rank */
     ishkrela_sharding sharding;  /* how the table is spread */
+    uint64_t moved;              /* the words that a run moves between devices */
 } ishkrela_checked;
+
+/* The answer of the run. */
+typedef struct {
+    uint32_t refusal;  /* 0, or the refusal */
+    uint64_t moved;    /* the words that the run moved between devices, the check's number; 0 where it is refused */
+} ishkrela_ran;
 
 /* The answer of the placement, of the state asked for. */
 typedef struct {
@@ -307,8 +319,8 @@ uint32_t ishkrela_groups_ordered(const uint16_t *mesh, size_t mesh_len, const ui
  * without gaps. Afterwards it begins with those of the last state, and the rest of work and all of
  * spare are 0. Any words may be handed over, a spread of a table or not. Both buffers need the
  * `room` of the check, in words. Refusals of the check; then 30, then 31. */
-uint32_t ishkrela_run(const uint8_t *file, size_t file_len, uint32_t *work, size_t work_len,
-                      uint32_t *spare, size_t spare_len);
+ishkrela_ran ishkrela_run(const uint8_t *file, size_t file_len, uint32_t *work, size_t work_len,
+                          uint32_t *spare, size_t spare_len);
 
 /* Writes the file of a plan that is given by the sizes of its mesh and of its table, its starting
  * sharding and its step records; and by the order of its devices, where it has one: an order of no

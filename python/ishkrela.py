@@ -156,7 +156,8 @@ class Sharding:
 class Checked:
     """The check's answer: the words that a run needs, the numbers of devices and steps, and the last state.
 
-    `steps` is the number of the last state: a repeat is one step, whatever is inside it.
+    `steps` is the number of the last state: a repeat is one step, whatever is inside it. `moved` is the
+    words that a run moves between devices: for each new word, the other devices whose word it is made from.
     """
 
     room: int
@@ -164,6 +165,7 @@ class Checked:
     steps: int
     sharding: Sharding
     shard: Tuple[int, ...]
+    moved: int
 
 
 @dataclass(frozen=True)
@@ -183,7 +185,7 @@ def check(file: Bytes) -> Checked:
     answer = _library().ishkrela_check(*_read(file))
     _raise(answer.refusal)
     sharding, shard = _sharding(answer.sharding, answer.rank), _front(answer.shard, answer.rank)
-    return Checked(answer.room, answer.devices, answer.steps, sharding, shard)
+    return Checked(answer.room, answer.devices, answer.steps, sharding, shard, answer.moved)
 
 
 def place(file: Bytes, state: int, device: int) -> Placed:
@@ -235,8 +237,10 @@ def groups(
     return [listed[at:at + size] for at in range(0, devices, size)]
 
 
-def run(file: Bytes, work: Lent, spare: Lent) -> None:
+def run(file: Bytes, work: Lent, spare: Lent) -> int:
     """Runs a plan on the words in `work`, each device's shard after the other, by device number.
+
+    Answers the words moved between devices, the check's `moved`.
 
     `work` and `spare`, 32-bit words such as an array.array("I"), each with at least the check's `room`
     of them, are lent to the call and share no memory. Afterwards the last state stands at the front of
@@ -244,7 +248,9 @@ def run(file: Bytes, work: Lent, spare: Lent) -> None:
     """
     if _overlap(_lent(work, "I")[0], _lent(spare, "I")[0]):
         raise ValueError("work and spare overlap: lend two buffers that share no memory")
-    _raise(_library().ishkrela_run(*_read(file), *_lent(work, "I"), *_lent(spare, "I")))
+    answer = _library().ishkrela_run(*_read(file), *_lent(work, "I"), *_lent(spare, "I"))
+    _raise(answer.refusal)
+    return answer.moved
 
 
 # ---- plans
@@ -464,8 +470,12 @@ class _Checked(ctypes.Structure):
     _fields_ = [
         ("refusal", ctypes.c_uint32), ("room", ctypes.c_uint32), ("devices", ctypes.c_uint16),
         ("steps", ctypes.c_uint16), ("rank", ctypes.c_uint16), ("shard", ctypes.c_uint16 * MOST_DIMS),
-        ("sharding", _Sharding),
+        ("sharding", _Sharding), ("moved", ctypes.c_uint64),
     ]
+
+
+class _Ran(ctypes.Structure):
+    _fields_ = [("refusal", ctypes.c_uint32), ("moved", ctypes.c_uint64)]
 
 
 class _Placed(ctypes.Structure):
@@ -526,7 +536,7 @@ def _typed(library: Any) -> Any:
         "ishkrela_place_all": (_PlacedAll, file + [ctypes.c_uint16] + 2 * slice_of),
         "ishkrela_groups": (ctypes.c_uint32, 3 * slice_of),
         "ishkrela_groups_ordered": (ctypes.c_uint32, 4 * slice_of),
-        "ishkrela_run": (ctypes.c_uint32, file + 2 * slice_of),
+        "ishkrela_run": (_Ran, file + 2 * slice_of),
         "ishkrela_write": (_Written, 3 * slice_of + [_Sharding] + file + slice_of),
         "ishkrela_read": (_Opened, file + 2 * slice_of),
         "ishkrela_plan": (_Planned, 3 * slice_of + 2 * [_Sharding]),

@@ -80,7 +80,7 @@ class Worked(Case):
         self.assertEqual(plan_file([2, 2], [4, 4], Sharding([[0], [1]]), [AllGather([[], [1]])]), W1)
 
     def test_w1_the_answer_of_the_check(self):
-        self.assertEqual(check(W1), ishkrela.Checked(32, 4, 1, Sharding([[0], []]), (2, 4)))
+        self.assertEqual(check(W1), ishkrela.Checked(32, 4, 1, Sharding([[0], []]), (2, 4), 16))
         self.assertEqual([place(W1, state, 0).shard for state in (0, 1)], [(2, 2), (2, 4)])
 
     def test_w2_joins_the_shards_of_a_row(self):
@@ -367,7 +367,7 @@ class Repeats(Case):
     def test_steps_and_states_are_outermost(self):
         three = [AllSlice([[0]]), AllSlice([[1]]), AllGather([[0, 1]])]
         file = self.square(Repeat(5, three), AllSlice([[1]]), Repeat(2, self.PAIR))
-        self.assertEqual(check(file), ishkrela.Checked(16, 4, 3, Sharding([[1]]), (2,)))
+        self.assertEqual(check(file), ishkrela.Checked(16, 4, 3, Sharding([[1]]), (2,), 5 * 12 + 2 * 4))
         self.assertEqual([place(file, state, 3).shard for state in range(4)], [(4,), (4,), (2,), (2,)])
         self.assertEqual([place(file, state, 3).first for state in range(4)], [(0,), (0,), (2,), (2,)])
         self.assertRefused(34, 0, place, file, 4, 0)
@@ -636,7 +636,8 @@ class Boundary(Case):
     def test_layout(self):
         for struct, size, offsets in (
             (ishkrela._Sharding, 42, [0, 6]),
-            (ishkrela._Checked, 64, [0, 4, 8, 10, 12, 14, 22]),
+            (ishkrela._Checked, 72, [0, 4, 8, 10, 12, 14, 22, 64]),
+            (ishkrela._Ran, 16, [0, 8]),
             (ishkrela._Placed, 64, [0, 4, 6, 14, 22]),
             (ishkrela._PlacedAll, 16, [0, 8]),
             (ishkrela._Step, ishkrela.RECORD_BYTES, [0, 1, 2, 3, 8]),
@@ -658,7 +659,7 @@ class Boundary(Case):
         start = Sharding([[5, 0], [1], [4], [2]], [3])
         steps = [AllGather([[0], [], [], []]), AllSlice([[0], [], [], []])]
         file = made([2, 3, 2, 2, 3, 2], [12, 6, 15, 2], start, steps)
-        self.assertEqual(check(file), ishkrela.Checked(8640, 144, 2, start, (3, 2, 5, 1)))
+        self.assertEqual(check(file), ishkrela.Checked(8640, 144, 2, start, (3, 2, 5, 1), 4320))
         self.assertEqual(place(file, 2, 143), ishkrela.Placed(start, (3, 2, 5, 1), (9, 4, 10, 1)))
 
     def test_beside_a_refusal_every_field_is_0(self):
@@ -772,7 +773,7 @@ class Boundary(Case):
 
     def test_the_rest_of_the_buffers_is_0(self):
         work, spare = array.array("I", [*range(1, 5), *(60 * [7])]), array.array("I", 70 * [8])
-        run(w4(AllGather([[0]])), work, spare)
+        self.assertEqual(run(w4(AllGather([[0]])), work, spare), 4)
         self.assertEqual(list(work), 2 * [1, 3, 2, 4] + 56 * [0])
         self.assertEqual(list(spare), 70 * [0])
 

@@ -19,7 +19,12 @@ FIELD(ishkrela_checked, steps, 10, 2);
 FIELD(ishkrela_checked, rank, 12, 2);
 FIELD(ishkrela_checked, shard, 14, 8);
 FIELD(ishkrela_checked, sharding, 22, 42);
-_Static_assert(sizeof(ishkrela_checked) == 64, "ishkrela_checked");
+FIELD(ishkrela_checked, moved, 64, 8);
+_Static_assert(sizeof(ishkrela_checked) == 72, "ishkrela_checked");
+
+FIELD(ishkrela_ran, refusal, 0, 4);
+FIELD(ishkrela_ran, moved, 8, 8);
+_Static_assert(sizeof(ishkrela_ran) == 16, "ishkrela_ran");
 
 FIELD(ishkrela_placed, refusal, 0, 4);
 FIELD(ishkrela_placed, rank, 4, 2);
@@ -112,7 +117,7 @@ static void answers(void)
 {
     ishkrela_checked checked = ishkrela_check(tail, sizeof tail);
     assert(checked.refusal == 0 && checked.room == 8 && checked.devices == 4 && checked.steps == 1);
-    assert(checked.rank == 1 && checked.shard[0] == 2 && checked.shard[1] == 0);
+    assert(checked.rank == 1 && checked.shard[0] == 2 && checked.shard[1] == 0 && checked.moved == 4);
     assert(checked.sharding.counts[0] == 1 && ISHKRELA_AXIS(checked.sharding, 0, 0) == 1);
     assert(checked.sharding.counts[ISHKRELA_UNREDUCED] == 0 && checked.sharding.counts[ISHKRELA_REPLICATED] == 0);
     ishkrela_placed placed = ishkrela_place(tail, sizeof tail, 0, 1);
@@ -134,6 +139,14 @@ static void replicated(void)
     assert(ishkrela_check(unkept, sizeof unkept).refusal == 23 + 256);
 }
 
+/* A run answers this refusal and these words moved. */
+static int ran(const uint8_t *file, size_t len, uint32_t *work, size_t words, uint32_t *spare, size_t more,
+               uint32_t refusal, uint64_t moved)
+{
+    ishkrela_ran answer = ishkrela_run(file, len, work, words, spare, more);
+    return answer.refusal == refusal && answer.moved == moved;
+}
+
 /* Devices 0 and 2 stand in row 0 of the mesh, 4 and 1 in row 1, 3 and 5 in row 2. */
 static void ordered(void)
 {
@@ -144,14 +157,15 @@ static void ordered(void)
     memset(spare, 0x55, sizeof spare);
     ishkrela_checked checked = ishkrela_check(cabled, sizeof cabled);
     assert(checked.refusal == 0 && checked.devices == 6 && checked.room == 36 && checked.shard[0] == 6);
+    assert(checked.moved == 24);
     for (uint16_t device = 0; device < 6; device++) {
         ishkrela_placed placed = ishkrela_place(cabled, sizeof cabled, 0, device);
         assert(placed.refusal == 0 && placed.shard[0] == 2 && placed.first[0] == first[device]);
     }
     assert(ishkrela_place(cabled, sizeof cabled, 0, 6).refusal == 32);
     assert(ishkrela_check(plain, sizeof plain).refusal == 19);
-    assert(ishkrela_run(plain, sizeof plain, work, 36, spare, 36) == 19 && work[0] == 1 && spare[0] == 0x55555555);
-    assert(ishkrela_run(cabled, sizeof cabled, work, 36, spare, 36) == 0 && spare[0] == 0 && spare[35] == 0);
+    assert(ran(plain, sizeof plain, work, 36, spare, 36, 19, 0) && work[0] == 1 && spare[0] == 0x55555555);
+    assert(ran(cabled, sizeof cabled, work, 36, spare, 36, 0, 24) && spare[0] == 0 && spare[35] == 0);
     assert(memcmp(work, left, sizeof left) == 0);
 }
 
@@ -180,7 +194,7 @@ static void repeats(void)
     assert(checked.refusal == 0 && checked.room == 4 && checked.devices == 2 && checked.steps == 1);
     assert(ishkrela_place(block, sizeof block, 1, 1).shard[0] == 2);
     assert(ishkrela_place(block, sizeof block, 2, 1).refusal == 34);
-    assert(ishkrela_run(block, sizeof block, work, 5, spare, 5) == 0);
+    assert(checked.moved == 6 && ran(block, sizeof block, work, 5, spare, 5, 0, 6));
     assert(memcmp(work, left, sizeof work) == 0 && memcmp(spare, zeros, sizeof spare) == 0);
     assert(refused(1, block + 24, 9) == 0 && refused(1, elsewhere, sizeof elsewhere) == 41 + 256);
     assert(refused(1, deep, sizeof deep) == 42 + 256 * 5 && refused(1, often, sizeof often) == 43 + 256);
@@ -291,11 +305,11 @@ static void runs(void)
     uint32_t work[10] = {10, 30, 20, 40, 7, 7, 7, 7, 7, 7}, spare[9] = {8, 8, 8, 8, 8, 8, 8, 8, 8};
     const uint32_t given[10] = {10, 30, 20, 40, 7, 7, 7, 7, 7, 7}, left[10] = {10, 20, 30, 40, 10, 20, 30, 40, 0, 0};
     const uint32_t eights[9] = {8, 8, 8, 8, 8, 8, 8, 8, 8}, zeros[9] = {0};
-    assert(ishkrela_run(tail, sizeof tail, work, 7, spare, 9) == 30);
-    assert(ishkrela_run(tail, sizeof tail, work, 10, spare, 7) == 31);
-    assert(ishkrela_run(front, sizeof front, work, 10, spare, 9) == 24 + 256);
+    assert(ran(tail, sizeof tail, work, 7, spare, 9, 30, 0));
+    assert(ran(tail, sizeof tail, work, 10, spare, 7, 31, 0));
+    assert(ran(front, sizeof front, work, 10, spare, 9, 24 + 256, 0));
     assert(memcmp(work, given, sizeof work) == 0 && memcmp(spare, eights, sizeof spare) == 0);
-    assert(ishkrela_run(tail, sizeof tail, work, 10, spare, 9) == 0);
+    assert(ran(tail, sizeof tail, work, 10, spare, 9, 0, 4));
     assert(memcmp(work, left, sizeof work) == 0 && memcmp(spare, zeros, sizeof spare) == 0);
 }
 
@@ -444,7 +458,7 @@ static void empty(void)
     assert(ishkrela_place_all(NULL, 0, 0, NULL, 0, NULL, 0).refusal == 1);
     assert(ishkrela_place_all(tail, sizeof tail, 0, NULL, 0, NULL, 0).refusal == 0);
     assert(ishkrela_place_all(tail, sizeof tail, 0, mesh, 1, NULL, 0).refusal == 33);
-    assert(ishkrela_run(NULL, 0, NULL, 0, NULL, 0) == 1 && ishkrela_run(tail, sizeof tail, NULL, 0, NULL, 0) == 30);
+    assert(ran(NULL, 0, NULL, 0, NULL, 0, 1, 0) && ran(tail, sizeof tail, NULL, 0, NULL, 0, 30, 0));
     assert(ishkrela_groups(NULL, 0, NULL, 0, NULL, 0) == 5 && ishkrela_groups(mesh, 1, NULL, 0, NULL, 0) == 33);
     assert(ishkrela_groups(mesh, 1, NULL, 0, out, 2) == 0 && out[0] == 0 && out[1] == 1);
     assert(ishkrela_write(NULL, 0, NULL, 0, NULL, 0, both, NULL, 0, NULL, 0).refusal == 5);

@@ -74,6 +74,8 @@ pub struct Checked {
     pub sharding: Sharding,
     /// The shard sizes after the last step.
     pub shard: Sizes,
+    /// The words that a run moves between devices.
+    pub moved: u64,
 }
 
 #[derive(Clone, Copy, Debug, PartialEq, Eq)]

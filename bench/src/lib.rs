@@ -49,7 +49,18 @@ pub trait Implementation {
         out: &mut [Device],
     ) -> Result<(), Refusal>;
 
-    fn run(&self, file: &[u8], work: &mut [u32], spare: &mut [u32]) -> Result<(), Refusal>;
+    /// Answers the words moved between devices.
+    fn run(&self, file: &[u8], work: &mut [u32], spare: &mut [u32]) -> Result<u64, Refusal>;
+
+    /// Judges a file, to be timed: the words moved are not asked for.
+    fn accepts(&self, file: &[u8]) -> bool {
+        self.check(file).is_ok()
+    }
+
+    /// Runs a plan, to be timed: the words moved are not asked for.
+    fn only_run(&self, file: &[u8], work: &mut [u32], spare: &mut [u32]) -> Result<(), Refusal> {
+        self.run(file, work, spare).map(|_| ())
+    }
 
     /// Writes the file of a plan, and answers its length.
     fn write(&self, records: &Records, out: &mut [u8]) -> Result<usize, Refusal>;
@@ -113,8 +124,17 @@ impl Implementation for Reference {
         reference::groups_ordered(mesh, order, axes, out)
     }
 
-    fn run(&self, file: &[u8], work: &mut [u32], spare: &mut [u32]) -> Result<(), Refusal> {
+    fn run(&self, file: &[u8], work: &mut [u32], spare: &mut [u32]) -> Result<u64, Refusal> {
         reference::run(file, work, spare)
+    }
+
+    // The reference counts the words moved one by one, which is not to be compared.
+    fn accepts(&self, file: &[u8]) -> bool {
+        reference::accepts(file)
+    }
+
+    fn only_run(&self, file: &[u8], work: &mut [u32], spare: &mut [u32]) -> Result<(), Refusal> {
+        reference::only_run(file, work, spare)
     }
 
     fn write(&self, records: &Records, out: &mut [u8]) -> Result<usize, Refusal> {
@@ -180,7 +200,7 @@ impl Implementation for Library {
         library::groups_ordered(mesh, order, axes, out)
     }
 
-    fn run(&self, file: &[u8], work: &mut [u32], spare: &mut [u32]) -> Result<(), Refusal> {
+    fn run(&self, file: &[u8], work: &mut [u32], spare: &mut [u32]) -> Result<u64, Refusal> {
         library::run(file, work, spare)
     }
 

@@ -51,10 +51,10 @@ pub fn groups_ordered(
     refused(raw::groups_ordered(mesh, order, axes, out))
 }
 
-/// Runs a plan. Afterwards the last state stands at the front of `work`, and the rest of `work`
-/// and all of `spare` are 0.
-pub fn run(file: &[u8], work: &mut [u32], spare: &mut [u32]) -> Result<(), Refusal> {
-    refused(raw::run(file, work, spare))
+/// Runs a plan, and answers the words moved between devices. Afterwards the last state stands at the
+/// front of `work`, and the rest of `work` and all of `spare` are 0.
+pub fn run(file: &[u8], work: &mut [u32], spare: &mut [u32]) -> Result<u64, Refusal> {
+    raw::run(file, work, spare).into()
 }
 
 /// Judges a plan given as records, and answers the bytes of its file.
@@ -154,6 +154,15 @@ pub struct RawChecked {
     rank: u16,
     shard: [u16; MOST_RANK],
     sharding: RawSharding,
+    moved: u64,
+}
+
+/// The run's answer as it crosses the boundary.
+#[derive(Clone, Copy, Debug, Default, PartialEq, Eq)]
+#[repr(C)]
+pub struct RawRan {
+    refusal: u32,
+    moved: u64,
 }
 
 /// The placement's answer as it crosses the boundary.
@@ -231,7 +240,8 @@ macro_rules! layout {
 }
 
 layout!(RawSharding, 42, counts 0, axes 6);
-layout!(RawChecked, 64, refusal 0, room 4, devices 8, steps 10, rank 12, shard 14, sharding 22);
+layout!(RawChecked, 72, refusal 0, room 4, devices 8, steps 10, rank 12, shard 14, sharding 22, moved 64);
+layout!(RawRan, 16, refusal 0, moved 8);
 layout!(RawPlaced, 64, refusal 0, rank 4, shard 6, first 14, sharding 22);
 layout!(RawPlacedAll, 16, refusal 0, place 8);
 layout!(RawStep, 38, kind 0, source 1, target 2, counts 3, axes 8);
@@ -334,7 +344,15 @@ impl From<RawChecked> for Result<Checked, Refusal> {
             steps: raw.steps,
             sharding: raw.sharding.to_sharding(raw.rank.into()),
             shard: sizes(&raw.shard, raw.rank),
+            moved: raw.moved,
         })
+    }
+}
+
+impl From<RawRan> for Result<u64, Refusal> {
+    fn from(raw: RawRan) -> Self {
+        refused(raw.refusal)?;
+        Ok(raw.moved)
     }
 }
 
@@ -392,11 +410,21 @@ impl From<Result<Checked, Refusal>> for RawChecked {
                 rank: checked.rank() as u16,
                 shard: places(&checked.shard),
                 sharding: checked.sharding.into(),
+                moved: checked.moved,
             },
             Err(refusal) => RawChecked {
                 refusal: code(refusal),
                 ..RawChecked::default()
             },
+        }
+    }
+}
+
+impl From<Result<u64, Refusal>> for RawRan {
+    fn from(answer: Result<u64, Refusal>) -> Self {
+        RawRan {
+            refusal: answer.map_or_else(code, |_| 0),
+            moved: answer.unwrap_or(0),
         }
     }
 }
@@ -479,14 +507,14 @@ impl From<Result<Vec<StepRecord>, Refusal>> for RawPlanned {
 /// The calls with their answers as they cross the boundary.
 pub mod raw {
     use super::{
-        RawChecked, RawOpened, RawPlaced, RawPlacedAll, RawPlanned, RawSharding, RawWritten,
+        RawChecked, RawOpened, RawPlaced, RawPlacedAll, RawPlanned, RawRan, RawSharding, RawWritten,
     };
     use crate::answers::{Axis, Device};
     use crate::records::MeshAndTable;
 
     mod c {
         use super::{
-            RawChecked, RawOpened, RawPlaced, RawPlacedAll, RawPlanned, RawSharding, RawWritten,
+            RawChecked, RawOpened, RawPlaced, RawPlacedAll, RawPlanned, RawRan, RawSharding, RawWritten,
         };
 
         // The names and types are those of include/ishkrela.h.
@@ -537,7 +565,7 @@ pub mod raw {
                 work_len: usize,
                 spare: *mut u32,
                 spare_len: usize,
-            ) -> u32;
+            ) -> RawRan;
 
             pub fn ishkrela_write(
                 mesh: *const u16,
@@ -641,7 +669,7 @@ pub mod raw {
         }
     }
 
-    pub fn run(file: &[u8], work: &mut [u32], spare: &mut [u32]) -> u32 {
+    pub fn run(file: &[u8], work: &mut [u32], spare: &mut [u32]) -> RawRan {
         // Safe: as above; `work` and `spare` are each borrowed alone, so they do not overlap.
         unsafe {
             c::ishkrela_run(

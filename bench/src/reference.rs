@@ -15,6 +15,7 @@ use crate::answers::{
     MOST_WORDS,
 };
 use crate::short::Short;
+use std::collections::BTreeSet;
 use std::mem;
 
 pub mod records;
@@ -64,6 +65,7 @@ pub fn check_within(file: &[u8], limits: Limits) -> Result<Judged, Refusal> {
         steps: plan.steps.len() as u16,
         sharding: last.sharding,
         shard: last.shard,
+        moved: plan.moved(),
     };
     let shards = plan.states.iter().map(|state| state.shard).collect();
     Ok(Judged { checked, shards })
@@ -151,24 +153,22 @@ fn list_groups(
     Ok(())
 }
 
-/// Runs a plan on the words in `work`; `spare` is lent to hold every other state.
-pub fn run(file: &[u8], work: &mut [u32], spare: &mut [u32]) -> Result<(), Refusal> {
+/// Whether a plan file is accepted.
+pub fn accepts(file: &[u8]) -> bool {
+    Plan::judge(file).is_ok()
+}
+
+/// Runs a plan on the words in `work`, and answers the words moved between devices; `spare` is lent to
+/// hold every other state.
+pub fn run(file: &[u8], work: &mut [u32], spare: &mut [u32]) -> Result<u64, Refusal> {
     let plan = Plan::judge(file)?;
-    let room = plan.room();
-    if work.len() < room {
-        return Err(Refusal::whole(30));
-    }
-    if spare.len() < room {
-        return Err(Refusal::whole(31));
-    }
-    let times = plan.apply(&mut work[..room], &mut spare[..room]);
-    let words = plan.mesh.devices * plan.last().words();
-    if times % 2 == 1 {
-        work[..words].copy_from_slice(&spare[..words]);
-    }
-    work[words..].fill(0);
-    spare.fill(0);
-    Ok(())
+    plan.run(work, spare)?;
+    Ok(plan.moved())
+}
+
+/// The same without the count.
+pub fn only_run(file: &[u8], work: &mut [u32], spare: &mut [u32]) -> Result<(), Refusal> {
+    Plan::judge(file)?.run(work, spare)
 }
 
 /// An accepted plan.
@@ -240,6 +240,30 @@ impl Plan {
         self.mesh.devices * self.most
     }
 
+    fn run(&self, work: &mut [u32], spare: &mut [u32]) -> Result<(), Refusal> {
+        let room = self.room();
+        if work.len() < room {
+            return Err(Refusal::whole(30));
+        }
+        if spare.len() < room {
+            return Err(Refusal::whole(31));
+        }
+        let times = self.apply(&mut work[..room], &mut spare[..room]);
+        let words = self.mesh.devices * self.last().words();
+        if times % 2 == 1 {
+            work[..words].copy_from_slice(&spare[..words]);
+        }
+        work[words..].fill(0);
+        spare.fill(0);
+        Ok(())
+    }
+
+    /// The words moved between devices: for each new word of each step run, the other devices whose
+    /// word it is made from.
+    fn moved(&self) -> u64 {
+        self.steps.iter().map(|item| item.moved(&self.mesh)).sum()
+    }
+
     /// Runs all steps, on shards by place. Answers how often the state went from one buffer to the
     /// other: after an even number of times it is in `work`, else in `spare`.
     fn apply(&self, work: &mut [u32], spare: &mut [u32]) -> usize {
@@ -286,6 +310,17 @@ impl Item {
         match self {
             Item::Plain(_) => 1,
             Item::Repeat(count, block) => count * block.iter().map(Item::runs).sum::<usize>(),
+        }
+    }
+
+    /// The words that it moves between devices, a block in each of its rounds.
+    fn moved(&self, mesh: &Mesh) -> u64 {
+        match self {
+            Item::Plain(taken) => taken.step.moved(mesh, &taken.before, &taken.after),
+            Item::Repeat(count, block) => {
+                let once: u64 = block.iter().map(|item| item.moved(mesh)).sum();
+                *count as u64 * once
+            }
         }
     }
 
@@ -959,16 +994,48 @@ impl Step {
 
     /// Gathers and slices.
     fn moves(&self, mesh: &Mesh, before: &State, after: &State, old: &[u32], new: &mut [u32]) {
+        self.movement_between(mesh, before, after).apply(old, new);
+    }
+
+    fn movement_between<'a>(
+        &self,
+        mesh: &'a Mesh,
+        before: &'a State,
+        after: &'a State,
+    ) -> Move<'a> {
         let (gathered, sliced) = self.movement(before.shard.len());
-        let moved = Move {
+        Move {
             mesh,
             before,
             after,
             gathered,
             sliced,
-        };
-        moved.apply(old, new);
+        }
     }
+
+    /// For each new word, the other devices whose word it is made from.
+    fn moved(&self, mesh: &Mesh, before: &State, after: &State) -> u64 {
+        match self {
+            Step::Reduce(axes) => others_in_groups(mesh, axes) * after.words() as u64,
+            Step::Scatter(lists) => {
+                let axes: Vec<Axis> = lists.iter().flatten().copied().collect();
+                others_in_groups(mesh, &axes) * after.words() as u64
+            }
+            _ => self.movement_between(mesh, before, after).moved(),
+        }
+    }
+}
+
+/// For each device, the others of its group.
+fn others_in_groups(mesh: &Mesh, axes: &[Axis]) -> u64 {
+    let mut others = 0;
+    for group in mesh.listing(axes).chunks(mesh.group_size(axes)) {
+        let members: BTreeSet<&usize> = group.iter().collect();
+        for place in group {
+            others += members.len() as u64 - u64::from(members.contains(place));
+        }
+    }
+    others
 }
 
 /// Gives each device the word-by-word sum of its group's shards, which lie by place.
@@ -1009,6 +1076,19 @@ impl Move<'_> {
                 *word = old[source];
             }
         }
+    }
+
+    /// The new words that come from another device, one by one.
+    fn moved(&self) -> u64 {
+        let strides = row_major(&self.before.shard);
+        let sources = self.sources(&strides);
+        let words = self.before.words();
+        let from_others = |place: usize| {
+            let origin = self.origin(place, &strides);
+            let is_own = |source: &&usize| (origin + **source) / words == place;
+            (sources.len() - sources.iter().filter(is_own).count()) as u64
+        };
+        (0..self.mesh.devices).map(from_others).sum()
     }
 
     /// Where the first word of the new shard at a place lies in the old state.

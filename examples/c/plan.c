@@ -68,7 +68,7 @@ int main(void)
     for (uint32_t word = 0; word < 32; word++)
         work[word] = word / 8 % 2 ? 100 : word / 16 * 8 + word % 8; /* devices 1 and 3 hold the other part */
     print_words("before", work, checked.devices, 8);
-    accepted(ishkrela_run(file, written.bytes, work, 64, spare, 64));
+    accepted(ishkrela_run(file, written.bytes, work, 64, spare, 64).refusal);
     print_words("after", work, checked.devices, checked.shard[0] * checked.shard[1]);
     return 0;
 }

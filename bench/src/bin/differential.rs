@@ -500,7 +500,7 @@ fn same_run(
     file: &[u8],
     work: &[u32],
     spare: &[u32],
-) -> Result<Result<(), Refusal>, Difference> {
+) -> Result<Result<u64, Refusal>, Difference> {
     let after = |one: &dyn Implementation| {
         let (mut work, mut spare) = (work.to_vec(), spare.to_vec());
         let answer = one.run(file, &mut work, &mut spare);
@@ -510,6 +510,10 @@ fn same_run(
     let (other, their_work, their_spare) = after(library);
     let lengths = format!("work of {} and spare of {} words", work.len(), spare.len());
     same(&format!("run with {lengths}"), file, &answer, &other)?;
+    same_at_boundary(file, "run", |raw| raw.run(file, work, spare, answer))?;
+    if let (Ok(moved), Ok(checked)) = (other, library.check(file)) {
+        same("words moved by a run, and by the check", file, &checked.moved, &moved)?;
+    }
     same_words(
         &format!("work after a run with {lengths}"),
         file,

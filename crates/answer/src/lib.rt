@@ -19,6 +19,7 @@ use libc::STDOUT_FILENO;
 use opening::open;
 use reader::Next;
 use reasons::number_of;
+use taking::Extent;
 use taking::shard_words;
 use types::Mesh;
 use types::Step;
@@ -63,10 +64,22 @@ fn print_state(k: usize, shard: Table) {
 }
 
 // A line for the state after each outermost step, as it is read again.
-fn print_steps(file: &[u8], at: usize, count: usize, mesh: Mesh, table: Table, start: Sharding)
-    requires { ⌜ Begins (now file) at count mesh table start ⌝ }
+fn print_steps(
+    file: &[u8],
+    at: usize,
+    count: usize,
+    devices: usize,
+    mesh: Mesh,
+    table: Table,
+    start: Sharding,
+)
+    requires { ⌜ Begins (now file) at count devices mesh table start ⌝ }
 {
     let total = words(table);
+    let extent = Extent {
+        devices,
+        words: total,
+    };
     let depth = Step::MOST_DEPTH;
     let mut after = start;
     let mut most = shard_words(total, mesh, table, start);
@@ -74,7 +87,7 @@ fn print_steps(file: &[u8], at: usize, count: usize, mesh: Mesh, table: Table, s
     let mut number: u16 = 1;
     let mut k: usize = 0;
     while k < count {
-        let item = judge_item(file, place, number, depth, mesh, table, total, most, after);
+        let item = judge_item(file, place, number, depth, mesh, table, extent, most, after);
         let next = item.next;
         let Next::At(end) = next else {
             return;
@@ -99,7 +112,7 @@ fn print_states(file: &[u8]) {
     let table = opening.table;
     let start = opening.start;
     print_state(0, shard_of(table, start.dims, mesh));
-    print_steps(file, at, opening.steps, mesh, table, start);
+    print_steps(file, at, opening.steps, opening.devices, mesh, table, start);
 }
 
 fn print_passed(file: &[u8], steps: u16) {

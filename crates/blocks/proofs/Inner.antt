@@ -1,5 +1,5 @@
 -- The loop over a block's inner steps: `Inner` holds at each turn; `inner-start` makes it, `inner-step` keeps it, `inner-stops` and `inner-done` are the
--- ways out. Assumes nothing.
+-- ways out. `InnerMoved` is the same with the words moved between devices. Assumes nothing.
 use Prim.Native.Nat.{ℕ, zero, suc, _+_, _-_, _*_, _≤_, _<_, max}
 use mathlib.Core.Path.{_≡_, refl, sym, ap, ap₂, _∙_, subst}
 use mathlib.Core.List.{List, [], _++_, append-assoc, append-nil}
@@ -16,10 +16,10 @@ use Rattle.laws.specs.Demands.{onePass, largestOn}
 use Rattle.laws.proofs.Lists.{in-turn-append}
 use Rattle.laws.proofs.Accepted.{Within}
 use Rattle.laws.proofs.Moved.{added-charged, added-append}
-use Rattle.laws.proofs.Turns.{steps-sharding, last-largest, largest-append}
+use Rattle.laws.proofs.Turns.{Fine, fine-append, steps-sharding, last-largest, largest-append}
 use Rattle.laws.proofs.Repeats.{pass-append, Told, item-tells}
 use Rattle.laws.proofs.Bytes.{Takes, TakesAll, item-takes}
-use Rattle.blocks.specs.Blocks.{Summary, shardWords, summarized}
+use Rattle.blocks.specs.Blocks.{Summary, shardWords, summaryOf, summarized}
 use Rattle.blocks.proofs.Plain.{summary-inv}
 
 -- ---- steps one after the other
@@ -55,7 +55,7 @@ module _ (mesh sizes file : List ℕ) (depth : ℕ) where
   steps = stepsAt (itemAt everyKind mesh sizes file depth)
 
   -- i of the inner steps are judged
-  pub record Inner (count k₀ at₀ largest₀ : ℕ) (s₀ : Sharding) (i k at runs largest moved : ℕ) (s : Sharding) : Type 0 where
+  pub record Inner (count k₀ at₀ largest₀ : ℕ) (s₀ : Sharding) (i k at runs largest : ℕ) (s : Sharding) : Type 0 where
     pub done : StepsRead
     pub few : i ≤ count
     pub number-is : k ≡ k₀ + length (done .records)
@@ -63,17 +63,16 @@ module _ (mesh sizes file : List ℕ) (depth : ℕ) where
     pub runs-are : runs ≡ length (done .steps)
     pub here : s ≡ done .sharding
     pub largest-is : largest ≡ max largest₀ (largestOn (shardWords mesh sizes) s₀ (onePass (done .records)))
-    pub moved-is : moved ≡ addedOn (movedFrom mesh sizes) s₀ (done .steps)
-    pub moved-few : moved ≤ runs * mostMoved
     pub counted : shardWords mesh sizes s ≤ largest
     pub sound : IsSharding mesh sizes s
+    pub fine : Fine mesh sizes s₀ (done .steps)
     pub leads : inTurn after (done .steps) s₀ ≡ done .sharding
     pub ends : inTurn after (onePass (done .records)) s₀ ≡ done .sharding
     pub takes : TakesAll mesh sizes file at₀ i done
     pub same : steps count k₀ at₀ s₀ ≡ after-these done (steps (count - i) k at s)
 
   pub inner-start : (count k₀ at₀ largest₀ : ℕ) (s₀ : Sharding) → at₀ ≤ length file → IsSharding mesh sizes s₀ → shardWords mesh sizes s₀ ≤ largest₀
-      → Inner count k₀ at₀ largest₀ s₀ 0 k₀ at₀ 0 largest₀ 0 s₀
+      → Inner count k₀ at₀ largest₀ s₀ 0 k₀ at₀ 0 largest₀ s₀
   inner-start count k₀ at₀ largest₀ s₀ l h m =
       let z : count ≡ count - 0 = omega arith in
       record {
@@ -84,10 +83,9 @@ module _ (mesh sizes file : List ℕ) (depth : ℕ) where
         runs-are = refl;
         here = refl;
         largest-is = omega arith;
-        moved-is = refl;
-        moved-few = omega arith;
         counted = m;
         sound = h;
+        fine = tt;
         leads = refl;
         ends = refl;
         takes = record { bytes = omega arith; inside = l; few = omega arith };
@@ -106,8 +104,8 @@ module _ (mesh sizes file : List ℕ) (depth : ℕ) where
       let z : count ≡ suc count - 1 = omega arith in
       ap (λ (j : Judged StepsRead). _>>=_ j (further count k)) e ∙ ap (λ (n : ℕ). _>>=_ j (further n k)) z
 
-  module _ {count k₀ at₀ largest₀ : ℕ} {s₀ : Sharding} {i k at runs largest moved : ℕ} {s : Sharding}
-      (g : Inner count k₀ at₀ largest₀ s₀ i k at runs largest moved s) where
+  module _ {count k₀ at₀ largest₀ : ℕ} {s₀ : Sharding} {i k at runs largest : ℕ} {s : Sharding}
+      (g : Inner count k₀ at₀ largest₀ s₀ i k at runs largest s) where
     pub inner-stops : {a b : ℕ} → i < count → itemAt everyKind mesh sizes file depth k at s ≡ refuse a b → steps count k₀ at₀ s₀ ≡ refuse a b
     inner-stops h e = g .same ∙ ap (after-these (g .done)) (first-of (count - i) k at s (omega arith) e)
 
@@ -127,7 +125,7 @@ module _ (mesh sizes file : List ℕ) (depth : ℕ) where
     number-few h = omega (arith, g .number-is, g .at-is, g .takes .bytes)
 
     -- the next of them is accepted
-    module _ (w : Within mesh sizes) (h : i < count) {k′ runs′ largest′ moved′ at′ : ℕ} {s′ : Sharding}
+    module _ (pos : (a : ℕ) → 0 < getD mesh a 1) (h : i < count) {k′ runs′ largest′ moved′ at′ : ℕ} {s′ : Sharding}
         (e : summarized mesh sizes k largest s (itemAt everyKind mesh sizes file depth k at s)
         ≡ accept (record { value = record { number = k′; runs = runs′; largest = largest′; moved = moved′; sharding = s′ }; next = at′ })) where
       pub runs-few : runs′ ≤ mostRun
@@ -137,15 +135,7 @@ module _ (mesh sizes file : List ℕ) (depth : ℕ) where
           let z : length (x .0 .steps) ≡ runs′ = ap (λ (r : Read Summary). r .value .runs) (x .2) in
           omega (arith, t .few)
 
-      pub next-few : moved′ ≤ runs′ * mostMoved
-      next-few =
-          let x = summary-inv mesh sizes k largest s _ _ e in
-          let u : Told mesh sizes file s (x .0) = item-tells mesh sizes file everyKind depth k at s (x .0) (x .1) in
-          let z : length (x .0 .steps) ≡ runs′ = ap (λ (r : Read Summary). r .value .runs) (x .2) in
-          let m : addedOn (movedFrom mesh sizes) s (x .0 .steps) ≡ moved′ = ap (λ (r : Read Summary). r .value .moved) (x .2) in
-          omega (arith, m, z, added-charged mesh sizes w s (x .0 .steps) (g .sound) (u .fine) .1)
-
-      pub inner-step : Inner count k₀ at₀ largest₀ s₀ (i + 1) k′ at′ (runs + runs′) largest′ (moved + moved′) s′
+      pub inner-step : Inner count k₀ at₀ largest₀ s₀ (i + 1) k′ at′ (runs + runs′) largest′ s′
       inner-step =
           let x = summary-inv mesh sizes k largest s _ _ e in
           let v : StepsRead = x .0 in
@@ -156,7 +146,6 @@ module _ (mesh sizes file : List ℕ) (depth : ℕ) where
           let n-is : k + length (v .records) ≡ k′ = ap (λ (r : Read Summary). r .value .number) (x .2) in
           let r-is : length (v .steps) ≡ runs′ = ap (λ (r : Read Summary). r .value .runs) (x .2) in
           let l-is : max largest (largestOn f s (onePass (v .records))) ≡ largest′ = ap (λ (r : Read Summary). r .value .largest) (x .2) in
-          let m-is : addedOn (movedFrom mesh sizes) s (v .steps) ≡ moved′ = ap (λ (r : Read Summary). r .value .moved) (x .2) in
           let s-is : v .sharding ≡ s′ = ap (λ (r : Read Summary). r .value .sharding) (x .2) in
           let a-is : v .next ≡ at′ = ap (λ (r : Read Summary). r .next) (x .2) in
           let from : inTurn after (onePass (d .records)) s₀ ≡ s = g .ends ∙ sym (g .here) in
@@ -166,9 +155,6 @@ module _ (mesh sizes file : List ℕ) (depth : ℕ) where
           ∙ ap (λ (z : Sharding). max (largestOn f s₀ (onePass (d .records))) (largestOn f z (onePass (v .records)))) from in
           let last : f s′ ≤ largestOn f s (onePass (v .records)) =
           subst (λ (z : Sharding). f z ≤ largestOn f s (onePass (v .records))) (u .pass-ends ∙ s-is) (last-largest f s (onePass (v .records))) in
-          let sums : addedOn (movedFrom mesh sizes) s₀ (d .steps ++ v .steps) ≡ moved + moved′ =
-          added-append (movedFrom mesh sizes) (d .steps) (v .steps) s₀
-          ∙ ap₂ _+_ (sym (g .moved-is)) (ap (λ (z : Sharding). addedOn (movedFrom mesh sizes) z (v .steps)) (g .leads ∙ sym (g .here)) ∙ m-is) in
           record {
             done = joined d v;
             few = omega arith;
@@ -177,10 +163,10 @@ module _ (mesh sizes file : List ℕ) (depth : ℕ) where
             runs-are = omega (arith, length-append (d .steps) (v .steps), g .runs-are);
             here = sym s-is;
             largest-is = omega (arith, all, g .largest-is);
-            moved-is = sym sums;
-            moved-few = omega (arith, g .moved-few, next-few);
             counted = omega arith;
-            sound = subst (IsSharding mesh sizes) (u .ends ∙ s-is) (steps-sharding mesh sizes (w .sizes-pos) s (v .steps) (g .sound) (u .fine));
+            sound = subst (IsSharding mesh sizes) (u .ends ∙ s-is) (steps-sharding mesh sizes pos s (v .steps) (g .sound) (u .fine));
+            fine = fine-append mesh sizes (d .steps) (v .steps) s₀ (g .fine)
+                (subst (λ (z : Sharding). Fine mesh sizes z (v .steps)) (g .here ∙ sym (g .leads)) (u .fine));
             leads = in-turn-append after (d .steps) (v .steps) s₀ ∙ ap (inTurn after (v .steps)) (g .leads ∙ sym (g .here)) ∙ u .ends;
             ends = ap (λ (l : List Step). inTurn after l s₀) pass ∙ in-turn-append after (onePass (d .records)) (onePass (v .records)) s₀
                 ∙ ap (inTurn after (onePass (v .records))) from ∙ u .pass-ends;
@@ -196,3 +182,50 @@ module _ (mesh sizes file : List ℕ) (depth : ℕ) where
         where
           one-less : count - i - 1 ≡ count - (i + 1)
           one-less = omega arith
+
+  -- ---- the same with the words moved
+
+  pub record InnerMoved (count k₀ at₀ largest₀ : ℕ) (s₀ : Sharding) (i k at runs largest moved : ℕ) (s : Sharding) : Type 0 where
+    pub judged : Inner count k₀ at₀ largest₀ s₀ i k at runs largest s
+    pub moved-is : moved ≡ addedOn (movedFrom mesh sizes) s₀ (judged .done .steps)
+
+  pub moved-start : (count k₀ at₀ largest₀ : ℕ) (s₀ : Sharding) → at₀ ≤ length file → IsSharding mesh sizes s₀ → shardWords mesh sizes s₀ ≤ largest₀
+      → InnerMoved count k₀ at₀ largest₀ s₀ 0 k₀ at₀ 0 largest₀ 0 s₀
+  unfolding inner-start
+  moved-start count k₀ at₀ largest₀ s₀ l h m = record { judged = inner-start count k₀ at₀ largest₀ s₀ l h m; moved-is = refl }
+
+  -- no plain step moves more than its limit
+  pub moved-few : Within mesh sizes → {count k₀ at₀ largest₀ : ℕ} {s₀ : Sharding} {i k at runs largest moved : ℕ} {s : Sharding}
+      → InnerMoved count k₀ at₀ largest₀ s₀ i k at runs largest moved s → IsSharding mesh sizes s₀ → moved ≤ runs * mostMoved
+  moved-few w {s₀ = s₀} g h =
+      omega (arith, g .moved-is, g .judged .runs-are, added-charged mesh sizes w s₀ (g .judged .done .steps) h (g .judged .fine) .1)
+
+  module _ {count k₀ at₀ largest₀ : ℕ} {s₀ : Sharding} {i k at runs largest moved : ℕ} {s : Sharding}
+      (g : InnerMoved count k₀ at₀ largest₀ s₀ i k at runs largest moved s) (w : Within mesh sizes) (h : i < count) {k′ runs′ largest′ moved′ at′ : ℕ}
+      {s′ : Sharding}
+      (e : summarized mesh sizes k largest s (itemAt everyKind mesh sizes file depth k at s)
+      ≡ accept (record { value = record { number = k′; runs = runs′; largest = largest′; moved = moved′; sharding = s′ }; next = at′ })) where
+    taken : (v : StepsRead) × (itemAt everyKind mesh sizes file depth k at s ≡ accept v)
+        × (_≡_ {A = Read Summary} (summaryOf mesh sizes k largest s v)
+        (record { value = record { number = k′; runs = runs′; largest = largest′; moved = moved′; sharding = s′ }; next = at′ }))
+    taken = summary-inv mesh sizes k largest s _ _ e
+
+    moves : addedOn (movedFrom mesh sizes) s (taken .0 .steps) ≡ moved′
+    moves = ap (λ (r : Read Summary). r .value .moved) (taken .2)
+
+    pub next-few : moved′ ≤ runs′ * mostMoved
+    next-few =
+        let u : Told mesh sizes file s (taken .0) = item-tells mesh sizes file everyKind depth k at s (taken .0) (taken .1) in
+        let r-is : length (taken .0 .steps) ≡ runs′ = ap (λ (r : Read Summary). r .value .runs) (taken .2) in
+        omega (arith, moves, r-is, added-charged mesh sizes w s (taken .0 .steps) (g .judged .sound) (u .fine) .1)
+
+    pub moved-step : InnerMoved count k₀ at₀ largest₀ s₀ (i + 1) k′ at′ (runs + runs′) largest′ (moved + moved′) s′
+    unfolding inner-step taken
+    moved-step =
+        let d : StepsRead = g .judged .done in
+        record {
+          judged = inner-step (g .judged) (w .sizes-pos) h e;
+          moved-is = sym (added-append (movedFrom mesh sizes) (d .steps) (taken .0 .steps) s₀
+              ∙ ap₂ _+_ (sym (g .moved-is))
+              (ap (λ (z : Sharding). addedOn (movedFrom mesh sizes) z (taken .0 .steps)) (g .judged .leads ∙ sym (g .judged .here)) ∙ moves));
+        }

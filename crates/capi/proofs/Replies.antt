@@ -79,6 +79,7 @@ module _ (file : List ℕ) where
           rank = a .rank;
           shard = fourPlaces 0 (a .shard);
           sharding = sharding-of (a .sharding) (in-places (a .sharding) f) i;
+          moved = a .moved;
         }),
         f .rank-few,
       )

@@ -10,7 +10,7 @@ use Rattle.rules.specs.PlanFile.{plain}
 use Rattle.rules.specs.Refusals.{Judged, accept, refuse}
 use Rattle.types.specs.Answers.{refusedAs}
 use Rattle.types.specs.Types.{fourPlaces, shardingOf}
-use Rattle.rules.specs.Calls.{CheckAnswer, PlaceAnswer}
+use Rattle.rules.specs.Calls.{CheckAnswer, PlaceAnswer, Ran}
 use Rattle.types.specs.declared.Checked.{Checked}
 use Rattle.types.specs.declared.CheckOutcome.{CheckOutcome}
 use Rattle.types.specs.declared.CheckOutcome.the-variants as check
@@ -31,6 +31,7 @@ use Rattle.placements.specs.declared.PlaceAllOutcome.{PlaceAllOutcome}
 use Rattle.placements.specs.declared.PlaceAllOutcome.the-variants as all
 use Rattle.marshal.specs.Structs.{shardingReply, noSharding, stepReply, noStep, stepNumbers}
 use Rattle.capi.specs.declared.CheckReply.{CheckReply}
+use Rattle.capi.specs.declared.RunReply.{RunReply}
 use Rattle.capi.specs.declared.PlaceReply.{PlaceReply}
 use Rattle.capi.specs.declared.PlaceAllReply.{PlaceAllReply}
 use Rattle.capi.specs.declared.WriteReply.{WriteReply}
@@ -52,6 +53,7 @@ checkReply (accept a) = record {
   rank = a .rank;
   shard = fourPlaces 0 (a .shard);
   sharding = shardingReply (a .sharding);
+  moved = a .moved;
 }
 checkReply (refuse n k) = record {
   refusal = n + 256 * k;
@@ -61,7 +63,12 @@ checkReply (refuse n k) = record {
   rank = 0;
   shard = replicate mostDims 0;
   sharding = noSharding;
+  moved = 0;
 }
+
+-- the run's answer: the words moved are 0 beside a refusal, as the definition has them
+abbrev pub ranReply : Ran → RunReply
+ranReply r = record { refusal = refusalCode (r .outcome); moved = r .moved }
 
 -- the placement's answer, in the same way
 abbrev pub placeReply : Judged PlaceAnswer → PlaceReply
@@ -128,6 +135,7 @@ checkedReply (check.Passed t) c = record {
   rank = t .rank;
   shard = c .shard;
   sharding = shardingReply (shardingOf mostDims (c .sharding));
+  moved = t .moved;
 }
 checkedReply (check.Refused r) c = checkReply (refusedAs r)
 

@@ -14,7 +14,7 @@ use Rattle.records.specs.Planning.{planOf, planSteps}
 use Rattle.records.specs.PlanAnswer.{stepsPlanned}
 use Rattle.marshal.specs.Structs.{shardingIn}
 use Rattle.marshal.specs.declared.ShardingReply.{ShardingReply}
-use Rattle.capi.specs.Boundary.{refusalCode, checkReply, placeReply, writtenReply, openedReply, plannedReply}
+use Rattle.capi.specs.Boundary.{refusalCode, checkReply, ranReply, placeReply, writtenReply, openedReply, plannedReply}
 
 abbrev zeros : ℕ → List ℕ
 zeros n = replicate n 0
@@ -28,6 +28,7 @@ split : checkReply (checkOf (fileIn 2 (replicate 5 2) [] (4 ∷ 2 ∷ []) ((3 �
   rank = 2;
   shard = 1 ∷ 1 ∷ 0 ∷ 0 ∷ [];
   sharding = record { counts = 2 ∷ 1 ∷ 0 ∷ 0 ∷ 1 ∷ 1 ∷ []; axes = (3 ∷ zeros 5) ++ (2 ∷ zeros 17) ++ (1 ∷ zeros 5) ++ (4 ∷ zeros 5) };
+  moved = 0;
 }
 unfolding fileIn checkOf
 split = refl
@@ -48,6 +49,7 @@ gathers : checkReply (checkOf six) ≡ record {
   rank = 2;
   shard = 4 ∷ 3 ∷ 0 ∷ 0 ∷ [];
   sharding = record { counts = 1 ∷ 0 ∷ 0 ∷ 0 ∷ 1 ∷ 3 ∷ []; axes = sixAxes };
+  moved = 384;
 }
 unfolding fileIn checkOf
 gathers = refl
@@ -83,6 +85,7 @@ not-tail : checkReply (checkOf (w4 ((2 ∷ 1 ∷ 1 ∷ []) ∷ []))) ≡ record 
   rank = 0;
   shard = zeros 4;
   sharding = record { counts = zeros 6; axes = zeros 36 };
+  moved = 0;
 }
 unfolding fileOf checkOf
 not-tail = refl
@@ -97,9 +100,14 @@ not-placed : placeReply (placeOf (w4 ((2 ∷ 1 ∷ 1 ∷ []) ∷ [])) 0 0) ≡ r
 unfolding fileOf placeOf
 not-placed = refl
 
-not-run : refusalCode (runOf (w4 ((2 ∷ 1 ∷ 1 ∷ []) ∷ [])) [] [] .outcome) ≡ 280
+not-run : ranReply (runOf (w4 ((2 ∷ 1 ∷ 1 ∷ []) ∷ [])) [] []) ≡ record { refusal = 280; moved = 0 }
 unfolding fileOf runOf
 not-run = refl
+
+-- W1, run
+runs : ranReply (runOf w1 (zeros 32) (zeros 32)) ≡ record { refusal = 0; moved = 16 }
+unfolding runOf
+runs = refl
 
 -- a device and a state that are not there, and an output that is too short
 outside : (refusalCode (placeOf (w4 []) 0 4) ≡ 32) × (refusalCode (placeOf (w4 []) 1 4) ≡ 34) × (refusalCode (groupsOf (2 ∷ []) [] []) ≡ 33)

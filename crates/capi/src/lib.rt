@@ -3,7 +3,7 @@
 ghost use mathlib.Core.Path.{_≡_};
 ghost use Prim.Native.Nat.{_≤_, _+_, _*_};
 ghost use Rattle.rules.specs.Limits.{mostAxes, mostDims};
-ghost use Rattle.types.specs.Answers.{numberOf, refusedAs};
+ghost use Rattle.types.specs.Answers.{numberOf, refusedAs, runMeaning};
 ghost use Rattle.rules.specs.Calls.{checkOf, placeOf, groupsOf, groupsLeave, groupsOrderedOf, groupsOrderedLeave, runOf};
 ghost use Rattle.records.specs.Writing.{writeOf, writeLeaves};
 ghost use Rattle.records.specs.Forms.{recordsGiven};
@@ -11,7 +11,7 @@ ghost use Rattle.records.specs.Reading.{readOf, readLeavesOrder, readLeavesStep
 ghost use Rattle.records.specs.PlanAnswer.{stepsPlanned};
 ghost use Rattle.placements.specs.PlaceAll.{placeAllOf, placedBefore, placeAllLeaves};
 ghost use Rattle.marshal.specs.Structs.{shardingIn};
-ghost use Rattle.capi.specs.Boundary.{refusalCode, checkReply, placeReply, checkedReply, placedReply, writtenReply, openedReply, plannedReply, readReply, madeReply, placedAllReply};
+ghost use Rattle.capi.specs.Boundary.{refusalCode, checkReply, ranReply, placeReply, checkedReply, placedReply, writtenReply, openedReply, plannedReply, readReply, madeReply, placedAllReply};
 use ishkrela::Axis;
 use ishkrela::CheckOutcome;
 use ishkrela::Checked;
@@ -49,6 +49,14 @@ pub struct CheckReply {
     pub rank: u16,
     pub shard: [u16; Dim::MOST],
     pub sharding: ShardingReply,
+    pub moved: u64,
+}
+
+// C's ishkrela_ran: the refusal, and the words that the run moved between devices.
+#[repr(C)]
+pub struct RunReply {
+    pub refusal: u32,
+    pub moved: u64,
 }
 
 // C's ishkrela_placed: the numbers that stand for the placement's answer.
@@ -117,6 +125,7 @@ fn check_refused(refusal: Refusal) -> CheckReply
         rank: 0,
         shard: [0; Dim::MOST],
         sharding,
+        moved: 0,
     }
 }
 
@@ -134,6 +143,7 @@ fn check_passed(totals: Totals, checked: Checked) -> CheckReply
         rank: totals.rank as u16,
         shard,
         sharding,
+        moved: totals.moved,
     }
 }
 
@@ -246,17 +256,27 @@ pub extern "C" fn ishkrela_groups_ordered(
     }
 }
 
-// The run of a plan.
-#[no_mangle]
-pub extern "C" fn ishkrela_run(file: &[u8], work: &mut [u32], spare: &mut [u32]) -> u32
-    ensures answers { λ r. ⌜ r ≡ refusalCode (runOf (now (file .entry)) (now (work .entry)) (now (spare .entry)) .outcome) ⌝ }
-    ensures leaves { λ r. ⌜ now (work .exit) ≡ runOf (now (file .entry)) (now (work .entry)) (now (spare .entry)) .work ⌝ }
-    ensures clears { λ r. ⌜ now (spare .exit) ≡ runOf (now (file .entry)) (now (work .entry)) (now (spare .entry)) .spare ⌝ }
+// The outcome of a run as one number, 0 where it finished.
+fn run_code(outcome: RunOutcome) -> u32
+    ensures { λ r. ⌜ r ≡ refusalCode (runMeaning outcome) ⌝ }
 {
-    let outcome = ishkrela::run(file, work, spare);
     match outcome {
         RunOutcome::Finished => 0,
         RunOutcome::Refused(refusal) => code_of(refusal),
+    }
+}
+
+// The run of a plan.
+#[no_mangle]
+pub extern "C" fn ishkrela_run(file: &[u8], work: &mut [u32], spare: &mut [u32]) -> RunReply
+    ensures answers { λ r. ⌜ r ≡ ranReply (runOf (now (file .entry)) (now (work .entry)) (now (spare .entry))) ⌝ }
+    ensures leaves { λ r. ⌜ now (work .exit) ≡ runOf (now (file .entry)) (now (work .entry)) (now (spare .entry)) .work ⌝ }
+    ensures clears { λ r. ⌜ now (spare .exit) ≡ runOf (now (file .entry)) (now (work .entry)) (now (spare .entry)) .spare ⌝ }
+{
+    let ran = ishkrela::run(file, work, spare);
+    RunReply {
+        refusal: run_code(ran.outcome),
+        moved: ran.moved,
     }
 }
 

@@ -36,8 +36,8 @@ fn print_buffer(name: &[u8], words: &[u32]) {
 
 // Makes the call and prints what it answers and leaves.
 fn answer_run(file: &[u8], work: &mut [u32], spare: &mut [u32]) {
-    let outcome = run(file, work, spare);
-    print_outcome(outcome);
+    let ran = run(file, work, spare);
+    print_outcome(ran.outcome);
     print_buffer(b"work", work);
     print_buffer(b"spare", spare);
 }

@@ -23,6 +23,7 @@ pub use types::GroupsOutcome;
 pub use types::Kind;
 pub use types::PlaceOutcome;
 pub use types::Placed;
+pub use types::Ran;
 pub use types::Reason;
 pub use types::Refusal;
 pub use types::RunOutcome;
@@ -30,7 +31,8 @@ pub use types::Sharding;
 pub use types::Step;
 pub use types::Totals;
 
-// Judges a plan file: the room, D, the number of steps, the rank, the final sharding and its shard sizes, or the refusal.
+// Judges a plan file: the room, D, the number of steps, the rank, the words that a run moves between devices, the final sharding and its shard sizes, or the
+// refusal.
 pub fn check(file: &[u8]) -> Checked
     ensures { λ r. ⌜ CheckPromise (now (file .entry)) r ⌝ }
 {
@@ -66,8 +68,9 @@ pub fn groups_ordered(mesh: &[u16], order: &[u16], axes: &[u8], out: &mut [u16])
     groups::groups_ordered(mesh, order, axes, out)
 }
 
-// Runs a plan: the last state at the front of work, and 0 in the rest of work and in all of spare.
-pub fn run(file: &[u8], work: &mut [u32], spare: &mut [u32]) -> RunOutcome
+// Runs a plan: the last state at the front of work, and 0 in the rest of work and in all of spare. Answers the words that were moved between devices, 0 beside
+// a refusal.
+pub fn run(file: &[u8], work: &mut [u32], spare: &mut [u32]) -> Ran
     ensures { λ r. ⌜ RunPromise (now (file .entry)) (now (work .entry)) (now (spare .entry)) r (now (work .exit)) (now (spare .exit)) ⌝ }
 {
     run::run(file, work, spare)

@@ -4,7 +4,7 @@
 use super::shown;
 use bench::answers::{Checked, Device, NotPlaced, Placed, Refusal, MOST_AXES, MOST_RANK};
 use bench::library::{
-    raw, RawChecked, RawOpened, RawPlaced, RawPlacedAll, RawPlanned, RawSharding, RawWritten,
+    raw, RawChecked, RawOpened, RawPlaced, RawPlacedAll, RawPlanned, RawRan, RawSharding, RawWritten,
 };
 use bench::random::Random;
 use bench::records::{
@@ -60,6 +60,20 @@ fn record(random: &mut Random, step: &StepRecord, rank: usize) -> [u8; RECORD_BY
 impl Boundary {
     pub fn check(self, file: &[u8], answer: Result<Checked, Refusal>) -> Option<String> {
         shown(&RawChecked::from(answer), &raw::check(file))
+    }
+
+    pub fn run(
+        self,
+        file: &[u8],
+        work: &[u32],
+        spare: &[u32],
+        answer: Result<u64, Refusal>,
+    ) -> Option<String> {
+        let (mut work, mut spare) = (work.to_vec(), spare.to_vec());
+        shown(
+            &RawRan::from(answer),
+            &raw::run(file, &mut work, &mut spare),
+        )
     }
 
     pub fn place(

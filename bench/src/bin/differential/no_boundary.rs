@@ -11,6 +11,16 @@ impl Boundary {
         None
     }
 
+    pub fn run(
+        self,
+        _: &[u8],
+        _: &[u32],
+        _: &[u32],
+        _: Result<u64, Refusal>,
+    ) -> Option<String> {
+        None
+    }
+
     pub fn place(self, _: &[u8], _: u16, _: Device, _: Result<Placed, Refusal>) -> Option<String> {
         None
     }

@@ -11,7 +11,7 @@ use Rattle.reader.proofs.Next.refusal.Reads as Next-refusal-reads
 use Rattle.blocks.specs.Blocks.{summarized}
 use Rattle.blocks.proofs.Heads.{repeat-inside, head-facts, head-on, head-stopped}
 use Rattle.blocks.proofs.Plain.{summary-stops}
-use Rattle.blocks.proofs.Inner.{Inner, inner-start, inner-stops, inner-done, number-few, runs-few, next-few, inner-step}
+use Rattle.blocks.proofs.Inner.{InnerMoved, moved-start, inner-stops, inner-done, number-few, runs-few, moved-few, next-few, moved-step}
 use Rattle.blocks.proofs.Items.{head-halts, inner-halts, closes, item-repeat, item-plain}
 use Rattle.blocks.proofs.judge_block.Reads as judge-block
 use Rattle.blocks.proofs.judge_block.Kinds as judge-block-kinds
@@ -49,7 +49,7 @@ judge-item-below t = and 1 judge-item-kinds.ps (falls 1 judge-item-kinds.ps _<_ 
 
 abbrev judge-block-Inv-loop : judge-block-lts.InvT-loop
 judge-block-Inv-loop file at k depth mesh table extent largest sharding count inner steps below place₀ number₀ runs₀ most₀ moved₀ after₀ i₀ place number runs most moved after i =
-    Inner (meshOf mesh) (sizesOf table) file (depth - 1) steps (k + 1) (at + 2) largest (shardingOf (table .rank) sharding) i number place runs most moved
+    InnerMoved (meshOf mesh) (sizesOf table) file (depth - 1) steps (k + 1) (at + 2) largest (shardingOf (table .rank) sharding) i number place runs most moved
     (shardingOf (table .rank) after)
 
 abbrev judge-block-μ-loop : judge-block-lts.MeasureT-loop
@@ -99,13 +99,13 @@ pub +judge-block+judge-item-spec : {M : Type 1} → statement M
     let a = h .before .before .args in
     let p = h .before .before .pre .1 in
     let f = head-facts (a .depth) (a .k) (a .file .now) (a .at) (head-on (h .read-repeat .ensures) (c .before .head .given .1)) in
-    inner-start (meshOf (a .mesh)) (sizesOf (a .table)) (a .file .now) (a .depth - 1) _ _ _ _ _ (f .inside) (p .ready .sound) (p .counted))
+    moved-start (meshOf (a .mesh)) (sizesOf (a .table)) (a .file .now) (a .depth - 1) _ _ _ _ _ (f .inside) (p .ready .sound) (p .counted))
     (λ c κs. let h = c .before .before .before .before .before in
     let s = h .before .before in
     let a = s .args in
     let p = s .pre .1 in
     let f = head-facts (a .depth) (a .k) (a .file .now) (a .at) (head-on (h .read-repeat .ensures) (c .before .before .before .head .given .1)) in
-    let g = c .before .loop .inv in (
+    let g = c .before .loop .inv .judged in (
       omega (arith, f .inside, g .takes .bytes, g .takes .inside, g .at-is, s .pre .0),
       record {
         ready = record { fits = p .ready .fits; sound = g .sound };
@@ -126,31 +126,32 @@ pub +judge-block+judge-item-spec : {M : Type 1} → statement M
     let a = h .before .before .args in
     let r = head-on (h .read-repeat .ensures) (l .before .before .head .given .1) in
     let stop = read-stopped _ (i .judge-item .ensures .reads) (c .before .before .enum-told2 .given .1) (c .before .refusal2 .ensures) in
-    let inner = inner-stops (meshOf (a .mesh)) (sizesOf (a .table)) (a .file .now) (a .depth - 1) (l .loop .inv) (i .before .loop-test .taken) (summary-stops _ _ _ _ _ _ stop) in
+    let inner = inner-stops (meshOf (a .mesh)) (sizesOf (a .table)) (a .file .now) (a .depth - 1) (l .loop .inv .judged) (i .before .loop-test .taken) (summary-stops _ _ _ _ _ _ stop) in
     retold (c .refused2 .ensures (a .table .rank)) (inner-halts (meshOf (a .mesh)) (sizesOf (a .table)) (a .file .now) (a .depth) (a .k) (a .at) (shardingOf (a .table .rank) (a .sharding)) r (a .largest) inner))
     (λ c. let i = c .before .before .before .before in
     let l = i .before .before in
-    let g = l .loop .inv in
+    let g = l .loop .inv .judged in
     let h = l .before .before .before .before in
     let s = h .before .before in
     let a = s .args in
     let f = head-facts (a .depth) (a .k) (a .file .now) (a .at) (head-on (h .read-repeat .ensures) (l .before .before .head .given .1)) in
     let m = read-on _ (i .judge-item .ensures .reads) (c .before .before .next .given .1) in
-    let r = runs-few (meshOf (a .mesh)) (sizesOf (a .table)) (a .file .now) (a .depth - 1) g (s .pre .1 .extends .within) (i .before .loop-test .taken) m in
+    let r = runs-few (meshOf (a .mesh)) (sizesOf (a .table)) (a .file .now) (a .depth - 1) g (s .pre .1 .ready .fits .sized .least) (i .before .loop-test .taken) m in
     omega (arith, r, g .takes .few, g .runs-are, g .few, f .number-is, h .before .shared-slice-known .given (a .at + 1)))
     (λ c. let i = c .before .before .before .before .before in
     let l = i .before .before in
-    let g = l .loop .inv in
+    let g = l .loop .inv .judged in
     let h = l .before .before .before .before in
     let s = h .before .before in
     let a = s .args in
     let f = head-facts (a .depth) (a .k) (a .file .now) (a .at) (head-on (h .read-repeat .ensures) (l .before .before .head .given .1)) in
     let m = read-on _ (i .judge-item .ensures .reads) (c .before .before .before .next .given .1) in
-    let r = runs-few (meshOf (a .mesh)) (sizesOf (a .table)) (a .file .now) (a .depth - 1) g (s .pre .1 .extends .within) (i .before .loop-test .taken) m in
-    let n = next-few (meshOf (a .mesh)) (sizesOf (a .table)) (a .file .now) (a .depth - 1) g (s .pre .1 .extends .within) (i .before .loop-test .taken) m in
-    omega (arith, r, n, g .moved-few, g .takes .few, g .runs-are, g .few, f .number-is, h .before .shared-slice-known .given (a .at + 1)))
+    let r = runs-few (meshOf (a .mesh)) (sizesOf (a .table)) (a .file .now) (a .depth - 1) g (s .pre .1 .ready .fits .sized .least) (i .before .loop-test .taken) m in
+    let n = next-few (meshOf (a .mesh)) (sizesOf (a .table)) (a .file .now) (a .depth - 1) (l .loop .inv) (s .pre .1 .extends .within) (i .before .loop-test .taken) m in
+    let o = moved-few (meshOf (a .mesh)) (sizesOf (a .table)) (a .file .now) (a .depth - 1) (s .pre .1 .extends .within) (l .loop .inv) (s .pre .1 .ready .sound) in
+    omega (arith, r, n, o, g .takes .few, g .runs-are, g .few, f .number-is, h .before .shared-slice-known .given (a .at + 1)))
     (λ c. let l = c .before .before .before .before .before .before .before .before in
-    let g = l .loop .inv in
+    let g = l .loop .inv .judged in
     let h = l .before .before .before .before in
     let a = h .before .before .args in
     let f = head-facts (a .depth) (a .k) (a .file .now) (a .at) (head-on (h .read-repeat .ensures) (l .before .before .head .given .1)) in
@@ -161,9 +162,9 @@ pub +judge-block+judge-item-spec : {M : Type 1} → statement M
     let s = l .before .before .before .before .before .before in
     let a = s .args in
     let m = read-on _ (i .judge-item .ensures .reads) (c .before .before .before .before .next .given .1) in
-    inner-step (meshOf (a .mesh)) (sizesOf (a .table)) (a .file .now) (a .depth - 1) (l .loop .inv) (s .pre .1 .extends .within) (i .before .loop-test .taken) m)
+    moved-step (meshOf (a .mesh)) (sizesOf (a .table)) (a .file .now) (a .depth - 1) (l .loop .inv) (s .pre .1 .extends .within) (i .before .loop-test .taken) m)
     (λ c κs. let l = c .before in
-    let g = l .loop .inv in
+    let g = l .loop .inv .judged in
     let h = l .before .before .before .before in
     let s = h .before .before in
     let a = s .args in
@@ -172,16 +173,16 @@ pub +judge-block+judge-item-spec : {M : Type 1} → statement M
       goes-on = (_, refl);
       rank-few = s .pre .1 .ready .fits .rank;
       runs-few = omega (arith, g .takes .few, g .runs-are, g .few, f .number-is, h .before .shared-slice-known .given (a .at + 1));
-      moved-few = g .moved-few;
+      moved-few = moved-few (meshOf (a .mesh)) (sizesOf (a .table)) (a .file .now) (a .depth - 1) (s .pre .1 .extends .within) (l .loop .inv) (s .pre .1 .ready .sound);
     })
     (λ c. let l = c .before .before in
-    let g = l .loop .inv in
+    let g = l .loop .inv .judged in
     let h = l .before .before .before .before in
     let a = h .before .before .args in
     let r = head-on (h .read-repeat .ensures) (l .before .before .head .given .1) in
     let done = inner-done (meshOf (a .mesh)) (sizesOf (a .table)) (a .file .now) (a .depth - 1) g (c .before .loop-test .left) in
     retold (c .close-block .ensures)
-    (closes (meshOf (a .mesh)) (sizesOf (a .table)) (a .file .now) (a .depth) (a .k) (a .at) (shardingOf (a .table .rank) (a .sharding)) r (a .largest) done (g .number-is) (g .runs-are) (g .largest-is) (g .moved-is) (g .here) (g .at-is))))
+    (closes (meshOf (a .mesh)) (sizesOf (a .table)) (a .file .now) (a .depth) (a .k) (a .at) (shardingOf (a .table .rank) (a .sharding)) r (a .largest) done (g .number-is) (g .runs-are) (g .largest-is) (l .loop .inv .moved-is) (g .here) (g .at-is))))
     λ t. judge-item-lts.spec (
       is-repeat-reads.Asked,
       is-repeat-reads.Learnt,

@@ -15,4 +15,5 @@ check-passed-spec =
       rank = t .rank;
       shard = s .checked .shard;
       sharding = c .before .before .sharding-reply .ensures i;
+      moved = t .moved;
     })))
