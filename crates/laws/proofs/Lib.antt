@@ -25,6 +25,7 @@ pub mod Next
 pub mod Whole
 pub mod Apart
 pub mod Routes
+pub mod Meetings
 pub mod Refusing
 pub mod Locality
 pub mod Stands

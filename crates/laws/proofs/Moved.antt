@@ -14,7 +14,7 @@ use lib.Seq.{ext-getD}
 use lib.Arith.{digits-lt, digits-div, digits-mod}
 use lib.Dec.{T, T-not, eqb, eqb→eq, eqb-refl}
 use Rattle.rules.specs.Lists.{tab, both, flat, inTurn, product, mem, keep, without, ascending, In, Distinct, Below}
-use Rattle.rules.specs.Mesh.{number, coords, devices, span, position, member, members}
+use Rattle.rules.specs.Mesh.{number, coords, devices, plainOrder, span, position, member, members}
 use Rattle.rules.specs.Sharding.{Sharding, shardSizes, firstIndexes, IsSharding}
 use Rattle.rules.specs.Spread.{from}
 use Rattle.rules.specs.Collectives.{
@@ -37,9 +37,10 @@ use Rattle.rules.specs.Collectives.{
 }
 use Rattle.rules.specs.Limits.{mostAxes, mostDevices, mostWords}
 use Rattle.rules.specs.Refusals.{Judged, accept, refuse}
-use Rattle.rules.specs.PlanFile.{StepsRead, JudgesSteps, stepsAt, itemAt, Plan, judge, announced, announcedShape}
+use Rattle.rules.specs.PlanFile.{plain, StepsRead, JudgesSteps, stepsAt, itemAt, Plan, judge, judgeBy, announced, announcedShape}
 use Rattle.rules.specs.Calls.{CheckAnswer, checkOf, runnable, Ran, runLeaves, runOf}
 use Rattle.rules.specs.Moved.{onceEach, otherDevices, movedBy, addedOn, movedFrom, wordsMoved, chargeOf, chargeFrom, mostMoved}
+use Rattle.rules.specs.Ledger.{fileOf}
 use Rattle.laws.specs.Moved.{DividesExactly, PlansCharged, BlocksCharged, OneNumber}
 use Rattle.laws.proofs.Lists.{
   length-tab,
@@ -521,3 +522,22 @@ one-number = record {
     none : (j : Judged Plan) (work spare : List ℕ) (n k : ℕ) → runLeaves j work spare .outcome ≡ refuse n k → runLeaves j work spare .moved ≡ 0
     none (accept p) work spare n k e = absurd (never (sym e))
     none (refuse m l) work spare n k e = refl
+
+-- the bound of a step is reached, and is past 2 ^ 32
+abbrev widest : List ℕ
+widest = fileOf (1024 ∷ []) (256 ∷ 256 ∷ []) ([] ∷ [] ∷ [] ∷ []) ((3 ∷ 1 ∷ 0 ∷ []) ∷ [])
+
+moved-reached : (p : Plan) × (judge widest ≡ accept p) × (wordsMoved p ≡ 68_652_367_872)
+unfolding fileOf judgeBy chargeOf
+moved-reached =
+    let p : Plan = record {
+      mesh = 1024 ∷ [];
+      order = plainOrder 1024;
+      sizes = 256 ∷ 256 ∷ [];
+      start = record { dims = [] ∷ [] ∷ []; unreduced = []; replicated = [] };
+      records = plain (allReduce (0 ∷ [])) ∷ [];
+      steps = allReduce (0 ∷ []) ∷ [];
+      runs = 1 ∷ [];
+    } in
+    let e : judge widest ≡ accept p = refl in
+    (p, e, plans-charged widest p e .added ∙ refl)

@@ -14,6 +14,7 @@ use Rattle.laws.specs.Promises.{RulesPromise}
 use Rattle.laws.proofs.Whole as whole
 use Rattle.laws.proofs.Judging as judging
 use Rattle.laws.proofs.Routes as routes
+use Rattle.laws.proofs.Meetings as meetings
 use Rattle.laws.proofs.Refusing as refusing
 use Rattle.laws.proofs.Repeats as repeats
 use Rattle.laws.proofs.Accepted as accepted
@@ -36,6 +37,7 @@ rules-promise = record {
   equal-shards-spread = routes.equal-shards-spread;
   gather-undoes-slice = routes.gather-undoes-slice;
   there-and-back = routes.there-and-back;
+  routes-met = meetings.routes-met;
   room-limit = whole.room-limit;
   replicated-stays = whole.replicated-stays;
   reduces-judged = judging.reduces-judged;

@@ -2,5 +2,6 @@
 pub mod Readers
 pub mod Demands
 pub mod Routes
+pub mod Meetings
 pub mod Moved
 pub mod Promises

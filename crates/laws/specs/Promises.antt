@@ -20,6 +20,7 @@ use Rattle.laws.specs.Demands.{
   SumOfWords,
 }
 use Rattle.laws.specs.Routes.{RoutesMeet, RoutesMeetUnreduced, TableDecides, EqualShardsSpread, GatherUndoesSlice, ThereAndBack}
+use Rattle.laws.specs.Meetings.{RoutesMet}
 use Rattle.laws.specs.Moved.{PlansCharged, BlocksCharged, OneNumber}
 use Rattle.rules.specs.Ledger.{Holds, ledger, beside as besideIt}
 use Rattle.rules.specs.WorkedRefusals.{refusals}
@@ -50,6 +51,7 @@ pub record RulesPromise : Type 1 where
   pub equal-shards-spread : EqualShardsSpread
   pub gather-undoes-slice : GatherUndoesSlice
   pub there-and-back : ThereAndBack
+  pub routes-met : RoutesMet
   pub room-limit : RoomLimit
   pub replicated-stays : ReplicatedStays
   pub reduces-judged : ReducesJudged

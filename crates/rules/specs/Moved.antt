@@ -38,10 +38,14 @@ unfoldable pub otherDevices : (mesh x : List ℕ) → List Place → ℕ
 unfolding keep onceEach
 otherDevices mesh x ps = length (onceEach (keep (λ d. not (eqb d (number mesh x))) (map (λ (p : Place). number mesh (p .device)) ps)))
 
--- "add over all words": of a step that is given shards of this shape
+-- of the word at index i of the new shard of device x, after a step that is given shards of this shape
+abbrev pub movedAt : (mesh : List ℕ) → Step → (shape x i : List ℕ) → ℕ
+movedAt mesh t shape x i = otherDevices mesh x (sources mesh t shape x i)
+
+-- "add over all words"
 unfoldable pub movedBy : (mesh : List ℕ) → Step → (shape : List ℕ) → ℕ
 unfolding otherDevices sources tabulate
-movedBy mesh t shape = total (tabulate mesh (shapeAfter mesh t shape) (λ x i. otherDevices mesh x (sources mesh t shape x i)))
+movedBy mesh t shape = total (tabulate mesh (shapeAfter mesh t shape) (movedAt mesh t shape))
 
 -- "and steps": a number of each step and of the sharding that it is given, added up from a sharding on
 abbrev pub addedOn : (Step → Sharding → ℕ) → Sharding → List Step → ℕ

@@ -3,10 +3,12 @@
 use Prim.Native.Nat.{ℕ}
 use mathlib.Core.Path.{_≡_, refl}
 use mathlib.Core.List.{List, [], _∷_, map}
-use Rattle.rules.specs.Collectives.{Place, allSlice, allGather, allReduce, allToAll, reduceScatter}
+use lib.ListN.{replicate}
+use Rattle.rules.specs.Lists.{tab}
+use Rattle.rules.specs.Collectives.{Place, allSlice, allGather, allReduce, allToAll, reduceScatter, sources}
 use Rattle.rules.specs.Refusals.{Judged, accept, _>>=_}
 use Rattle.rules.specs.Calls.{checkOf, runOf}
-use Rattle.rules.specs.Moved.{otherDevices, movedBy, chargeOf, mostMoved}
+use Rattle.rules.specs.Moved.{otherDevices, movedAt, movedBy, chargeOf, mostMoved}
 use Rattle.rules.specs.Ledger.{fileIn, fileOf, w1, w8, nines}
 use Rattle.rules.specs.WorkedRepeats.{times, square, sliceRows, toColumns, gatherColumns}
 use Rattle.rules.specs.WorkedOrders.{third}
@@ -32,6 +34,9 @@ pub record MovesCounted : Type 0 where
   pub own : otherDevices row (1 ∷ []) (wordsOf (1 ∷ [])) ≡ 0
   pub others : otherDevices row (1 ∷ []) (wordsOf (0 ∷ 1 ∷ 2 ∷ [])) ≡ 2
   pub each-once : otherDevices row (1 ∷ []) (wordsOf (2 ∷ 0 ∷ 1 ∷ 2 ∷ 2 ∷ [])) ≡ 2
+  -- word by word, of device 1: all but its own part of what it gathers, and of what it gets in an all-to-all
+  pub word-by-word : tab 6 (λ j. movedAt row (allGather ((0 ∷ []) ∷ [])) (2 ∷ []) (1 ∷ []) (j ∷ [])) ≡ 1 ∷ 1 ∷ 0 ∷ 0 ∷ 1 ∷ 1 ∷ []
+  pub word-by-word-to-all : tab 3 (λ j. movedAt row (allToAll 0 1 (0 ∷ [])) (1 ∷ 3 ∷ []) (1 ∷ []) (j ∷ 0 ∷ [])) ≡ 1 ∷ 0 ∷ 1 ∷ []
   -- "nothing for all-slice"
   pub slice : movedBy row (allSlice ((0 ∷ []) ∷ [])) (6 ∷ []) ≡ 0
   -- "D·m·(g-1) for all-gather": m is the shard before it, 2 words, not the 6 after it; along all axes of the step, one in each dimension; D is all devices,
@@ -50,7 +55,11 @@ pub record MovesCounted : Type 0 where
   pub scatter-both : movedBy grid (reduceScatter ((1 ∷ []) ∷ (0 ∷ []) ∷ [])) (3 ∷ 2 ∷ []) ≡ 30
   -- an axis of size 1 makes groups of one device
   pub alone : movedBy (1 ∷ 3 ∷ []) (allGather ((0 ∷ []) ∷ [])) (2 ∷ []) ≡ 0
-  -- the closed forms by themselves, at the limits: "1,023 times" 67,108,864, with 1,024 devices in one group and a table of 65,536 words
+  -- the closed forms by themselves: g is the group's size, not D, and the product is divided as a whole
+  pub charged-slice : chargeOf row (allSlice ((0 ∷ []) ∷ [])) (6 ∷ []) ≡ 0
+  pub charged-gather : chargeOf grid (allGather ((1 ∷ []) ∷ [])) (1 ∷ []) ≡ 12
+  pub charged-to-all : chargeOf grid (allToAll 1 0 (1 ∷ [])) (6 ∷ 1 ∷ []) ≡ 24
+  -- and at the limits: "1,023 times" 67,108,864, with 1,024 devices in one group and a table of 65,536 words
   pub charged : chargeOf (1024 ∷ []) (allReduce (0 ∷ [])) (256 ∷ 256 ∷ []) ≡ 68_652_367_872
   pub charged-scatter : chargeOf (1024 ∷ []) (reduceScatter ((0 ∷ []) ∷ [] ∷ [])) (1024 ∷ 64 ∷ []) ≡ 67_043_328
   pub most-is : mostMoved ≡ 68_652_367_872
@@ -65,18 +74,21 @@ pub record MovesCounted : Type 0 where
   -- whatever the order of the devices: mesh 2x2, table of 4, split along axis 1 and then 0, gathered
   pub ordered : movedOf (third (1 ∷ 0 ∷ []) [] ((2 ∷ 2 ∷ 1 ∷ 0 ∷ []) ∷ [])) ≡ accept 12
   pub plain-order : movedOf (fileOf (2 ∷ 2 ∷ []) (4 ∷ []) ((1 ∷ 0 ∷ []) ∷ [] ∷ []) ((2 ∷ 2 ∷ 1 ∷ 0 ∷ []) ∷ [])) ≡ accept 12
-  -- "A refused run moves nothing and says 0.": a buffer too short, and a plan that does not pass
+  -- whatever the words are, and however long the buffers. "A refused run moves nothing and says 0.": a buffer too short, and a plan that does not pass
   pub runs : runOf w1 (nines 32) (nines 32) .moved ≡ 16
+  pub longer : runOf w1 (replicate 40 0) (nines 33) .moved ≡ 16
   pub short : runOf w1 (nines 31) (nines 32) .moved ≡ 0
   pub refused : runOf (2 ∷ []) [] [] .moved ≡ 0
 
 pub moves-counted : MovesCounted
-unfolding fileIn fileOf otherDevices movedBy chargeOf checkOf runOf
+unfolding fileIn fileOf otherDevices sources movedBy chargeOf checkOf runOf
 moves-counted = record {
   none = refl;
   own = refl;
   others = refl;
   each-once = refl;
+  word-by-word = refl;
+  word-by-word-to-all = refl;
   slice = refl;
   gather = refl;
   gather-both = refl;
@@ -89,6 +101,9 @@ moves-counted = record {
   scatter-row = refl;
   scatter-both = refl;
   alone = refl;
+  charged-slice = refl;
+  charged-gather = refl;
+  charged-to-all = refl;
   charged = refl;
   charged-scatter = refl;
   most-is = refl;
@@ -101,6 +116,7 @@ moves-counted = record {
   ordered = refl;
   plain-order = refl;
   runs = refl;
+  longer = refl;
   short = refl;
   refused = refl;
 }
