@@ -1,11 +1,13 @@
--- The last digits of a copy as planes of rows: one digit (`one-leaf`), two (`two-leaf`) and three (`three-leaf`) copy what three do. Assumes nothing.
+-- The last digits of a copy as planes of rows: one digit (`one-leaf`), two (`two-leaf`) and three (`three-leaf`) copy what three do. Then planes of two
+-- rows of two words (`square-places`, `square`). Assumes nothing.
 use Prim.Native.Nat.{ℕ, _+_, _*_, _/_, _%_, _≤_, _<_}
 use mathlib.Core.Path.{_≡_, refl, sym, ap, _∙_}
 use mathlib.Core.Logic.{_≢_}
 use mathlib.Core.List.{List, [], _∷_}
-use native.Mathlib.Nat.{add-zero, zero-add, zero-mul, one-mul, mul-one, mod-lt, div-one, mod-one, div-eq-of-lt, mod-eq-of-lt}
+use native.Mathlib.Nat.{zero-add, one-mul, mul-one, div-eq-of-lt, mod-eq-of-lt}
 use native.Mathlib.Omega.{arith}
 use lib.ListN.{length, getD}
+use lib.Arith.{digits-div, digits-mod}
 use Rattle.laws.proofs.Positions.{pos-of-lt}
 use Rattle.strided.specs.Strided.{counted, offset, Nested, Copy, Alike, planeDigits}
 use Rattle.strided.proofs.Laws.{last-offset, one-digit, words-are, two-digits, three-digits}
@@ -87,3 +89,60 @@ module _ {words at room : ℕ} where
           let n : b ≡ counted r = c .counts .nested .1 .0 in
           let k : getD r 0 0 ≡ b = inner-size r (omega arith) e ∙ sym n in
           rw k at (behind-alike s m z (c .counts .nested .0) p (behind-alike a b d n q (last-alike r (omega arith) e)))
+
+-- ---- planes of two rows of two words
+
+pub square-digits : (planes inner far count len apart stride : ℕ) {words at room : ℕ} → Copy (planeDigits planes inner far count len apart stride) words at room
+    → count ≡ 2 → len ≡ 2 → planeDigits planes inner far count len apart stride ≡ planeDigits planes 4 far 2 2 apart stride
+square-digits planes inner far count len apart stride c e h =
+    let k : inner ≡ 4 = c .counts .nested .0 ∙ rw (e, h) in
+    rw (k, e, h)
+
+module _ (planes far apart stride i : ℕ) where
+  abbrev squares : List ℕ
+  squares = planeDigits planes 4 far 2 2 apart stride
+
+  -- where the four words of a plane come from
+  pub square-places : (offset squares (i * 4) ≡ i * far) × (offset squares (i * 4 + 1) ≡ i * far + stride)
+      × (offset squares (i * 4 + 2) ≡ i * far + apart) × (offset squares (i * 4 + 3) ≡ i * far + apart + stride)
+  square-places =
+      let d : i * 4 / 4 ≡ i = omega arith in
+      let m : i * 4 % 4 ≡ 0 = omega arith in (
+        rw (d, m) (omega arith),
+        rw (digits-div i {m = 4} {r = 1} (omega arith), digits-mod i {m = 4} {r = 1} (omega arith)) (omega arith),
+        rw (digits-div i {m = 4} {r = 2} (omega arith), digits-mod i {m = 4} {r = 2} (omega arith)) (omega arith),
+        rw (digits-div i {m = 4} {r = 3} (omega arith), digits-mod i {m = 4} {r = 3} (omega arith)) (omega arith),
+      )
+
+  pub square-words : {W : Type 0} (z : W) (old : List W) (at : ℕ)
+      → (getD old (at + i * far) z ≡ getD old (at + offset squares (i * 4)) z)
+      × (getD old (at + i * far + stride) z ≡ getD old (at + offset squares (i * 4 + 1)) z)
+      × (getD old (at + i * far + apart) z ≡ getD old (at + offset squares (i * 4 + 2)) z)
+      × (getD old (at + i * far + apart + stride) z ≡ getD old (at + offset squares (i * 4 + 3)) z)
+  square-words z old at =
+      let a : at + i * far ≡ at + offset squares (i * 4) = omega (arith, square-places .0) in
+      let b : at + i * far + stride ≡ at + offset squares (i * 4 + 1) = omega (arith, square-places .1) in
+      let c : at + i * far + apart ≡ at + offset squares (i * 4 + 2) = omega (arith, square-places .2) in
+      let d : at + i * far + apart + stride ≡ at + offset squares (i * 4 + 3) = omega (arith, square-places .3) in (
+        ap (λ (k : ℕ). getD old k z) a,
+        ap (λ (k : ℕ). getD old k z) b,
+        ap (λ (k : ℕ). getD old k z) c,
+        ap (λ (k : ℕ). getD old k z) d,
+      )
+
+  -- what one turn of the loop over the planes finds
+  pub record Square (words at room : ℕ) : Type 0 where
+    pub part : i * 4 + 4 ≤ words
+    pub few : planes ≤ words
+    pub near : at + i * far + stride < room
+    pub next : at + i * far + apart + stride < room
+
+  pub square : {words at room : ℕ} → Copy squares words at room → i < planes → Square words at room
+  square {words} {at} {room} c h =
+      let w : words ≡ planes * 4 = c .counts .whole in
+      record {
+        part = omega arith;
+        few = omega arith;
+        near = omega (arith, square-places .1, c .counts .inside (i * 4 + 1) (omega arith));
+        next = omega (arith, square-places .3, c .counts .inside (i * 4 + 3) (omega arith));
+      }

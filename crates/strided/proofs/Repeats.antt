@@ -14,7 +14,7 @@ use Rattle.rules.specs.Lists.{tab}
 use Rattle.laws.proofs.Lists.{length-tab, getD-tab, tab-cong}
 use Rattle.laws.proofs.Positions.{pos-of-lt}
 use Rattle.laws.proofs.Fronts.{Filled, part-tab, lent-length, lent-put}
-use Rattle.strided.specs.Strided.{offset, Counts, Copy, Period, repeated, copied}
+use Rattle.strided.specs.Strided.{offset, Copy, Period, repeated, copied}
 use Rattle.strided.proofs.Laws.{Turn, one-digit, two-digits, words-are, turn}
 
 -- ---- whole periods

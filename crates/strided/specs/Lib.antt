@@ -1,2 +1,3 @@
 -- What the contracts of the copy with strides cite.
 pub mod Strided
+pub mod Worked

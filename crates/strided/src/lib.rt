@@ -129,6 +129,36 @@ fn copy_rows(
     }
 }
 
+// Planes of two rows of two words: one turn of this loop copies a plane, which is read before it is written.
+fn copy_squares(
+    to: &mut [u32],
+    from: &[u32],
+    planes: usize,
+    far: usize,
+    apart: usize,
+    stride: usize,
+    at: usize,
+)
+    requires { ⌜ Copy (planeDigits planes 4 far 2 2 apart stride) (length (now to)) at (length (now from)) ⌝ }
+    ensures { λ _. ⌜ now (to .exit) ≡ copied 0 (planeDigits planes 4 far 2 2 apart stride) (length (now (to .entry))) at (now (from .entry)) ⌝ }
+{
+    let mut i: usize = 0;
+    while i < planes {
+        let first = i * 4;
+        let near = at + i * far;
+        let next = near + apart;
+        let a = from[near];
+        let b = from[near + stride];
+        let c = from[next];
+        let d = from[next + stride];
+        to[first] = a;
+        to[first + 1] = b;
+        to[first + 2] = c;
+        to[first + 3] = d;
+        i += 1;
+    }
+}
+
 // Planes of rows, the planes far from each other. All that stands inside is called from here alone, so that the compiler has these loops in one.
 fn copy_planes(
     to: &mut [u32],
@@ -160,6 +190,31 @@ fn copy_planes(
         );
         i += 1;
     }
+}
+
+// Planes of rows, the smallest of them apart.
+fn copy_leaf(
+    to: &mut [u32],
+    from: &[u32],
+    planes: usize,
+    inner: usize,
+    far: usize,
+    count: usize,
+    len: usize,
+    apart: usize,
+    stride: usize,
+    at: usize,
+)
+    requires { ⌜ Copy (planeDigits planes inner far count len apart stride) (length (now to)) at (length (now from)) ⌝ }
+    ensures { λ _. ⌜ now (to .exit) ≡ copied 0 (planeDigits planes inner far count len apart stride) (length (now (to .entry))) at (now (from .entry)) ⌝ }
+{
+    if count == 2 {
+        if len == 2 {
+            copy_squares(to, from, planes, far, apart, stride, at);
+            return;
+        }
+    }
+    copy_planes(to, from, planes, inner, far, count, len, apart, stride, at);
 }
 
 // The first words again and again, so many as the period is.
@@ -214,7 +269,7 @@ fn copy_strided(to: &mut [u32], from: &[u32], digits: &[usize], at: usize)
     let stride = digits[2];
     let words = to.len();
     if inner == 1 {
-        copy_planes(to, from, 1, words, 0, 1, words, 0, stride, at);
+        copy_leaf(to, from, 1, words, 0, 1, words, 0, stride, at);
         return;
     }
     if stride == 0 {
@@ -225,12 +280,12 @@ fn copy_strided(to: &mut [u32], from: &[u32], digits: &[usize], at: usize)
     let len = digits[4];
     let next = digits[5];
     if len == 1 {
-        copy_planes(to, from, 1, words, 0, size, inner, stride, next, at);
+        copy_leaf(to, from, 1, words, 0, size, inner, stride, next, at);
         return;
     }
     if digits[7] == 1 {
         let rows = digits[3];
-        copy_planes(
+        copy_leaf(
             to,
             from,
             size,

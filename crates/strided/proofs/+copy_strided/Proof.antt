@@ -17,7 +17,7 @@ use Rattle.strided.proofs.Leaves.{one-leaf, two-leaf, three-leaf}
 use Rattle.strided.proofs.copy_strided.Reads as reads
 use Rattle.strided.proofs.copy_strided.Kinds as kinds
 use Rattle.strided.proofs.+copy_strided.Lts-copy_strided as lts
-use Rattle.strided.proofs.copy_planes.Reads as copy-planes-reads
+use Rattle.strided.proofs.copy_leaf.Reads as copy-leaf-reads
 use Rattle.strided.proofs.repeat_block.Reads as repeat-block-reads
 use Rattle.strided.proofs.+copy_strided.{statement}
 use Rattle.strided.proofs.+copy_strided.Tie.{close}
@@ -31,8 +31,8 @@ asked t = and 3 kinds.ps (is 3 kinds.ps μ t) reads.Pre
 
 abbrev calls : ℕ → lts.Claims
 calls t = (
-  copy-planes-reads.Asked,
-  copy-planes-reads.Learnt,
+  copy-leaf-reads.Asked,
+  copy-leaf-reads.Learnt,
   and 3 kinds.ps (falls 3 kinds.ps _<_ μ t) reads.Pre,
   reads.Post,
   repeat-block-reads.Asked,
@@ -83,9 +83,9 @@ unfolding copied
     (λ c. omega (arith, long t (c .before .before .before .before .before .before)))
     (λ c κs. let s = c .before .before .before .before .before .before .before .before in
     copy-alike (copies t s) (one-leaf (digits t s) (copies t s) (c .before .if1 .taken)))
-    (λ c. c .before .before .copy-planes .kept .0)
+    (λ c. c .before .before .copy-leaf .kept .0)
     (λ c. let s = c .before .before .before .before .before .before .before .before .before .before .before in
-    c .before .before .copy-planes .ensures
+    c .before .before .copy-leaf .ensures
     ∙ copied-alike (copies t s) (one-leaf (digits t s) (copies t s) (c .before .before .before .before .if1 .taken)) 0 (now (s .args .from)))
     (λ c. omega (arith, again-period (copies t (c .before .before .before .before .before .before .before .before))))
     (λ c. omega (arith, again-period (copies t (c .before .before .before .before .before .before .before .before))))
@@ -116,9 +116,9 @@ unfolding copied
     omega (arith, two-digits (digits t s) (copies t s) (c .before .before .before .if1 .left)))
     (λ c κs. let s = c .before .before .before .before .before .before .before .before .before .before .before .before in
     copy-alike (copies t s) (two-leaf (digits t s) (copies t s) (c .before .before .before .before .before .if1 .left) (c .before .if3 .taken)))
-    (λ c. c .before .before .copy-planes2 .kept .0)
+    (λ c. c .before .before .copy-leaf2 .kept .0)
     (λ c. let s = c .before .before .before .before .before .before .before .before .before .before .before .before .before .before .before in
-    c .before .before .copy-planes2 .ensures
+    c .before .before .copy-leaf2 .ensures
     ∙ copied-alike (copies t s) (two-leaf (digits t s) (copies t s) (c .before .before .before .before .before .before .before .before .if1 .left) (c .before .before .before .before .if3 .taken)) 0 (now (s .args .from)))
     (λ c. let s = c .before .before .before .before .before .before .before .before .before .before .before .before in
     omega (arith, three-digits (digits t s) (copies t s) (c .before .before .before .before .before .if1 .left) (c .before .if3 .left)))
@@ -128,9 +128,9 @@ unfolding copied
     omega (arith, three-digits (digits t s) (copies t s) (c .before .before .before .before .before .before .before .before .before .if1 .left) (c .before .before .before .before .before .if3 .left)))
     (λ c κs. let s = c .before .before .before .before .before .before .before .before .before .before .before .before .before .before .before .before in
     copy-alike (copies t s) (three-leaf (digits t s) (copies t s) (c .before .before .before .before .before .before .before .before .before .if1 .left) (c .before .before .before .before .before .if3 .left) (c .before .before .before .if4 .taken)))
-    (λ c. c .before .before .copy-planes3 .kept .0)
+    (λ c. c .before .before .copy-leaf3 .kept .0)
     (λ c. let s = c .before .before .before .before .before .before .before .before .before .before .before .before .before .before .before .before .before .before .before in
-    c .before .before .copy-planes3 .ensures
+    c .before .before .copy-leaf3 .ensures
     ∙ copied-alike (copies t s) (three-leaf (digits t s) (copies t s) (c .before .before .before .before .before .before .before .before .before .before .before .before .if1 .left) (c .before .before .before .before .before .before .before .before .if3 .left) (c .before .before .before .before .before .before .if4 .taken)) 0
     (now (s .args .from)))
     (λ c. let s = c .before .before .before .before .before .before .before .before .before .before .before .before .before in

@@ -1,7 +1,7 @@
 use borrow.Author.Needs.{needs}
 use native.Mathlib.Omega.{arith}
 use native.Mathlib.Nat.{mod-self}
-use Prim.Native.Nat.{ℕ, _<_, _+_, _-_, _%_}
+use Prim.Native.Nat.{_<_, _-_, _%_}
 use mathlib.Core.Path.{_≡_}
 use lib.ListN.{length, getD}
 use denote.Ref.{now}
