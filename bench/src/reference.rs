@@ -15,7 +15,7 @@ use crate::answers::{
     MOST_WORDS,
 };
 use crate::short::Short;
-use std::collections::BTreeSet;
+use std::collections::{BTreeMap, BTreeSet};
 use std::mem;
 
 pub mod records;
@@ -1078,26 +1078,49 @@ impl Move<'_> {
         }
     }
 
-    /// The new words that come from another device, one by one.
+    /// The new words that come from another device: of each new shard, those whose source does not
+    /// lie in the old shard at the same place.
     fn moved(&self) -> u64 {
-        let strides = row_major(&self.before.shard);
-        let sources = self.sources(&strides);
-        let words = self.before.words();
+        let distances = self.distances();
+        let words = self.after.words() as u64;
         let from_others = |place: usize| {
-            let origin = self.origin(place, &strides);
-            let is_own = |source: &&usize| (origin + **source) / words == place;
-            (sources.len() - sources.iter().filter(is_own).count()) as u64
+            let own = distances.get(&(place - self.first_of_group(place)));
+            words - own.copied().unwrap_or(0)
         };
         (0..self.mesh.devices).map(from_others).sum()
     }
 
-    /// Where the first word of the new shard at a place lies in the old state.
-    fn origin(&self, place: usize, strides: &[usize]) -> usize {
+    /// How many words of a new shard lie so many places after the first of the group.
+    fn distances(&self) -> BTreeMap<usize, u64> {
+        let mut distances = BTreeMap::from([(0, 1)]);
+        for dim in 0..self.before.shard.len() {
+            let piece = usize::from(self.before.shard[dim]);
+            let size = usize::from(self.after.shard[dim]);
+            let mut further = BTreeMap::new();
+            for (number, first) in (0..size).step_by(piece).enumerate() {
+                let member = self.mesh.offset(&self.gathered[dim], number);
+                let along = piece.min(size - first) as u64;
+                for (distance, words) in &distances {
+                    *further.entry(distance + member).or_insert(0) += words * along;
+                }
+            }
+            distances = further;
+        }
+        distances
+    }
+
+    /// The place that has position 0 in every list that is gathered.
+    fn first_of_group(&self, place: usize) -> usize {
         let mut first = place;
         for list in &self.gathered {
             first -= self.mesh.offset(list, self.mesh.position(place, list));
         }
-        let mut origin = first * self.before.words();
+        first
+    }
+
+    /// Where the first word of the new shard at a place lies in the old state.
+    fn origin(&self, place: usize, strides: &[usize]) -> usize {
+        let mut origin = self.first_of_group(place) * self.before.words();
         for ((list, &size), stride) in self.sliced.iter().zip(&self.after.shard).zip(strides) {
             origin += self.mesh.position(place, list) * usize::from(size) * stride;
         }

@@ -3,7 +3,7 @@
 
 use bench::answers::{Dim, Refusal};
 use bench::plans::{axes, devices, lists, Draft, Step};
-use bench::{implementations, Implementation};
+use bench::implementations;
 
 /// A mesh of three devices with one step.
 fn row(table: &[u16], start: &[&[u8]], unreduced: &[u8], step: Step) -> Draft {

@@ -274,8 +274,9 @@ pub extern "C" fn ishkrela_run(file: &[u8], work: &mut [u32], spare: &mut [u32])
     ensures clears { λ r. ⌜ now (spare .exit) ≡ runOf (now (file .entry)) (now (work .entry)) (now (spare .entry)) .spare ⌝ }
 {
     let ran = ishkrela::run(file, work, spare);
+    let outcome = ran.outcome;
     RunReply {
-        refusal: run_code(ran.outcome),
+        refusal: run_code(outcome),
         moved: ran.moved,
     }
 }

@@ -37,7 +37,8 @@ fn print_buffer(name: &[u8], words: &[u32]) {
 // Makes the call and prints what it answers and leaves.
 fn answer_run(file: &[u8], work: &mut [u32], spare: &mut [u32]) {
     let ran = run(file, work, spare);
-    print_outcome(ran.outcome);
+    let outcome = ran.outcome;
+    print_outcome(outcome);
     print_buffer(b"work", work);
     print_buffer(b"spare", spare);
 }

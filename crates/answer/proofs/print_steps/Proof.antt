@@ -9,10 +9,10 @@ use Rattle.answer.proofs.print_steps.Statement.{statement}
 use Rattle.answer.proofs.print_steps.Tie as tie
 
 abbrev Inv-loop : tie.InvT-loop
-Inv-loop file at count devices mesh table start total extent depth after₀ most₀ place₀ number₀ k₀ after most place number k = Judging file place number mesh table extent most after
+Inv-loop file at count devices mesh table total extent depth after₀ most₀ place₀ number₀ k₀ after most place number k = Judging file place number mesh table extent most after
 
 abbrev μ-loop : tie.MeasureT-loop
-μ-loop file at count devices mesh table start total extent depth after₀ most₀ place₀ number₀ k₀ after most place number k = count - k
+μ-loop file at count devices mesh table total extent depth after₀ most₀ place₀ number₀ k₀ after most place number k = count - k
 
 enum-told : tie.Need-enum-told Inv-loop μ-loop
 enum-told c = search needs
