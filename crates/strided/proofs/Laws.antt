@@ -1,5 +1,5 @@
--- Laws of digits: what one turn of a loop over the first one finds (`turn`, `turn-places`). Then of copies with strides: what one digit and two
--- digits copy (`row-is`, `rows-are`), and that they find their words where the whole copy does (`row-in`, `rows-in`). Assumes nothing.
+-- Laws of slices that are being filled (`fill-four`, `fill-anew`). Then of digits: what one turn of a loop over the first one finds (`turn`,
+-- `turn-places`), what two digits copy (`rows-are`), and that they find their words where the whole copy does (`rows-in`). Assumes nothing.
 use Prim.Native.Nat.{ℕ, suc, _+_, _*_, _/_, _%_, _≤_, _<_, _-_}
 use mathlib.Core.Path.{_≡_, refl, sym, ap, _∙_}
 use mathlib.Core.Logic.{_≢_}

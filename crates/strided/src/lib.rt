@@ -1,5 +1,6 @@
 // A copy of words with strides: the words that digits name, in row-major order of the digits. Nothing is divided. Digits are joined first where
-// one goes on from the other, so that the innermost loops are long. specs/Strided.antt says what digits are.
+// one goes on from the other, so that the innermost loops are long, and words that a digit names again are repeated by long copies. specs/Strided.antt
+// says what digits are.
 ghost use mathlib.Core.Path.{_≡_};
 ghost use mathlib.Core.List.{_∷_, _++_};
 ghost use Prim.Native.Nat.{_+_, _≤_, _<_};
@@ -285,18 +286,8 @@ fn copy_strided(to: &mut [u32], from: &[u32], digits: &[usize], at: usize)
     }
     if digits[7] == 1 {
         let rows = digits[3];
-        copy_leaf(
-            to,
-            from,
-            size,
-            inner,
-            stride,
-            rows,
-            len,
-            next,
-            digits[8],
-            at,
-        );
+        let last = digits[8];
+        copy_leaf(to, from, size, inner, stride, rows, len, next, last, at);
         return;
     }
     let mut i: usize = 0;

@@ -124,8 +124,8 @@ unfolding copied
     omega (arith, three-digits (digits t s) (copies t s) (c .before .before .before .before .before .if1 .left) (c .before .if3 .left)))
     (λ c. let s = c .before .before .before .before .before .before .before .before .before .before .before .before .before .before in
     omega (arith, three-digits (digits t s) (copies t s) (c .before .before .before .before .before .before .before .if1 .left) (c .before .before .before .if3 .left)))
-    (λ c. let s = c .before .before .before .before .before .before .before .before .before .before .before .before .before .before .before .before in
-    omega (arith, three-digits (digits t s) (copies t s) (c .before .before .before .before .before .before .before .before .before .if1 .left) (c .before .before .before .before .before .if3 .left)))
+    (λ c. let s = c .before .before .before .before .before .before .before .before .before .before .before .before .before .before .before in
+    omega (arith, three-digits (digits t s) (copies t s) (c .before .before .before .before .before .before .before .before .if1 .left) (c .before .before .before .before .if3 .left)))
     (λ c κs. let s = c .before .before .before .before .before .before .before .before .before .before .before .before .before .before .before .before in
     copy-alike (copies t s) (three-leaf (digits t s) (copies t s) (c .before .before .before .before .before .before .before .before .before .if1 .left) (c .before .before .before .before .before .if3 .left) (c .before .before .before .if4 .taken)))
     (λ c. c .before .before .copy-leaf3 .kept .0)
