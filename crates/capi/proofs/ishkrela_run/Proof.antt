@@ -1,6 +1,5 @@
 use borrow.Author.Needs.{needs}
-use Prim.Native.Nat.{ℕ}
-use mathlib.Core.Path.{_≡_, ap, _∙_}
+use mathlib.Core.Path.{ap, _∙_}
 use Rattle.capi.specs.Boundary.{refusalCode}
 use Rattle.capi.proofs.ishkrela_run.Statement.{statement}
 use Rattle.capi.proofs.ishkrela_run.Tie as tie
