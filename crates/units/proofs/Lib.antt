@@ -1,0 +1,2 @@
+-- The theorem of the slow line, from its parts up.
+pub mod Parts

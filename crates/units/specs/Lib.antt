@@ -1,0 +1,2 @@
+-- A plan file that comes byte by byte.
+pub mod Units
