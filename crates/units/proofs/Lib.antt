@@ -1,2 +1,4 @@
 -- The theorem of the slow line, from its parts up.
 pub mod Parts
+pub mod Steps
+pub mod Rests
