@@ -1,4 +1,5 @@
 -- The theorem of the slow line, from its parts up.
 pub mod Parts
+pub mod Orders
 pub mod Steps
 pub mod Rests

@@ -7,22 +7,26 @@ use mathlib.Core.Bool.{Bool, true, false, not, _&&_}
 use mathlib.Core.List.{List, [], _∷_, _++_}
 use native.Mathlib.Omega.{arith}
 use lib.ListN.{length, replicate, length-append}
-use lib.Dec.{T, T-not, leb, ltb, eqb}
+use native.Mathlib.Decide.{decLt}
+use borrow.Author.Tests.{lt-ltb, le-ltb, le-leb, lt-leb}
+use lib.Dec.{T, T-not, leb, ltb, eqb, lit≤}
 use Rattle.rules.specs.Lists.{tab, inTurn, flat}
 use Rattle.rules.specs.Mesh.{devices}
 use Rattle.rules.specs.Limits.{mostDevices, mostWords, mostRun, mostDepth, everyKind}
 use Rattle.rules.specs.Sharding.{Sharding, shardSizes}
 use Rattle.rules.specs.Collectives.{Step, after}
 use Rattle.rules.specs.Refusals.{Judged, accept, refuse, _>>=_, _>>_, need, needAt}
-use Rattle.rules.specs.PlanFile.{Read, u16At, sizesAt, carriesOrder, orderAt, carriesReplicated, shardingAt, stepAt, judgeStep}
+use Rattle.rules.specs.PlanFile.{Read, u16At, edition, axisCount, rankCount, stepCount, tensorOffset, shardingOffset, stepsOffset, sizesAt, carriesOrder, orderAllowed, orderAt, carriesReplicated, shardingAt, stepAt, judgeStep}
 use Rattle.rules.specs.PlanFile.{plain, repeat, StepsRead, stepsAt, plainAt, positiveAt, sameSharding, isRepeat, itemAt, outermostAt}
 use Rattle.rules.specs.Calls.{CheckAnswer}
 use Rattle.laws.specs.Demands.{largestOn}
-use Rattle.laws.proofs.Lists.{T→true, nT→false, T?}
+use Rattle.laws.proofs.Lists.{T→true, nT→false, T?, length-tab, tab-cong}
 use Rattle.laws.proofs.Judging.{bind-assoc}
+use Rattle.laws.proofs.Accepted.{section-facts}
 use Rattle.laws.proofs.Steps.{facts}
 use Rattle.laws.proofs.Turns.{length-times, largest-times}
 use Rattle.laws.proofs.Repeats.{Told, sharding-eq, steps-tell, item-tells}
+use Rattle.reader.specs.Reading.{numbersOf}
 use Rattle.reader.specs.declared.Header.{Header}
 use Rattle.opening.specs.Opening.{judgeOpening}
 use Rattle.blocks.specs.Blocks.{Head, notTooDeep, headAt, shardWords}
@@ -42,13 +46,22 @@ use Rattle.units.specs.Units.{
   atEnd,
   stopped,
   counted,
+  noNumbers,
   outermost,
+  toTable,
+  meshThen,
+  orderThen,
+  afterMesh,
+  afterNumber,
+  afterTable,
+  afterStart,
   afterStep,
   afterPlain,
   afterHead,
   depthIn,
 }
-use Rattle.units.proofs.Parts.{headRead, Item, opens, takes, itemOf, itemRead}
+use Rattle.units.proofs.Parts.{numberAt, headRead, Item, opens, takes, itemOf, itemRead}
+use Rattle.units.proofs.Orders.{tab-first, countedAll, ordered, ordered-is}
 use Rattle.units.proofs.Steps.{bind-same, passes, outerRest, stepsRest, soFar, closeRest, itemDone, first}
 
 -- `headRead` is `headAt`, and where the next byte is
@@ -73,10 +86,6 @@ head-read depth k f at = go (positiveAt k f at)
         (λ (h : Head). accept (record { value = h; next = at + 2 }))
     go (refuse x y) = refl
     go (accept c) = number depth c (positiveAt k f (at + 1))
-
--- whether numbers so far and these are an order
-abbrev pub ordered : (n : ℕ) → Numbers → List ℕ → Bool
-ordered n t l = inTurn (λ a u. counted n u a) l t .fine && not (inTurn (λ a u. counted n u a) l t .plain)
 
 module _ (h : Header) (file : List ℕ) where
   abbrev pub stepsFrom : (mesh sizes : List ℕ) → Sharding → ℕ → Judged CheckAnswer
@@ -304,3 +313,108 @@ module _ (h : Header) (file : List ℕ) where
           go false e =
               ap (λ (j : Judged StepsRead). _>>=_ j done) (item-plain mesh sizes file (depthIn (q .frames)) (q .number) at (q .sharding) e)
               ∙ plainly (stepAt (length mesh) (length sizes) (q .number) file at)
+
+-- ---- what stands before the steps
+
+-- a test that fails or passes stands before both
+after-need : {A B : Type 0} (b : Bool) (n : ℕ) (j : Judged A) (f : A → Judged B) → _>>=_ (_>>_ (need b n) j) f ≡ _>>_ (need b n) (_>>=_ j f)
+after-need true n j f = refl
+after-need false n j f = refl
+
+module _ (head file : List ℕ) where
+  abbrev h : Header
+  h = numbersOf head
+
+  abbrev rest : ℕ → Phase → Judged CheckAnswer
+  rest at p = restOf h file p at
+
+  -- THE STARTING SHARDING, AND THE REST
+  pub start-on : (mesh sizes : List ℕ) (at : ℕ) → restOf h file (inStart mesh sizes) at
+      ≡ _>>=_ (shardingAt (carriesReplicated (edition head)) (axisCount head) (rankCount head) at file at)
+      (λ r. _>>=_ (afterStart head (r .next) mesh sizes (r .value)) (rest (r .next)))
+  unfolding afterStart
+  start-on mesh sizes at = bind-same (shardingAt (carriesReplicated (edition head)) (axisCount head) (rankCount head) at file at) _ _ (λ r e.
+      sym (after-need (eqb (stepsOffset head) (r .next)) 6 _ _
+      ∙ ap (_>>_ (need (eqb (stepsOffset head) (r .next)) 6)) (go (r .value) (r .next) (judgeOpening (edition head) mesh sizes (r .value)))))
+    where
+      go : (s : Sharding) (end : ℕ) (j : Judged (Unit {0}))
+          → _>>=_ (_>>_ j (accept (outermost mesh sizes (stepCount head) 0 1 (shardWords mesh sizes s) s))) (rest end)
+          ≡ _>>_ j (outerRest (stepCount head) file mesh sizes (stepCount head) 1 0 (shardWords mesh sizes s) end s)
+      go s end (accept t) = outermost-on h file mesh sizes (stepCount head) 0 1 (shardWords mesh sizes s) end s (omega arith)
+      go s end (refuse a k) = refl
+
+  -- THE SIZES OF THE TABLE, AND THE REST
+  pub table-on : (mesh : List ℕ) (at : ℕ) → restOf h file (inTable mesh) at
+      ≡ _>>=_ (sizesAt mostWords 12 13 (rankCount head) at file at) (λ r. _>>=_ (afterTable head (r .next) mesh (r .value)) (rest (r .next)))
+  unfolding afterTable
+  table-on mesh at = bind-same (sizesAt mostWords 12 13 (rankCount head) at file at) _ _ (λ r e.
+      sym (after-need (eqb (shardingOffset head) (r .next)) 6 (accept (inStart mesh (r .value))) (rest (r .next))))
+
+  table-from : (mesh : List ℕ) (at : ℕ) → _>>=_ (toTable head at mesh) (rest at) ≡ tableFrom h file mesh at
+  table-from mesh at = after-need (eqb (tensorOffset head) at) 6 (accept (inTable mesh)) (rest at)
+
+  -- A NUMBER OF THE ORDER, AND THE REST
+  pub number-on : (mesh : List ℕ) (t : Numbers) (at : ℕ) → t .count < devices mesh → restOf h file (inOrder mesh t) at
+      ≡ _>>=_ (numberAt file at) (λ r. _>>=_ (afterNumber head (r .next) mesh t (r .value)) (rest (r .next)))
+  unfolding afterNumber
+  number-on mesh t at l = ap (λ (k : ℕ). left k (tab k numbers)) whole ∙ go (decLt (length file) (at + 2)) (devices mesh - t .count - 1) whole
+      ∙ sym (after-need (leb (at + 2) (length file)) 7 (accept (record { value = u16At file at; next = at + 2 })) _)
+    where
+      numbers : ℕ → ℕ
+      numbers i = u16At file (at + 2 * i)
+
+      whole : devices mesh - t .count ≡ suc (devices mesh - t .count - 1)
+      whole = omega arith
+
+      left : ℕ → List ℕ → Judged CheckAnswer
+      left k l = _>>_ (need (leb (at + 2 * k) (length file)) 7) (_>>_ (need (ordered (devices mesh) t l) 19) (tableFrom h file mesh (at + 2 * k)))
+
+      then : Judged CheckAnswer
+      then = _>>=_ (orderThen (ltb (t .count + 1) (devices mesh)) head (at + 2) mesh (counted (devices mesh) t (u16At file at))) (rest (at + 2))
+
+      go : Dec (length file < at + 2) → (m : ℕ) → devices mesh - t .count ≡ suc m → left (suc m) (tab (suc m) numbers) ≡ _>>_ (need (leb (at + 2) (length file)) 7) then
+      go (yes s) m e = rw (lt-leb (at + 2 * suc m) (length file) (omega arith), lt-leb (at + 2) (length file) s) refl
+      go (no s) zero e =
+          let z : at + 0 ≡ at = omega arith in
+          let last : ltb (t .count + 1) (devices mesh) ≡ false = le-ltb (t .count + 1) (devices mesh) (omega (arith, e)) in
+          let turn : then ≡ _>>_ (need (ordered (devices mesh) t (u16At file at ∷ [])) 19) (tableFrom h file mesh (at + 2)) =
+          ap (λ (b : Bool). _>>=_ (orderThen b head (at + 2) mesh (counted (devices mesh) t (u16At file at))) (rest (at + 2))) last
+          ∙ after-need (ordered (devices mesh) t (u16At file at ∷ [])) 19 (toTable head (at + 2) mesh) (rest (at + 2))
+          ∙ ap (_>>_ (need (ordered (devices mesh) t (u16At file at ∷ [])) 19)) (table-from mesh (at + 2)) in
+          ap (_>>_ (need (leb (at + 2) (length file)) 7))
+          (ap (λ (k : ℕ). _>>_ (need (ordered (devices mesh) t (u16At file k ∷ [])) 19) (tableFrom h file mesh (at + 2))) z ∙ sym turn)
+      go (no s) (suc m) e =
+          let z : at + 2 * 0 ≡ at = omega arith in
+          let more : ltb (t .count + 1) (devices mesh) ≡ true = lt-ltb (t .count + 1) (devices mesh) (omega (arith, e)) in
+          let left-over : suc m ≡ devices mesh - (t .count + 1) = omega (arith, e) in
+          let end : at + 2 * suc (suc m) ≡ at + 2 + 2 * (devices mesh - (t .count + 1)) = omega (arith, e) in
+          let o : ordered (devices mesh) t (tab (suc (suc m)) numbers)
+          ≡ ordered (devices mesh) (counted (devices mesh) t (u16At file at)) (tab (devices mesh - (t .count + 1)) (λ i. u16At file (at + 2 + 2 * i))) =
+          ap (ordered (devices mesh) t) (tab-first (suc m) numbers)
+          ∙ ap₂ (λ (k : ℕ) (l : List ℕ). ordered (devices mesh) (counted (devices mesh) t (u16At file k)) l) z
+          (tab-cong (suc m) (λ i. numbers (suc i)) (λ i. u16At file (at + 2 + 2 * i)) (λ i b. let k : at + 2 * suc i ≡ at + 2 + 2 * i = omega arith in ap (u16At file) k)
+          ∙ ap (λ (k : ℕ). tab k (λ i. u16At file (at + 2 + 2 * i))) left-over) in
+          (λ i. _>>_ (need (leb (end i) (length file)) 7) (_>>_ (need (o i) 19) (tableFrom h file mesh (end i))))
+          ∙ sym (ap (λ (b : Bool). _>>_ (need b 7) then) (le-leb (at + 2) (length file) (omega (arith, s)))
+          ∙ ap (λ (b : Bool). _>>=_ (orderThen b head (at + 2) mesh (counted (devices mesh) t (u16At file at))) (rest (at + 2))) more)
+
+  -- THE SIZES OF THE MESH, AND THE REST
+  pub mesh-on : (at : ℕ) → restOf h file inMesh at
+      ≡ _>>=_ (sizesAt mostDevices 10 11 (axisCount head) at file at) (λ r. _>>=_ (afterMesh head (r .next) (r .value)) (rest (r .next)))
+  unfolding afterMesh orderAt
+  mesh-on at = bind-same (sizesAt mostDevices 10 11 (axisCount head) at file at) _ _ (λ r e.
+      go (carriesOrder (edition head)) (r .value) (r .next)
+      (omega (arith, section-facts mostDevices 10 11 (axisCount head) at file at r (lit≤ tt) e .sizes .few)))
+    where
+      go : (carried : Bool) (mesh : List ℕ) (end : ℕ) → devices mesh ≤ mostDevices
+          → _>>=_ (orderAt carried (devices mesh) file end) (λ (o : Read (List ℕ)). tableFrom h file mesh (o .next))
+          ≡ _>>=_ (meshThen carried head end mesh) (rest end)
+      go false mesh end few = sym (table-from mesh end)
+      go true mesh end few =
+          let d : devices mesh ≡ devices mesh - 0 = omega arith in
+          let f : ℕ → ℕ = λ i. u16At file (end + 2 * i) in
+          let o : orderAllowed (devices mesh) (tab (devices mesh) f) ≡ ordered (devices mesh) noNumbers (tab (devices mesh - 0) f) =
+          sym (ordered-is (devices mesh) (tab (devices mesh) f) few (length-tab (devices mesh) f)) ∙ ap (λ (m : ℕ). ordered (devices mesh) noNumbers (tab m f)) d in
+          after-need (leb (end + 2 * devices mesh) (length file)) 7 _ _
+          ∙ ap (_>>_ (need (leb (end + 2 * devices mesh) (length file)) 7)) (after-need (orderAllowed (devices mesh) (tab (devices mesh) f)) 19 _ _)
+          ∙ (λ i. _>>_ (need (leb (end + 2 * d i) (length file)) 7) (_>>_ (need (o i) 19) (tableFrom h file mesh (end + 2 * d i))))
