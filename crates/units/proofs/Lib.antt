@@ -3,3 +3,4 @@ pub mod Parts
 pub mod Orders
 pub mod Steps
 pub mod Rests
+pub mod Checks

@@ -317,7 +317,7 @@ module _ (h : Header) (file : List ℕ) where
 -- ---- what stands before the steps
 
 -- a test that fails or passes stands before both
-after-need : {A B : Type 0} (b : Bool) (n : ℕ) (j : Judged A) (f : A → Judged B) → _>>=_ (_>>_ (need b n) j) f ≡ _>>_ (need b n) (_>>=_ j f)
+pub after-need : {A B : Type 0} (b : Bool) (n : ℕ) (j : Judged A) (f : A → Judged B) → _>>=_ (_>>_ (need b n) j) f ≡ _>>_ (need b n) (_>>=_ j f)
 after-need true n j f = refl
 after-need false n j f = refl
 
