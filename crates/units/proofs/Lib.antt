@@ -4,3 +4,4 @@ pub mod Orders
 pub mod Steps
 pub mod Rests
 pub mod Checks
+pub mod Line

@@ -65,7 +65,7 @@ use Rattle.units.proofs.Orders.{tab-first, countedAll, ordered, ordered
 use Rattle.units.proofs.Steps.{bind-same, passes, outerRest, stepsRest, soFar, closeRest, itemDone, first}
 
 -- `headRead` is `headAt`, and where the next byte is
-head-read : (depth k : ℕ) (f : List ℕ) (at : ℕ) → headRead depth k f at ≡ _>>=_ (headAt depth k f at) (λ h. accept (record { value = h; next = at + 2 }))
+pub head-read : (depth k : ℕ) (f : List ℕ) (at : ℕ) → headRead depth k f at ≡ _>>=_ (headAt depth k f at) (λ h. accept (record { value = h; next = at + 2 }))
 unfolding headAt
 head-read depth k f at = go (positiveAt k f at)
   where
@@ -86,6 +86,11 @@ head-read depth k f at = go (positiveAt k f at)
         (λ (h : Head). accept (record { value = h; next = at + 2 }))
     go (refuse x y) = refl
     go (accept c) = number depth c (positiveAt k f (at + 1))
+
+-- what follows an item
+abbrev pub afterItem : (mesh sizes : List ℕ) → Standing → Item → Judged Phase
+afterItem mesh sizes q (opens a) = afterHead mesh sizes q a
+afterItem mesh sizes q (takes t) = afterPlain mesh sizes q t
 
 module _ (h : Header) (file : List ℕ) where
   abbrev pub stepsFrom : (mesh sizes : List ℕ) → Sharding → ℕ → Judged CheckAnswer
@@ -269,18 +274,13 @@ module _ (h : Header) (file : List ℕ) where
               let f : sameSharding (w .sharding) (q .sharding) ≡ false = nT→false (sameSharding (w .sharding) (q .sharding)) (T-not (sameSharding (w .sharding) (q .sharding)) t) in
               rw f refl
 
-      -- what follows an item
-      pub afterItem : Item → Judged Phase
-      afterItem (opens a) = afterHead mesh sizes q a
-      afterItem (takes t) = afterPlain mesh sizes q t
-
       abbrev onward : Read Item → Judged CheckAnswer
-      onward r = _>>=_ (afterItem (r .value)) (λ (p : Phase). restOf p (r .next))
+      onward r = _>>=_ (afterItem mesh sizes q (r .value)) (λ (p : Phase). restOf p (r .next))
 
       -- A STEP OR THE HEAD OF A REPEAT, AND THE REST
       pub steps-on : (at : ℕ) → restOf (inSteps mesh sizes q) at
           ≡ _>>=_ (itemRead (depthIn (q .frames)) (length mesh) (length sizes) (q .number) file at) onward
-      unfolding afterItem plainAt
+      unfolding plainAt
       steps-on at = first (h .steps) file mesh sizes (q .frames) (q .behind) (q .number) (q .ran) (q .largest) at (q .sharding) ∙ go (isRepeat file at) refl
         where
           item : Judged StepsRead
