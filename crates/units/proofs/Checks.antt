@@ -9,7 +9,7 @@ use native.Mathlib.Decide.{decLt}
 use borrow.Author.Tests.{le-leb, lt-leb, eq-eqb}
 use lib.ListN.{length, getD, take, replicate, length-append, length-replicate, List·getD-append}
 use lib.Seq.{take-length, length-take-le, getD-take}
-use lib.Dec.{leb, eqb, lit≤, lit<}
+use lib.Dec.{leb, eqb, eqb→eq, lit≤, lit<}
 use Rattle.rules.specs.Lists.{inTurn, product}
 use Rattle.rules.specs.Mesh.{devices}
 use Rattle.rules.specs.Limits.{mostDevices, mostWords, leastBytes, mostBytes, mostSteps, everyKind, present}
@@ -21,7 +21,7 @@ use Rattle.rules.specs.PlanFile.{editionKnown, axesAllowed, rankAllowed, judgeH
 use Rattle.rules.specs.PlanFile.{carriesReplicated, shardingAt, judgeStart, oneMeaning, Front, judgeFront, judgeFrontBy, Outermost, outermostAt, Plan, judge, judgeBy, announced, announcedShape, room}
 use Rattle.rules.specs.Calls.{CheckAnswer, checkOf}
 use Rattle.laws.specs.Demands.{largestOn}
-use Rattle.laws.proofs.Judging.{then-assoc, bind-assoc}
+use Rattle.laws.proofs.Judging.{need-inv, then-assoc, bind-assoc}
 use Rattle.laws.proofs.Turns.{first-largest}
 use Rattle.laws.proofs.Repeats.{ToldOutermost, outermost-tells}
 use Rattle.laws.proofs.Accepted.{room-running}
@@ -166,6 +166,10 @@ module _ (file : List ℕ) where
       ∙ bind-same (meshAndTableAt (carriesOrder (edition file)) (axisCount file) (rankCount file) file) _ _ (λ m e. sharding-of (m .value) (m .next))
       ∙ mesh-of)
 
+-- a header that is refused
+pub check-stops : (file : List ℕ) {a k : ℕ} → judgeHeader file ≡ refuse a k → checkOf file ≡ refuse a k
+check-stops file e = check-is file ∙ ap (λ (j : Judged (Unit {0})). _>>_ j (_>>_ (need (eqb (meshOffset file) leastBytes) 6) (restOf (numbersOf file) file inMesh leastBytes))) e
+
 -- ---- the header's judgement, by its bytes and the length
 
 -- the bytes of a header are those of the file
@@ -234,4 +238,21 @@ pub header-long : (head : List ℕ) (n : ℕ) → mostBytes < n → judgeHeader 
 header-long head n h = too-long (headed head n) (omega (arith, headed-long head n))
 
 pub check-long : (file : List ℕ) → mostBytes < length file → checkOf file ≡ refuse 2 0
-check-long file h = check-is file ∙ ap (λ (j : Judged (Unit {0})). _>>_ j (_>>_ (need (eqb (meshOffset file) leastBytes) 6) (restOf (numbersOf file) file inMesh leastBytes))) (too-long file h)
+check-long file h = check-stops file (too-long file h)
+
+-- 1
+pub header-short : (head : List ℕ) (n : ℕ) → n < leastBytes → judgeHeader (headed head n) ≡ refuse 1 0
+header-short head n h = too-short (headed head n) (omega (arith, headed-long head n))
+
+pub check-short : (file : List ℕ) → length file < leastBytes → checkOf file ≡ refuse 1 0
+check-short file h = check-stops file (too-short file h)
+
+-- the length is what the header says
+pub total-is : (file : List ℕ) → judgeHeader file ≡ accept tt → totalLength file ≡ length file
+unfolding judgeHeaderBy
+total-is file e =
+    let a = need-inv 0 (leb leastBytes (length file)) 1 _ tt e in
+    let b = need-inv 0 (leb (length file) mostBytes) 2 _ tt (a .1) in
+    let c = need-inv 0 (editionKnown present (edition file)) 3 _ tt (b .1) in
+    let d = need-inv 0 (eqb (totalLength file) (length file)) 4 _ tt (c .1) in
+    eqb→eq (totalLength file) (length file) (d .0)

@@ -97,8 +97,8 @@ use Rattle.units.proofs.Parts.{
   item-none,
 }
 use Rattle.units.proofs.Steps.{passes}
-use Rattle.units.proofs.Rests.{head-read, afterItem, restOf, steps-on, start-on, table-on, number-on, mesh-on}
-use Rattle.units.proofs.Checks.{check-is, numbers-same, total-same, header-same, header-long, check-long}
+use Rattle.units.proofs.Rests.{head-read, afterItem, after-need, restOf, steps-on, start-on, table-on, number-on, mesh-on}
+use Rattle.units.proofs.Checks.{check-is, check-stops, numbers-same, total-same, total-is, header-same, header-short, check-short, header-long, check-long}
 
 -- a reader that reads a part as it reads the file around it
 abbrev Unitary : {A : Type 0} → (List ℕ → ℕ → Judged (Read A)) → Type 0
@@ -431,3 +431,158 @@ module _ (file : List ℕ) (header-is : judgeHeader file ≡ accept tt) where
   end-in (atEnd mesh sizes largest s) u a =
       a .same ∙ rw (eq-eqb (length (a .pre)) (length file) (sym (ap length (a .file-is) ∙ whole-long (a .pre) u [] ∙ omega (arith, ap length (a .waits))))) refl
   end-in (stopped x k) u a = a .same
+
+  check-behind : checkOf file ≡ behind
+  check-behind =
+      check-is file ∙ ap (λ (j : Judged (Unit {0})). _>>_ j (_>>_ (need (eqb (meshOffset file) leastBytes) 6) (restOf (numbersOf file) file inMesh leastBytes))) header-is
+      ∙ ap (λ (x : Header). _>>_ (need (eqb (x .«mesh_at») leastBytes) 6) (restOf x file inMesh leastBytes)) (sym (numbers-same file))
+
+-- ---- a file from its header on
+
+-- the state, its header known
+abbrev knows : (head : List ℕ) → (seen : ℕ) → Waiting → State
+knows head seen w = held w seen head
+
+fed-on : (head : List ℕ) (n : ℕ) (w : Waiting) (b : ℕ) → leastBytes ≤ length head → n ≤ mostBytes
+    → fed b (knows head n w) ≡ knows head (n + 1) (unitIn head (n + 1) (w .unit ++ b ∷ []) (w .phase))
+unfolding fed
+fed-on head n w b long few = rw (le-ltb mostBytes n few, le-ltb (length head) leastBytes long) refl
+
+module _ (file : List ℕ) (few : length file ≤ mostBytes) where
+  abbrev first : List ℕ
+  first = take leastBytes file
+
+  -- whatever is held: 1 to 5 go first
+  walk-refused : {a k : ℕ} → judgeHeader file ≡ refuse a k → leastBytes ≤ length first → (rest : List ℕ) (n : ℕ) (w : Waiting) → n + length rest ≡ length file
+      → endOf (pushed (knows first n w) rest) ≡ refuse a k
+  unfolding endOf
+  walk-refused e l [] n w c =
+      let z : n ≡ length file = omega (arith, c) in
+      ap (λ (j : Judged (Unit {0})). _>>_ j (answerIn first (w .phase))) (ap (λ (m : ℕ). judgeHeader (headed first m)) z ∙ header-same file ∙ e)
+  walk-refused e l (b ∷ rest) n w c =
+      ap (λ (s : State). endOf (pushed s rest)) (fed-on first n w b l (omega arith)) ∙ walk-refused e l rest (n + 1) (unitIn first (n + 1) (w .unit ++ b ∷ []) (w .phase)) (omega arith)
+
+  -- the header is judged: the rest as it comes
+  walk : (e : judgeHeader file ≡ accept tt) → leastBytes ≤ length first → (rest : List ℕ) (n : ℕ) (w : Waiting) → n + length rest ≡ length file → AtW file e w rest
+      → endOf (pushed (knows first n w) rest) ≡ checkOf file
+  unfolding endOf
+  walk e l [] n w c a =
+      let z : n ≡ length file = omega (arith, c) in
+      ap (λ (j : Judged (Unit {0})). _>>_ j (answerIn first (w .phase))) (ap (λ (m : ℕ). judgeHeader (headed first m)) z ∙ header-same file ∙ e)
+      ∙ sym (end-in file e (w .phase) (w .unit) a) ∙ sym (check-behind file e)
+  walk e l (b ∷ rest) n w c a =
+      ap (λ (s : State). endOf (pushed s rest)) (fed-on first n w b l (omega arith))
+      ∙ walk e l rest (n + 1) (unitIn first (n + 1) (w .unit ++ b ∷ []) (w .phase)) (omega arith)
+      (byte-in file e (w .phase) (w .unit) rest b (n + 1) a
+      (omega (arith, ap length (a .file-is), whole-long (a .pre) (w .unit) (b ∷ rest), length-append (w .unit) (b ∷ []), c)))
+
+  -- the header is whole
+  header-read : (bytes rest : List ℕ) → file ≡ bytes ++ rest → length bytes ≡ leastBytes → endOf (pushed (knows bytes leastBytes (turned (afterHeader bytes))) rest) ≡ checkOf file
+  unfolding afterHeader
+  header-read bytes rest f l = go (judgeHeader file) refl
+    where
+      first-is : bytes ≡ first
+      first-is = sym (ap (take leastBytes) f ∙ take-at bytes rest leastBytes l)
+
+      long : leastBytes ≤ length first
+      long = omega (arith, ap length first-is)
+
+      count : leastBytes + length rest ≡ length file
+      count = omega (arith, ap length f, length-append bytes rest)
+
+      in-mesh : (e : judgeHeader file ≡ accept tt) (b : Bool) → Ready file e (_>>_ (need b 6) (accept inMesh))
+      in-mesh e true = (tt, no-sizes mostDevices 10 11 (axisCount first) (axes-some file e))
+      in-mesh e false = tt
+
+      ready : (e : judgeHeader file ≡ accept tt) → AtW file e (turned (afterHeader first)) rest
+      ready e =
+          let j : judgeHeader (headed first (totalLength first)) ≡ accept tt =
+          ap (λ (m : ℕ). judgeHeader (headed first m)) (total-same file ∙ total-is file e) ∙ header-same file ∙ e in
+          let k : afterHeader first ≡ _>>_ (need (eqb (meshOffset first) leastBytes) 6) (accept inMesh) =
+          ap (λ (i : Judged (Unit {0})). _>>_ i (_>>_ (need (eqb (meshOffset first) leastBytes) 6) (accept inMesh))) j in
+          let z : leastBytes ≡ length first + 0 = omega (arith, ap length first-is) in
+          let g : file ≡ first ++ rest = f ∙ ap (λ (x : List ℕ). x ++ rest) first-is in
+          subst (λ (i : Judged Phase). AtW file e (turned i) rest) (sym k)
+          (stands file e first [] rest g (_>>_ (need (eqb (meshOffset first) leastBytes) 6) (accept inMesh)) (in-mesh e (eqb (meshOffset first) leastBytes))
+          (ap (λ (n : ℕ). _>>_ (need (eqb (meshOffset first) leastBytes) 6) (restOf (numbersOf first) file inMesh n)) z
+          ∙ sym (after-need (eqb (meshOffset first) leastBytes) 6 (accept inMesh) (λ p. restOf (numbersOf first) file p (length first + 0)))))
+
+      go : (j : Judged (Unit {0})) → judgeHeader file ≡ j → endOf (pushed (knows bytes leastBytes (turned (afterHeader bytes))) rest) ≡ checkOf file
+      go (accept t) e = ap (λ (x : List ℕ). endOf (pushed (knows x leastBytes (turned (afterHeader x))) rest)) first-is ∙ walk e long rest leastBytes (turned (afterHeader first)) count (ready e)
+      go (refuse a k) e =
+          ap (λ (x : List ℕ). endOf (pushed (knows x leastBytes (turned (afterHeader x))) rest)) first-is ∙ walk-refused e long rest leastBytes (turned (afterHeader first)) count
+          ∙ sym (check-stops file e)
+
+  -- bytes of the header
+  abbrev begins : List ℕ → State
+  begins bytes = record { over = false; seen = length bytes; head = bytes; unit = []; phase = inHeader }
+
+  walk-header : (rest bytes : List ℕ) → file ≡ bytes ++ rest → length bytes < leastBytes → endOf (pushed (begins bytes) rest) ≡ checkOf file
+  unfolding endOf fed unitIn
+  walk-header [] bytes f l =
+      let z : length file ≡ length bytes = ap length (f ∙ append-nil bytes) in
+      ap (λ (j : Judged (Unit {0})). _>>_ {B = CheckAnswer} j (refuse 7 0)) (header-short bytes (length bytes) l) ∙ sym (check-short file (omega (arith, z)))
+  walk-header (b ∷ rest) bytes f l = go (decLt (length (bytes ++ b ∷ [])) leastBytes) (walk-header rest (bytes ++ b ∷ []) g)
+    where
+      g : file ≡ (bytes ++ b ∷ []) ++ rest
+      g = f ∙ sym (append-assoc bytes (b ∷ []) rest)
+
+      n-is : length bytes + 1 ≡ length (bytes ++ b ∷ [])
+      n-is = sym (length-append bytes (b ∷ []))
+
+      fed-is : fed b (begins bytes) ≡ held (tried (need (leb leastBytes (length (bytes ++ b ∷ []))) 7) (record { unit = []; phase = inHeader }) (λ t. afterHeader (bytes ++ b ∷ [])))
+          (length (bytes ++ b ∷ [])) (bytes ++ b ∷ [])
+      fed-is = rw (le-ltb mostBytes (length bytes) (omega arith), lt-ltb (length bytes) leastBytes l, n-is) refl
+
+      go : Dec (length (bytes ++ b ∷ []) < leastBytes) → (length (bytes ++ b ∷ []) < leastBytes → endOf (pushed (begins (bytes ++ b ∷ [])) rest) ≡ checkOf file)
+          → endOf (pushed (begins bytes) (b ∷ rest)) ≡ checkOf file
+      go (yes s) on =
+          ap (λ (s : State). endOf (pushed s rest)) (fed-is ∙ ap (λ (t : Bool). held (tried (need t 7) (record { unit = []; phase = inHeader }) (λ t. afterHeader (bytes ++ b ∷ [])))
+          (length (bytes ++ b ∷ [])) (bytes ++ b ∷ [])) (lt-leb leastBytes (length (bytes ++ b ∷ [])) s))
+          ∙ on s
+      go (no d) on =
+          let m : length (bytes ++ b ∷ []) ≡ leastBytes = omega (arith, d, n-is) in
+          ap (λ (s : State). endOf (pushed s rest)) (fed-is ∙ ap (λ (t : Bool). held (tried (need t 7) (record { unit = []; phase = inHeader }) (λ t. afterHeader (bytes ++ b ∷ [])))
+          (length (bytes ++ b ∷ [])) (bytes ++ b ∷ [])) (le-leb leastBytes (length (bytes ++ b ∷ [])) (omega (arith, d))))
+          ∙ ap (λ (n : ℕ). endOf (pushed (knows (bytes ++ b ∷ []) n (turned (afterHeader (bytes ++ b ∷ [])))) rest)) m
+          ∙ header-read (bytes ++ b ∷ []) rest g m
+
+-- ---- a file of any length
+
+-- past the limit the count stays, and 2 goes first
+walk-long : (rest : List ℕ) (n : ℕ) (head : List ℕ) (w : Waiting) → mostBytes < n + length rest → endOf (pushed (held w n head) rest) ≡ refuse 2 0
+unfolding endOf fed
+walk-long [] n head w l = ap (λ (j : Judged (Unit {0})). _>>_ j (answerIn head (w .phase))) (header-long head n (omega arith))
+walk-long (b ∷ rest) n head w l = go (decLt mostBytes n) (walk-long rest n head w)
+    (walk-long rest (n + 1) (headIn head b) (unitIn (headIn head b) (n + 1) (w .unit ++ b ∷ []) (w .phase)))
+  where
+    go : Dec (mostBytes < n) → (mostBytes < n + length rest → endOf (pushed (held w n head) rest) ≡ refuse 2 0)
+        → (mostBytes < n + 1 + length rest → endOf (pushed (held (unitIn (headIn head b) (n + 1) (w .unit ++ b ∷ []) (w .phase)) (n + 1) (headIn head b)) rest) ≡ refuse 2 0)
+        → endOf (pushed (fedIf (ltb mostBytes n) b (held w n head)) rest) ≡ refuse 2 0
+    go (yes s) stay on = ap (λ (t : Bool). endOf (pushed (fedIf t b (held w n head)) rest)) (lt-ltb mostBytes n s) ∙ stay (omega arith)
+    go (no d) stay on = ap (λ (t : Bool). endOf (pushed (fedIf t b (held w n head)) rest)) (le-ltb mostBytes n (omega (arith, d))) ∙ on (omega arith)
+
+answers : (bytes : List ℕ) → endOf (stateAfter bytes) ≡ checkOf bytes
+answers bytes = go (decLt mostBytes (length bytes))
+  where
+    go : Dec (mostBytes < length bytes) → endOf (stateAfter bytes) ≡ checkOf bytes
+    go (yes l) = walk-long bytes 0 [] (record { unit = []; phase = inHeader }) (omega arith) ∙ sym (check-long bytes l)
+    go (no d) = walk-header bytes (omega (arith, d)) bytes [] refl (omega arith)
+
+-- after the end nothing changes
+after-end : (s : State) (piece : List ℕ) → pushed (closed s) piece ≡ closed s
+unfolding fed
+after-end s [] = refl
+after-end s (b ∷ piece) = after-end s piece
+
+-- THE SLOW LINE
+pub slow-line : SlowLine
+unfolding endOf
+slow-line = record {
+  answers = answers;
+  cuts = λ s a b. sym (in-turn-append fed a b s);
+  empty = λ s. refl;
+  after-end = after-end;
+  again = λ s. refl;
+  closed-twice = λ s. refl;
+}
