@@ -1,16 +1,16 @@
 -- The check of a whole file as its header's judgement and the rest (`check-is`), and the header's judgement by its 18 bytes and the length of the file
 -- alone (`header-same`). Assumes nothing.
-use Prim.Native.Nat.{ℕ, zero, suc, _+_, _*_, _≤_, _<_, max}
-use mathlib.Core.Path.{_≡_, refl, sym, ap, ap₂, _∙_, subst}
-use mathlib.Core.Bool.{Bool, true, false}
-use mathlib.Core.List.{List, [], _∷_, _++_}
+use Prim.Native.Nat.{ℕ, _+_, _*_, _≤_, _<_, max}
+use mathlib.Core.Path.{_≡_, refl, sym, ap, ap₂, _∙_}
+use mathlib.Core.Bool.{Bool}
+use mathlib.Core.List.{List, _++_}
 use native.Mathlib.Omega.{arith}
 use native.Mathlib.Decide.{decLt}
 use borrow.Author.Tests.{le-leb, lt-leb, eq-eqb}
 use lib.ListN.{length, getD, take, replicate, length-append, length-replicate, List·getD-append}
 use lib.Seq.{take-length, length-take-le, getD-take}
 use lib.Dec.{leb, eqb, eqb→eq, lit≤, lit<}
-use Rattle.rules.specs.Lists.{inTurn, product}
+use Rattle.rules.specs.Lists.{inTurn}
 use Rattle.rules.specs.Mesh.{devices}
 use Rattle.rules.specs.Limits.{mostDevices, mostWords, leastBytes, mostBytes, mostSteps, everyKind, present}
 use Rattle.rules.specs.Sharding.{Sharding, shardSizes}
@@ -18,7 +18,7 @@ use Rattle.rules.specs.Collectives.{Step, after}
 use Rattle.rules.specs.Refusals.{Judged, accept, refuse, _>>=_, _>>_, need}
 use Rattle.rules.specs.PlanFile.{Read, u16At, edition, axisCount, rankCount, stepCount, meshOffset, tensorOffset, shardingOffset, stepsOffset, totalLength}
 use Rattle.rules.specs.PlanFile.{editionKnown, axesAllowed, rankAllowed, judgeHeader, judgeHeaderBy, sizesAt, carriesOrder, orderAt, MeshAndTable, meshAndTableAt, meshAndTableAtBy}
-use Rattle.rules.specs.PlanFile.{carriesReplicated, shardingAt, judgeStart, oneMeaning, Front, judgeFront, judgeFrontBy, Outermost, outermostAt, Plan, judge, judgeBy, announced, announcedShape, room}
+use Rattle.rules.specs.PlanFile.{carriesReplicated, shardingAt, judgeStart, oneMeaning, Front, judgeFront, judgeFrontBy, Outermost, outermostAt, Plan, judgeBy, announced, announcedShape, room}
 use Rattle.rules.specs.Calls.{CheckAnswer, checkOf}
 use Rattle.laws.specs.Demands.{largestOn}
 use Rattle.laws.proofs.Judging.{need-inv, then-assoc, bind-assoc}
@@ -30,8 +30,8 @@ use Rattle.reader.specs.declared.Header.{Header}
 use Rattle.opening.specs.Opening.{judgeOpening}
 use Rattle.blocks.specs.Blocks.{shardWords}
 use Rattle.units.specs.Units.{inMesh, headed}
-use Rattle.units.proofs.Steps.{bind-same, passes, outerRest}
-use Rattle.units.proofs.Rests.{after-need, stepsFrom, startRest, startFrom, tableRest, tableFrom, orderFrom, meshRest, restOf}
+use Rattle.units.proofs.Steps.{bind-same, outerRest}
+use Rattle.units.proofs.Rests.{after-need, stepsFrom, startFrom, tableFrom, orderFrom, meshRest, restOf}
 
 -- ---- the check is the header and the rest
 

@@ -2,27 +2,26 @@
 -- the state says (`At`), whatever the next byte is (`turn`). Assumes nothing.
 use Prim.Native.Nat.{ℕ, zero, suc, _+_, _-_, _*_, _≤_, _<_, max}
 use mathlib.Core.Path.{_≡_, refl, sym, ap, ap₂, _∙_, subst}
-use mathlib.Core.Logic.{_≢_}
 use mathlib.Core.Bool.{Bool, true, false, not, _&&_}
 use mathlib.Core.List.{List, [], _∷_, _++_, append-assoc, append-nil}
 use native.Mathlib.Omega.{arith}
 use native.Mathlib.Decide.{decLt}
 use borrow.Author.Tests.{lt-ltb, le-ltb, le-leb, lt-leb, eq-eqb, ne-eqb}
-use lib.ListN.{length, getD, take, length-append}
-use lib.Seq.{take-at, take-all}
+use lib.ListN.{length, take, length-append}
+use lib.Seq.{take-at}
 use lib.Dec.{T, ltb, leb, eqb, ltb→lt, lit≤}
-use Rattle.rules.specs.Lists.{pick, inTurn}
+use Rattle.rules.specs.Lists.{pick}
 use Rattle.rules.specs.Mesh.{devices}
 use Rattle.rules.specs.Limits.{mostDevices, mostWords, mostRun, mostDepth, leastBytes, mostBytes}
 use Rattle.rules.specs.Sharding.{Sharding}
 use Rattle.rules.specs.Collectives.{Step}
 use Rattle.rules.specs.Refusals.{Judged, accept, refuse, _>>=_, _>>_, need, needAt}
 use Rattle.rules.specs.PlanFile.{Read, u16At, edition, axisCount, rankCount, stepCount, meshOffset, tensorOffset, shardingOffset, stepsOffset, totalLength}
-use Rattle.rules.specs.PlanFile.{judgeHeader, judgeHeaderBy, sizesAt, carriesOrder, carriesReplicated, listAt, listsAt, shardingAt, stepAt, judgeStep, sameSharding, isRepeat}
+use Rattle.rules.specs.PlanFile.{judgeHeader, sizesAt, carriesOrder, carriesReplicated, listAt, listsAt, shardingAt, stepAt, judgeStep, sameSharding, isRepeat}
 use Rattle.rules.specs.Calls.{CheckAnswer, checkOf}
 use Rattle.laws.proofs.Lists.{in-turn-append}
-use Rattle.laws.proofs.Judging.{never, accept-inj}
-use Rattle.laws.proofs.Accepted.{HeaderFacts, header-facts, section-facts}
+use Rattle.laws.proofs.Judging.{never}
+use Rattle.laws.proofs.Accepted.{header-facts, section-facts}
 use Rattle.reader.specs.Reading.{numbersOf}
 use Rattle.reader.specs.declared.Header.{Header}
 use Rattle.opening.specs.Opening.{judgeOpening}
@@ -42,7 +41,6 @@ use Rattle.units.specs.Units.{
   stopped,
   State,
   counted,
-  noNumbers,
   outermost,
   headed,
   toTable,
@@ -67,8 +65,6 @@ use Rattle.units.specs.Units.{
   held,
   fed,
   fedIf,
-  deaf,
-  begun,
   pushed,
   closed,
   answerIn,
@@ -96,7 +92,6 @@ use Rattle.units.proofs.Parts.{
   itemRead,
   item-none,
 }
-use Rattle.units.proofs.Steps.{passes}
 use Rattle.units.proofs.Rests.{head-read, afterItem, after-need, restOf, steps-on, start-on, table-on, number-on, mesh-on}
 use Rattle.units.proofs.Checks.{check-is, check-stops, numbers-same, total-same, total-is, header-same, header-short, check-short, header-long, check-long}
 

@@ -8,10 +8,10 @@ use mathlib.Core.Logic.{_≢_}
 use mathlib.Core.List.{List, [], _∷_, _++_}
 use native.Mathlib.Omega.{arith}
 use native.Mathlib.Decide.{decLt, ℕ-discrete}
-use borrow.Author.Tests.{lt-ltb, le-ltb, le-leb, lt-leb, eq-eqb}
+use borrow.Author.Tests.{lt-ltb, le-leb, lt-leb, eq-eqb}
 use lib.ListN.{length, getD, take, drop, length-append, length-drop, List·getD-append}
 use lib.Seq.{take-append-le, drop-append-le, drop-append-add, getD-append-add}
-use lib.Dec.{ltb, leb, eqb, leb→le, ltb→lt}
+use lib.Dec.{ltb, leb, eqb, leb→le}
 use Rattle.rules.specs.Lists.{tab}
 use Rattle.rules.specs.Sharding.{Sharding}
 use Rattle.rules.specs.Collectives.{Step, allToAll}
@@ -40,11 +40,11 @@ use Rattle.rules.specs.PlanFile.{
 }
 use Rattle.laws.proofs.Judging.{never, accept-inj, need-inv, then-inv, bind-inv}
 use Rattle.laws.proofs.Lists.{tab-cong}
-use Rattle.laws.proofs.Bytes.{sharding-bytes, step-bytes}
+use Rattle.laws.proofs.Bytes.{step-bytes}
 use Rattle.laws.proofs.Repeats.{positive-inv}
 use Rattle.reader.proofs.Listing.{ByteIs, no-count, count-above, axes-missing}
 use Rattle.reader.proofs.Stepping.{dims-missing, no-kind}
-use Rattle.blocks.specs.Blocks.{Head, notTooDeep, headAt}
+use Rattle.blocks.specs.Blocks.{Head, notTooDeep}
 use Rattle.blocks.proofs.Heads.{repeat-past, positive-past, positive-zero, positive-is}
 
 -- ---- the relation

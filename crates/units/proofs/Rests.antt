@@ -1,31 +1,31 @@
 -- What the rest of a file is judged by, whatever comes next in it (`restOf`): the rules' own tests from there on. A unit is read, what follows it is a phase,
 -- and the rest goes on from that phase (`mesh-on`, `number-on`, `table-on`, `start-on`, `steps-on`). Assumes nothing.
 use Prim.Native.Nat.{ℕ, zero, suc, _+_, _-_, _*_, _≤_, _<_, max}
-use mathlib.Core.Path.{_≡_, refl, sym, ap, ap₂, _∙_, subst}
+use mathlib.Core.Path.{_≡_, refl, sym, ap, ap₂, _∙_}
 use mathlib.Core.Logic.{_⊎_, inl, inr}
-use mathlib.Core.Bool.{Bool, true, false, not, _&&_}
-use mathlib.Core.List.{List, [], _∷_, _++_}
+use mathlib.Core.Bool.{Bool, true, false, not}
+use mathlib.Core.List.{List, [], _∷_}
 use native.Mathlib.Omega.{arith}
-use lib.ListN.{length, replicate, length-append}
+use lib.ListN.{length, replicate}
 use native.Mathlib.Decide.{decLt}
 use borrow.Author.Tests.{lt-ltb, le-ltb, le-leb, lt-leb}
 use lib.Dec.{T, T-not, leb, ltb, eqb, lit≤}
 use Rattle.rules.specs.Lists.{tab, inTurn, flat}
 use Rattle.rules.specs.Mesh.{devices}
-use Rattle.rules.specs.Limits.{mostDevices, mostWords, mostRun, mostDepth, everyKind}
-use Rattle.rules.specs.Sharding.{Sharding, shardSizes}
+use Rattle.rules.specs.Limits.{mostDevices, mostWords, mostRun, everyKind}
+use Rattle.rules.specs.Sharding.{Sharding}
 use Rattle.rules.specs.Collectives.{Step, after}
 use Rattle.rules.specs.Refusals.{Judged, accept, refuse, _>>=_, _>>_, need, needAt}
 use Rattle.rules.specs.PlanFile.{Read, u16At, edition, axisCount, rankCount, stepCount, tensorOffset, shardingOffset, stepsOffset, sizesAt, carriesOrder, orderAllowed, orderAt, carriesReplicated, shardingAt, stepAt, judgeStep}
 use Rattle.rules.specs.PlanFile.{plain, repeat, StepsRead, stepsAt, plainAt, positiveAt, sameSharding, isRepeat, itemAt, outermostAt}
 use Rattle.rules.specs.Calls.{CheckAnswer}
 use Rattle.laws.specs.Demands.{largestOn}
-use Rattle.laws.proofs.Lists.{T→true, nT→false, T?, length-tab, tab-cong}
+use Rattle.laws.proofs.Lists.{nT→false, T?, length-tab, tab-cong}
 use Rattle.laws.proofs.Judging.{bind-assoc}
 use Rattle.laws.proofs.Accepted.{section-facts}
 use Rattle.laws.proofs.Steps.{facts}
 use Rattle.laws.proofs.Turns.{length-times, largest-times}
-use Rattle.laws.proofs.Repeats.{Told, sharding-eq, steps-tell, item-tells}
+use Rattle.laws.proofs.Repeats.{sharding-eq, steps-tell, item-tells}
 use Rattle.reader.specs.Reading.{numbersOf}
 use Rattle.reader.specs.declared.Header.{Header}
 use Rattle.opening.specs.Opening.{judgeOpening}
@@ -61,7 +61,7 @@ use Rattle.units.specs.Units.{
   depthIn,
 }
 use Rattle.units.proofs.Parts.{numberAt, headRead, Item, opens, takes, itemOf, itemRead}
-use Rattle.units.proofs.Orders.{tab-first, countedAll, ordered, ordered-is}
+use Rattle.units.proofs.Orders.{tab-first, ordered, ordered-is}
 use Rattle.units.proofs.Steps.{bind-same, passes, outerRest, stepsRest, soFar, closeRest, itemDone, first}
 
 -- `headRead` is `headAt`, and where the next byte is

@@ -1,47 +1,28 @@
 -- What the rest of a plan's steps is judged by, from any place on (`stepsRest`): the steps left of the innermost list, then those of the lists around it.
 -- The first of them (`first`), the end of one (`step-done`), the head of a block (`block-open`): so the steps go on as the state does (`steps-on`).
 -- Assumes nothing.
-use Prim.Native.Nat.{ℕ, zero, suc, _+_, _-_, _*_, _≤_, _<_, max}
-use mathlib.Core.Path.{_≡_, refl, sym, ap, ap₂, _∙_, subst}
+use Prim.Native.Nat.{ℕ, suc, _+_, _-_, _*_, max}
+use mathlib.Core.Path.{_≡_, refl, ap, ap₂, _∙_}
 use mathlib.Core.Bool.{Bool, true, false}
 use mathlib.Core.List.{List, [], _∷_, _++_}
 use native.Mathlib.Omega.{arith}
-use lib.ListN.{length, replicate, length-append}
-use lib.Dec.{T, leb, eqb}
-use Rattle.rules.specs.Lists.{inTurn, flat}
+use lib.ListN.{length, length-append}
+use lib.Dec.{leb, eqb}
+use Rattle.rules.specs.Lists.{inTurn}
 use Rattle.rules.specs.Mesh.{devices}
 use Rattle.rules.specs.Limits.{mostRun, mostDepth, everyKind}
 use Rattle.rules.specs.Sharding.{Sharding, shardSizes}
 use Rattle.rules.specs.Collectives.{Step, after}
 use Rattle.rules.specs.Refusals.{Judged, accept, refuse, _>>=_, _>>_, need, needAt}
-use Rattle.rules.specs.PlanFile.{
-  Read,
-  stepAt,
-  judgeStep,
-  Record,
-  plain,
-  repeat,
-  StepsRead,
-  stepsAt,
-  plainAt,
-  sameSharding,
-  repeatAt,
-  isRepeat,
-  itemAt,
-  Outermost,
-  outermostAt,
-}
+use Rattle.rules.specs.PlanFile.{StepsRead, stepsAt, sameSharding, itemAt, Outermost, outermostAt}
 use Rattle.rules.specs.Calls.{CheckAnswer}
 use Rattle.laws.specs.Demands.{largestOn}
 use Rattle.laws.proofs.Lists.{in-turn-append}
-use Rattle.laws.proofs.Judging.{accept-inj, bind-inv, bind-assoc}
-use Rattle.laws.proofs.Steps.{facts}
-use Rattle.laws.proofs.Turns.{length-times, largest-append, largest-times}
-use Rattle.laws.proofs.Repeats.{Told, sharding-eq, steps-tell, item-tells}
-use Rattle.blocks.specs.Blocks.{Head, headAt, shardWords}
-use Rattle.blocks.proofs.Items.{by-head, item-repeat, item-plain}
-use Rattle.blocks.proofs.Heads.{head-facts}
-use Rattle.units.specs.Units.{Frame, Standing, Phase, depthIn}
+use Rattle.laws.proofs.Judging.{bind-assoc}
+use Rattle.laws.proofs.Turns.{largest-append}
+use Rattle.laws.proofs.Repeats.{item-tells}
+use Rattle.blocks.specs.Blocks.{shardWords}
+use Rattle.units.specs.Units.{Frame, depthIn}
 
 -- what follows an accepted judgement may be changed for the same
 pub bind-same : {A B : Type 0} (m : Judged A) (f g : A → Judged B) → ((a : A) → m ≡ accept a → f a ≡ g a) → _>>=_ m f ≡ _>>=_ m g

@@ -1,2 +1,3 @@
 -- A plan file that comes byte by byte.
 pub mod Units
+pub mod Worked

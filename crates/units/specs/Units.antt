@@ -15,7 +15,7 @@ use Rattle.rules.specs.Sharding.{Sharding, shardSizes}
 use Rattle.rules.specs.Collectives.{Step}
 use Rattle.rules.specs.Limits.{mostDevices, mostWords, mostRun, mostDepth, leastBytes, mostBytes}
 use Rattle.rules.specs.Refusals.{Judged, accept, refuse, _>>=_, _>>_, need, needAt}
-use Rattle.rules.specs.PlanFile.{Read, u16At, edition, axisCount, rankCount, stepCount, meshOffset, tensorOffset, shardingOffset, stepsOffset, totalLength}
+use Rattle.rules.specs.PlanFile.{u16At, edition, axisCount, rankCount, stepCount, meshOffset, tensorOffset, shardingOffset, stepsOffset, totalLength}
 use Rattle.rules.specs.PlanFile.{judgeHeader, judgeHeaderBy, sizesAt, carriesOrder, carriesReplicated, shardingAt, stepAt, judgeStep, sameSharding, isRepeat}
 use Rattle.rules.specs.Calls.{CheckAnswer, checkOf}
 use Rattle.opening.specs.Opening.{judgeOpening}
