@@ -5,3 +5,4 @@ pub mod Steps
 pub mod Rests
 pub mod Checks
 pub mod Line
+pub mod Full

@@ -105,7 +105,7 @@ unfolding replicatedAt
 replicated-next true n f at r e = omega (arith, list-next n f at r e .0)
 replicated-next false n f at r e = omega (arith, ap (λ (x : Read (List ℕ)). x .next) (accept-inj e))
 
-list-is : (n : ℕ) (f : List ℕ) (at : ℕ) {c : ℕ} → ByteIs f at c → c ≤ n → at + 1 + c ≤ length f
+pub list-is : (n : ℕ) (f : List ℕ) (at : ℕ) {c : ℕ} → ByteIs f at c → c ≤ n → at + 1 + c ≤ length f
     → listAt n f at ≡ accept (record { value = take c (drop (at + 1) f); next = at + 1 + c })
 unfolding listAt
 list-is n f at {c} h low room = simp (h .is, lt-ltb at (length f) (h .inside), le-leb c n low, le-leb (at + 1 + c) (length f) room)
