@@ -12,7 +12,7 @@ use lib.Seq.{take-length, length-take-le, getD-take}
 use lib.Dec.{leb, eqb, eqb→eq, lit≤, lit<}
 use Rattle.rules.specs.Lists.{inTurn}
 use Rattle.rules.specs.Mesh.{devices}
-use Rattle.rules.specs.Limits.{mostDevices, mostWords, leastBytes, mostBytes, mostSteps, everyKind, present}
+use Rattle.rules.specs.Limits.{mostDevices, mostWords, leastBytes, mostAxes, mostDims, mostBytes, mostSteps, everyKind, present}
 use Rattle.rules.specs.Sharding.{Sharding, shardSizes}
 use Rattle.rules.specs.Collectives.{Step, after}
 use Rattle.rules.specs.Refusals.{Judged, accept, refuse, _>>=_, _>>_, need}
@@ -24,7 +24,7 @@ use Rattle.laws.specs.Demands.{largestOn}
 use Rattle.laws.proofs.Judging.{need-inv, then-assoc, bind-assoc}
 use Rattle.laws.proofs.Turns.{first-largest}
 use Rattle.laws.proofs.Repeats.{ToldOutermost, outermost-tells}
-use Rattle.laws.proofs.Accepted.{room-running}
+use Rattle.laws.proofs.Accepted.{HeaderFacts, header-facts, room-running}
 use Rattle.reader.specs.Reading.{numbersOf}
 use Rattle.reader.specs.declared.Header.{Header}
 use Rattle.opening.specs.Opening.{judgeOpening}
@@ -256,3 +256,23 @@ total-is file e =
     let c = need-inv 0 (editionKnown present (edition file)) 3 _ tt (b .1) in
     let d = need-inv 0 (eqb (totalLength file) (length file)) 4 _ tt (c .1) in
     eqb→eq (totalLength file) (length file) (d .0)
+
+-- what a header says that is judged with the length it names
+pub headed-facts : (head : List ℕ) → length head ≡ leastBytes → judgeHeader (headed head (totalLength head)) ≡ accept tt
+    → (1 ≤ axisCount head) × (axisCount head ≤ mostAxes) × (1 ≤ rankCount head) × (rankCount head ≤ mostDims) × (stepCount head ≤ mostSteps)
+headed-facts head l e =
+    let n : ℕ = totalLength head in
+    let h : HeaderFacts (headed head n) = header-facts (headed head n) e in
+    let long : leastBytes ≤ n = omega (arith, h .long, headed-long head n) in
+    let bytes : Begin head (headed head n) = λ i b.
+    getD-take n (head ++ replicate n 0) i 0 (omega (arith, long)) ∙ List·getD-append head (replicate n 0) 0 i (omega (arith, l)) in
+    let number : (i : ℕ) → i + 1 < leastBytes → u16At (headed head n) i ≡ u16At head i = number-same head (headed head n) bytes in
+    let axes : axisCount (headed head n) ≡ axisCount head = number 2 (lit< tt) in
+    let rank : rankCount (headed head n) ≡ rankCount head = number 4 (lit< tt) in
+    let steps : stepCount (headed head n) ≡ stepCount head = number 6 (lit< tt) in (
+      omega (arith, axes, h .axes-some),
+      omega (arith, axes, h .axes-few),
+      omega (arith, rank, h .rank-some),
+      omega (arith, rank, h .rank-few),
+      omega (arith, steps, h .steps-few),
+    )

@@ -1,20 +1,21 @@
--- A unit that waits for more is short: with so many bytes every reader has read or refused (`sharding-full`, `step-full`, `head-full`). Assumes nothing.
+-- A unit that waits for more is short: with so many bytes every reader has read or refused (`sizes-short`, `sharding-short`, `step-short`, `head-short`). Assumes nothing.
 use Prim.Native.Nat.{ℕ, zero, suc, _+_, _*_, _≤_, _<_}
 use mathlib.Core.Path.{_≡_, refl, sym, ap, _∙_, subst}
 use mathlib.Core.Logic.{_≢_}
 use mathlib.Core.Bool.{Bool, true, false}
 use mathlib.Core.List.{List, []}
 use native.Mathlib.Omega.{arith}
-use native.Mathlib.Decide.{decLt}
-use borrow.Author.Tests.{lt-ltb, le-leb, eq-eqb}
-use lib.ListN.{length, getD, take, drop}
-use lib.Dec.{ltb, leb, eqb}
+use native.Mathlib.Decide.{decLt, ℕ-discrete}
+use borrow.Author.Tests.{lt-ltb, le-leb}
+use lib.ListN.{length, getD}
+use Rattle.rules.specs.Lists.{tab}
 use Rattle.rules.specs.Limits.{mostAxes, mostDims}
-use Rattle.rules.specs.Sharding.{Sharding}
-use Rattle.rules.specs.Collectives.{Step}
-use Rattle.rules.specs.Refusals.{Judged, accept, refuse, _>>=_, _>>_, need}
+use Rattle.rules.specs.Refusals.{Judged, accept, refuse, _>>=_, _>>_}
 use Rattle.rules.specs.PlanFile.{
   Read,
+  u16At,
+  judgeSizes,
+  sizesAt,
   listAt,
   listsAt,
   replicatedAt,
@@ -32,7 +33,9 @@ use Rattle.rules.specs.PlanFile.{
 }
 use Rattle.laws.proofs.Judging.{never, accept-inj}
 use Rattle.reader.proofs.Listing.{ByteIs, count-above}
-use Rattle.units.proofs.Parts.{number-of, list-is}
+use Rattle.blocks.specs.Blocks.{headAt}
+use Rattle.blocks.proofs.Heads.{positive-zero, positive-is, count-stops, number-stops, too-deep, head-is}
+use Rattle.units.proofs.Parts.{number-of, list-is, sizes-not-seven}
 
 -- a reading that 7 does not refuse, and that ends by k
 record Full {A : Type 0} (k : ℕ) (j : Judged (Read A)) : Type 0 where
@@ -113,3 +116,34 @@ step-short n rank k f {b} few low e = go (decLt (length f) 42)
     go : Dec (length f < 42) → length f < 42
     go (yes l) = l
     go (no d) = absurd (step-full n rank k f few low (omega (arith, d)) .not-seven 7 b e refl)
+
+pub sizes-short : (most z o count : ℕ) (f : List ℕ) {b : ℕ} → count ≤ mostAxes → z ≢ 7 → o ≢ 7 → sizesAt most z o count 0 f 0 ≡ refuse 7 b → length f < 42
+unfolding sizesAt
+sizes-short most z o count f {b} few hz ho e = go (decLt (length f) (2 * count))
+  where
+    sizes : List ℕ
+    sizes = tab count (λ i. u16At f (0 + 2 * i))
+
+    judged : (j : Judged (Unit {0})) → judgeSizes most z o 1 sizes ≡ j → _>>_ {B = Read (List ℕ)} j (accept (record { value = sizes; next = 0 + 2 * count })) ≡ refuse 7 b → ⊥
+    judged (accept t) d q = never (sym q)
+    judged (refuse x y) d q = sizes-not-seven most z o 1 sizes hz ho d (number-of q)
+
+    go : Dec (length f < 2 * count) → length f < 42
+    go (yes l) = omega (arith, l)
+    go (no d) = absurd (judged (judgeSizes most z o 1 sizes) refl (sym (simp (le-leb (0 + 2 * count) (length f) (omega (arith, d)))) ∙ e))
+
+pub head-short : (depth k : ℕ) (f : List ℕ) {b : ℕ} → headAt depth k f 1 ≡ refuse 7 b → length f < 42
+head-short depth k f {b} e = go (decLt (length f) 3) (ℕ-discrete (getD f 1 0) 0) (ℕ-discrete (getD f 2 0) 0) (ℕ-discrete depth 0)
+  where
+    other : {n m : ℕ} → n ≢ 7 → headAt depth k f 1 ≡ refuse n m → ⊥
+    other h q = h (number-of (sym q ∙ e))
+
+    go : Dec (length f < 3) → Dec (getD f 1 0 ≡ 0) → Dec (getD f 2 0 ≡ 0) → Dec (depth ≡ 0) → length f < 42
+    go (yes l) c n d = omega (arith, l)
+    go (no l) (yes c) n d = absurd (other {n = 44} (λ q. omega (arith, q)) (count-stops depth k f 1 (positive-zero k f 1 (omega (arith, l)) c)))
+    go (no l) (no c) (yes n) d =
+        absurd (other {n = 44} (λ q. omega (arith, q)) (number-stops depth k f 1 (positive-is k f 1 (omega (arith, l)) c) (positive-zero k f 2 (omega (arith, l)) n)))
+    go (no l) (no c) (no n) (yes d) =
+        absurd (other {n = 42} (λ q. omega (arith, q)) (too-deep depth k f 1 (positive-is k f 1 (omega (arith, l)) c) (positive-is k f 2 (omega (arith, l)) n) d))
+    go (no l) (no c) (no n) (no d) =
+        absurd (never (sym (sym (head-is depth k f 1 (positive-is k f 1 (omega (arith, l)) c) (positive-is k f 2 (omega (arith, l)) n) d) ∙ e)))

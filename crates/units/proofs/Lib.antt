@@ -6,3 +6,4 @@ pub mod Rests
 pub mod Checks
 pub mod Line
 pub mod Full
+pub mod Sounds

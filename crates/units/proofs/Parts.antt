@@ -112,7 +112,7 @@ list-is n f at {c} h low room = simp (h .is, lt-ltb at (length f) (h .inside), l
 
 -- ---- sizes and numbers
 
-sizes-not-seven : (most z o running : ℕ) (sizes : List ℕ) {a b : ℕ} → z ≢ 7 → o ≢ 7 → judgeSizes most z o running sizes ≡ refuse a b → a ≢ 7
+pub sizes-not-seven : (most z o running : ℕ) (sizes : List ℕ) {a b : ℕ} → z ≢ 7 → o ≢ 7 → judgeSizes most z o running sizes ≡ refuse a b → a ≢ 7
 unfolding judgeSizes
 sizes-not-seven most z o running [] hz ho e = absurd (never (sym e))
 sizes-not-seven most z o running (n ∷ sizes) {a} {b} hz ho e = go (ltb 0 n) (leb (running * n) most) (λ f. sizes-not-seven most z o (running * n) sizes hz ho f) e
