@@ -25,7 +25,7 @@ use Rattle.laws.proofs.Judging.{need-inv, then-assoc, bind-assoc}
 use Rattle.laws.proofs.Turns.{first-largest}
 use Rattle.laws.proofs.Repeats.{ToldOutermost, outermost-tells}
 use Rattle.laws.proofs.Accepted.{HeaderFacts, header-facts, room-running}
-use Rattle.reader.specs.Reading.{numbersOf}
+use Rattle.reader.specs.Reading.{numbersOf, headerOf}
 use Rattle.reader.specs.declared.Header.{Header}
 use Rattle.opening.specs.Opening.{judgeOpening}
 use Rattle.blocks.specs.Blocks.{shardWords}
@@ -173,7 +173,7 @@ check-stops file e = check-is file ∙ ap (λ (j : Judged (Unit {0})). _>>_ j (_
 -- ---- the header's judgement, by its bytes and the length
 
 -- the bytes of a header are those of the file
-abbrev Begin : (file head : List ℕ) → Type 0
+abbrev pub Begin : (file head : List ℕ) → Type 0
 Begin file head = (i : ℕ) → i < leastBytes → getD head i 0 ≡ getD file i 0
 
 number-same : (file head : List ℕ) → Begin file head → (i : ℕ) → i + 1 < leastBytes → u16At head i ≡ u16At file i
@@ -191,10 +191,9 @@ judged-same file head bytes size =
 first-bytes : (file : List ℕ) → Begin file (take leastBytes file)
 first-bytes file i h = getD-take leastBytes file i 0 h
 
--- THE NUMBERS OF THE HEADER ARE THE FILE'S
-pub numbers-same : (file : List ℕ) → numbersOf (take leastBytes file) ≡ numbersOf file
-numbers-same file =
-    let number : (i : ℕ) → i + 1 < leastBytes → u16At (take leastBytes file) i ≡ u16At file i = number-same file (take leastBytes file) (first-bytes file) in
+numbers-by : (file head : List ℕ) → Begin file head → numbersOf head ≡ numbersOf file
+numbers-by file head bytes =
+    let number : (i : ℕ) → i + 1 < leastBytes → u16At head i ≡ u16At file i = number-same file head bytes in
     λ i. record {
       edition = number 0 (lit< tt) i;
       axes = number 2 (lit< tt) i;
@@ -206,10 +205,20 @@ numbers-same file =
       «steps_at» = number 14 (lit< tt) i;
     }
 
+-- A HEADER IS READ BY ITS BYTES AND THE LENGTH
+pub header-by : (file head : List ℕ) → Begin file head → length head ≡ length file → headerOf head ≡ headerOf file
+unfolding headerOf
+header-by file head bytes size =
+    ap₂ (λ (j : Judged (Unit {0})) (x : Header). _>>_ j (accept x)) (judged-same file head bytes size) (numbers-by file head bytes)
+
+-- THE NUMBERS OF THE HEADER ARE THE FILE'S
+pub numbers-same : (file : List ℕ) → numbersOf (take leastBytes file) ≡ numbersOf file
+numbers-same file = numbers-by file (take leastBytes file) (first-bytes file)
+
 pub total-same : (file : List ℕ) → totalLength (take leastBytes file) ≡ totalLength file
 total-same file = number-same file (take leastBytes file) (first-bytes file) 16 (lit< tt)
 
-headed-long : (head : List ℕ) (n : ℕ) → length (headed head n) ≡ n
+pub headed-long : (head : List ℕ) (n : ℕ) → length (headed head n) ≡ n
 headed-long head n = length-take-le n (head ++ replicate n 0) (omega (arith, length-append head (replicate n 0), length-replicate {A = ℕ} n 0))
 
 too-short : (file : List ℕ) → length file < leastBytes → judgeHeader file ≡ refuse 1 0

@@ -1,0 +1,2 @@
+-- The mathematics of the functions: a file with a header's bytes.
+pub mod Heads
