@@ -1,2 +1,3 @@
 -- The mathematics of the functions: a file with a header's bytes.
 pub mod Heads
+pub mod Blocks

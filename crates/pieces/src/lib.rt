@@ -1,14 +1,22 @@
 // The check of a plan file that comes in pieces. What is held after each byte, and answered at the end, are definitions of crate units
 // (specs/Units.antt); specs/Held.antt says what the types here stand for.
 ghost use mathlib.Core.Path.{_≡_};
+ghost use mathlib.Core.List.{List, _∷_};
 ghost use lib.ListN.{length};
-ghost use Prim.Native.Nat.{_+_, _≤_};
-ghost use Rattle.rules.specs.Limits.{leastBytes, mostBytes};
+ghost use Prim.Native.Nat.{ℕ, _+_, _≤_, _<_};
+ghost use Rattle.rules.specs.Limits.{mostDepth, leastBytes, mostBytes};
+ghost use Rattle.types.specs.Types.{shardingOf};
 ghost use Rattle.reader.specs.Reading.{headerOf, headerRead};
-ghost use Rattle.units.specs.Units.{headed};
+ghost use Rattle.units.specs.Units.{headed, afterStep};
+ghost use Rattle.pieces.specs.Held.{frameOf, framesOf, steppedAs, Closes};
+use blocks::same_sharding;
 use reader::HeaderRead;
 use reader::read_header;
 use types::PlanFile;
+use types::Reason;
+use types::Refusal;
+use types::Sharding;
+use types::Step;
 
 // A header in a file of so many bytes: 1 to 5. They are judged by the header's bytes and the length alone, so any file with these serves; here it is one
 // of zeros.
@@ -23,4 +31,84 @@ pub fn judge_header(head: &[u8], bytes: usize) -> HeaderRead
         i += 1;
     }
     read_header(&file[0..bytes])
+}
+
+// A repeat whose block is being read: its number, how often the block is run, how many steps of the list around it come behind it and how many plain
+// ones are run before it, and the sharding before it.
+pub struct Frame {
+    pub number: u16,
+    pub count: u8,
+    pub behind: usize,
+    pub ran: usize,
+    pub sharding: Sharding,
+}
+
+// The repeats that are open, innermost first: as many as the depth.
+pub struct Frames {
+    pub depth: usize,
+    pub first: Frame,
+    pub second: Frame,
+    pub third: Frame,
+    pub fourth: Frame,
+}
+
+impl Frames {
+    // With one more, the innermost.
+    pub fn with(self, frame: Frame) -> Frames
+        requires { ⌜ self .depth < mostDepth ⌝ }
+        ensures { λ r. ⌜ ((rank : ℕ) → framesOf rank r ≡ frameOf rank frame ∷ framesOf rank self) × (r .depth ≡ self .depth + 1) ⌝ }
+    {
+        let depth = self.depth + 1;
+        let second = self.first;
+        let third = self.second;
+        let fourth = self.third;
+        Frames {
+            depth,
+            first: frame,
+            second,
+            third,
+            fourth,
+        }
+    }
+
+    // Without the innermost.
+    pub fn around(self) -> Frames
+        requires { ⌜ (0 < self .depth) × (self .depth ≤ mostDepth) ⌝ }
+        ensures { λ r. ⌜ ((rank : ℕ) → framesOf rank self ≡ frameOf rank (self .first) ∷ framesOf rank r) × (self .depth ≡ r .depth + 1) ⌝ }
+    {
+        let depth = self.depth - 1;
+        let first = self.second;
+        let second = self.third;
+        let third = self.fourth;
+        Frames {
+            depth,
+            first,
+            second,
+            third,
+            fourth: third,
+        }
+    }
+}
+
+// Where the steps stand: the repeats that are open; of the list that is being read, how many steps come behind the next one and how many plain ones are
+// run; the number of the next kind byte, the most words that a shard had, and the sharding.
+pub struct Standing {
+    pub frames: Frames,
+    pub behind: usize,
+    pub ran: usize,
+    pub number: u16,
+    pub largest: usize,
+    pub sharding: Sharding,
+}
+
+// What comes after a step: another one, the file's end, or nothing that counts.
+pub enum Turn {
+    Steps,
+    End,
+    Stopped(Refusal),
+}
+
+pub struct Stepped {
+    pub turn: Turn,
+    pub standing: Standing,
 }

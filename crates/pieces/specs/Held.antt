@@ -1,0 +1,49 @@
+-- What the types of the check in pieces (src/lib.rt) stand for in the definitions of crate units, and what its functions ask for. Assumes nothing.
+use Prim.Native.Nat.{ℕ, _*_, _≤_}
+use mathlib.Core.List.{List, [], _∷_, map}
+use lib.ListN.{take}
+use Rattle.rules.specs.Limits.{mostDims, mostRun, mostDepth}
+use Rattle.rules.specs.Refusals.{Judged, accept}
+use Rattle.types.specs.Answers.{refusedAs}
+use Rattle.types.specs.Types.{shardingOf}
+use Rattle.units.specs.Units as units
+use Rattle.units.specs.Sound.{Framed}
+use Rattle.pieces.specs.declared.Frame.{Frame}
+use Rattle.pieces.specs.declared.Frames.{Frames}
+use Rattle.pieces.specs.declared.Standing.{Standing}
+use Rattle.pieces.specs.declared.Turn.{Turn}
+use Rattle.pieces.specs.declared.Turn.the-variants as turn
+use Rattle.pieces.specs.declared.Stepped.{Stepped}
+
+-- a repeat that is open; those that are, innermost first, as many as the depth; where the steps stand
+abbrev pub frameOf : (rank : ℕ) → Frame → units.Frame
+frameOf rank f = record { number = f .number; count = f .count; behind = f .behind; ran = f .ran; sharding = shardingOf rank (f .sharding) }
+
+abbrev pub framesOf : (rank : ℕ) → Frames → List units.Frame
+framesOf rank fs = take (fs .depth) (frameOf rank (fs .first) ∷ frameOf rank (fs .second) ∷ frameOf rank (fs .third) ∷ frameOf rank (fs .fourth) ∷ [])
+
+abbrev pub standingOf : (rank : ℕ) → Standing → units.Standing
+standingOf rank q = record {
+  frames = framesOf rank (q .frames);
+  behind = q .behind;
+  ran = q .ran;
+  number = q .number;
+  largest = q .largest;
+  sharding = shardingOf rank (q .sharding);
+}
+
+-- what comes after a step
+abbrev pub turnAs : (mesh sizes : List ℕ) → (rank : ℕ) → Turn → Standing → Judged units.Phase
+turnAs mesh sizes rank turn.Steps q = accept (units.inSteps mesh sizes (standingOf rank q))
+turnAs mesh sizes rank turn.End q = accept (units.atEnd mesh sizes (q .largest) (shardingOf rank (q .sharding)))
+turnAs mesh sizes rank (turn.Stopped x) q = refusedAs x
+
+abbrev pub steppedAs : (mesh sizes : List ℕ) → (rank : ℕ) → Stepped → Judged units.Phase
+steppedAs mesh sizes rank r = turnAs mesh sizes rank (r .turn) (r .standing)
+
+-- what is asked before blocks are closed: as many frames as there are places, and counts that do not overflow
+pub record Closes (rank : ℕ) (q : Standing) : Type 0 where
+  pub rank-few : rank ≤ mostDims
+  pub deep : q .frames .depth ≤ mostDepth
+  pub ran-few : q .ran ≤ q .number * mostRun
+  pub framed : Framed (q .number) (framesOf rank (q .frames))
