@@ -1,5 +1,6 @@
 -- What the types of the check in pieces (src/lib.rt) stand for in the definitions of crate units, and what its functions ask for. Assumes nothing.
-use Prim.Native.Nat.{ℕ, _*_, _≤_}
+use Prim.Native.Nat.{ℕ, _+_, _*_, _≤_}
+use mathlib.Core.Path.{_≡_}
 use mathlib.Core.List.{List, [], _∷_, map}
 use lib.ListN.{take}
 use Rattle.rules.specs.Limits.{mostDims, mostRun, mostDepth}
@@ -47,3 +48,16 @@ pub record Closes (rank : ℕ) (q : Standing) : Type 0 where
   pub deep : q .frames .depth ≤ mostDepth
   pub ran-few : q .ran ≤ q .number * mostRun
   pub framed : Framed (q .number) (framesOf rank (q .frames))
+
+-- the step with number k is done, and so many are left in its list
+abbrev pub stepDone : (mesh sizes : List ℕ) → (rank : ℕ) → Standing → (k left : ℕ) → Judged units.Phase
+stepDone mesh sizes rank q k left =
+    units.afterStep mesh sizes (q .number) (q .largest) (shardingOf rank (q .sharding)) (framesOf rank (q .frames)) k left (q .ran)
+
+-- the innermost block of q is closed: its repeat is done, and where the steps stand then is r; or the refusal
+abbrev pub ClosedTo : Turn → (rank : ℕ) → (q r : Standing) → Type 0
+ClosedTo turn.Steps rank q r =
+    ((mesh sizes : List ℕ) (k : ℕ) → stepDone mesh sizes rank q k 0 ≡ stepDone mesh sizes rank r (q .frames .first .number) (q .frames .first .behind))
+    × (q .frames .depth ≡ r .frames .depth + 1) × Closes rank r
+ClosedTo turn.End rank q r = ⊥
+ClosedTo (turn.Stopped x) rank q r = (mesh sizes : List ℕ) (k : ℕ) → stepDone mesh sizes rank q k 0 ≡ refusedAs x

@@ -7,8 +7,11 @@ ghost use Prim.Native.Nat.{ℕ, _+_, _≤_, _<_};
 ghost use Rattle.rules.specs.Limits.{mostDepth, leastBytes, mostBytes};
 ghost use Rattle.types.specs.Types.{shardingOf};
 ghost use Rattle.reader.specs.Reading.{headerOf, headerRead};
-ghost use Rattle.units.specs.Units.{headed, afterStep};
-ghost use Rattle.pieces.specs.Held.{frameOf, framesOf, steppedAs, Closes};
+ghost use Rattle.rules.specs.Refusals.{refuse};
+ghost use Rattle.types.specs.Answers.{numberOf};
+ghost use Rattle.units.specs.Units.{headed};
+ghost use Rattle.pieces.specs.declared.Turn.the-variants as turn;
+ghost use Rattle.pieces.specs.Held.{frameOf, framesOf, steppedAs, Closes, stepDone, ClosedTo};
 use blocks::same_sharding;
 use reader::HeaderRead;
 use reader::read_header;
@@ -111,4 +114,62 @@ pub enum Turn {
 pub struct Stepped {
     pub turn: Turn,
     pub standing: Standing,
+}
+
+impl Stepped {
+    // Refused, with the steps as they stand.
+    fn stopped(reason: Reason, step: u16, standing: Standing) -> Stepped
+        ensures { λ r. ⌜ r ≡ record { turn = turn.Stopped (record { reason = reason; step = step }); standing = standing } ⌝ }
+    {
+        Stepped {
+            turn: Turn::Stopped(Refusal { reason, step }),
+            standing,
+        }
+    }
+}
+
+// The outermost step with number k is done, and so many are left: "More than 4,096 plain steps run in all is 43, tested .. after each outermost step".
+fn after_outermost(standing: Standing, k: u16, left: usize) -> Stepped
+    requires { ⌜ standing .frames .depth ≡ 0 ⌝ }
+    ensures { λ r. ⌜ ((mesh sizes : List ℕ) (rank : ℕ) → steppedAs mesh sizes rank r ≡ stepDone mesh sizes rank standing k left) ⌝ }
+{
+    if Step::MOST_RUN < standing.ran {
+        return Stepped::stopped(Reason::TooManyRun, k, standing);
+    }
+    if left == 0 {
+        return Stepped {
+            turn: Turn::End,
+            standing,
+        };
+    }
+    let mut next = standing;
+    next.behind = left - 1;
+    Stepped {
+        turn: Turn::Steps,
+        standing: next,
+    }
+}
+
+// The innermost block is read: "The sharding after the block must equal the one before it, .. else 41 at the repeat's number", then 43 for the repeat
+// alone.
+fn close_block(standing: Standing, rank: usize) -> Stepped
+    requires { ⌜ Closes rank standing × (0 < standing .frames .depth) ⌝ }
+    ensures { λ r. ⌜ ClosedTo (r .turn) rank standing (r .standing) ⌝ }
+{
+    let frame = standing.frames.first;
+    if !same_sharding(standing.sharding, frame.sharding, rank) {
+        return Stepped::stopped(Reason::ShardingChanged, frame.number, standing);
+    }
+    let runs = frame.count as usize * standing.ran;
+    if Step::MOST_RUN < runs {
+        return Stepped::stopped(Reason::TooManyRun, frame.number, standing);
+    }
+    let around = standing.frames.around();
+    let mut next = standing;
+    next.frames = around;
+    next.ran = frame.ran + runs;
+    Stepped {
+        turn: Turn::Steps,
+        standing: next,
+    }
 }

@@ -74,7 +74,7 @@ abbrev After : (head : List ℕ) → (seen : ℕ) → Judged Phase → Type 0
 After head seen (accept p) = SoundIn head seen p
 After head seen (refuse a k) = Unit {0}
 
-framed-more : (m n : ℕ) (frames : List Frame) → m ≤ n → Framed m frames → Framed n frames
+pub framed-more : (m n : ℕ) (frames : List Frame) → m ≤ n → Framed m frames → Framed n frames
 framed-more m n [] l f = tt
 framed-more m n (g ∷ frames) l f = (omega (arith, f .0), f .1, f .2)
 
