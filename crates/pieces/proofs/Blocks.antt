@@ -18,7 +18,9 @@ use Rattle.units.specs.Sound.{Framed}
 use Rattle.units.proofs.Sounds.{framed-more}
 use Rattle.pieces.specs.declared.Frame.{Frame}
 use Rattle.pieces.specs.declared.Standing.{Standing}
-use Rattle.pieces.specs.Held.{frameOf, framesOf, standingOf, Closes, stepDone}
+use Rattle.pieces.specs.declared.Turn.{Turn}
+use Rattle.pieces.specs.declared.Turn.the-variants as turn
+use Rattle.pieces.specs.Held.{frameOf, framesOf, turnAs, Closes, stepDone, ClosedTo}
 
 pub opened : {A : Type 0} (a b c d e : A) (n : ℕ) → n < 4 → take (n + 1) (a ∷ b ∷ c ∷ d ∷ []) ≡ a ∷ take n (b ∷ c ∷ d ∷ e ∷ [])
 opened a b c d e zero l = refl
@@ -118,3 +120,52 @@ pub first-is : (rank : ℕ) (q : Standing) → Closes rank q → 0 < q .frames .
 first-is rank q c l =
     left-open (frameOf rank (q .frames .first)) (frameOf rank (q .frames .second)) (frameOf rank (q .frames .third)) (frameOf rank (q .frames .fourth)) (frameOf rank (q .frames .fourth))
     (q .frames .depth) l (c .deep)
+
+-- ---- blocks that end with a step, one after the other
+
+pub record Closing (rank : ℕ) (q₀ : Standing) (k₀ left₀ : ℕ) (q : Standing) (k left : ℕ) : Type 0 where
+  pub closes : Closes rank q
+  pub same : (mesh sizes : List ℕ) → stepDone mesh sizes rank q₀ k₀ left₀ ≡ stepDone mesh sizes rank q k left
+
+module _ {rank : ℕ} {q₀ : Standing} {k₀ left₀ : ℕ} {q : Standing} {k left : ℕ} (g : Closing rank q₀ k₀ left₀ q k left) where
+  module _ (inner : 0 < q .frames .depth) where
+    -- another step of the same list
+    pub next-inner : left ≢ 0 → (mesh sizes : List ℕ) → accept (units.inSteps mesh sizes (record {
+      frames = framesOf rank (q .frames);
+      behind = left - 1;
+      ran = q .ran;
+      number = q .number;
+      largest = q .largest;
+      sharding = shardingOf rank (q .sharding);
+    })) ≡ stepDone mesh sizes rank q₀ k₀ left₀
+    unfolding units.afterStep
+    next-inner n mesh sizes =
+        let e : left ≡ suc (left - 1) = omega (arith, n) in
+        let f = first-is rank q (g .closes) inner in
+        sym (g .same mesh sizes
+        ∙ ap₂ (λ (l : ℕ) (fs : List units.Frame). units.afterStep mesh sizes (q .number) (q .largest) (shardingOf rank (q .sharding)) fs k l (q .ran)) e f
+        ∙ ap (λ (fs : List units.Frame). accept (units.inSteps mesh sizes (record {
+          frames = fs;
+          behind = left - 1;
+          ran = q .ran;
+          number = q .number;
+          largest = q .largest;
+          sharding = shardingOf rank (q .sharding);
+        }))) (sym f))
+
+  module _ (none : left ≡ 0) (t : Turn) (r : Standing) (c : ClosedTo t rank q r) where
+    pub closed-on : t ≡ turn.Steps → Closing rank q₀ k₀ left₀ r (q .frames .first .number) (q .frames .first .behind)
+    closed-on e =
+        let d = subst (λ (x : Turn). ClosedTo x rank q r) e c in
+        record { closes = d .2; same = λ mesh sizes. g .same mesh sizes ∙ ap (stepDone mesh sizes rank q k) none ∙ d .0 mesh sizes k }
+
+    pub closed-depth : t ≡ turn.Steps → q .frames .depth ≡ r .frames .depth + 1
+    closed-depth e = subst (λ (x : Turn). ClosedTo x rank q r) e c .1
+
+    pub closed-stops : t ≢ turn.Steps → (mesh sizes : List ℕ) → turnAs mesh sizes rank t r ≡ stepDone mesh sizes rank q₀ k₀ left₀
+    closed-stops n mesh sizes = go t c n
+      where
+        go : (t : Turn) → ClosedTo t rank q r → t ≢ turn.Steps → turnAs mesh sizes rank t r ≡ stepDone mesh sizes rank q₀ k₀ left₀
+        go turn.Steps c n = absurd (n refl)
+        go turn.End c n = absurd c
+        go (turn.Stopped x) c n = sym (g .same mesh sizes ∙ ap (stepDone mesh sizes rank q k) none ∙ c mesh sizes k)

@@ -173,3 +173,32 @@ fn close_block(standing: Standing, rank: usize) -> Stepped
         standing: next,
     }
 }
+
+// The step with number k is done, and so many are left in its list: blocks that end with it are closed.
+pub fn after_step(standing: Standing, k: u16, left: usize, rank: usize) -> Stepped
+    requires { ⌜ Closes rank standing ⌝ }
+    ensures { λ r. ⌜ ((mesh sizes : List ℕ) → steppedAs mesh sizes rank r ≡ stepDone mesh sizes rank standing k left) ⌝ }
+{
+    let mut here = standing;
+    let mut step = k;
+    let mut rest = left;
+    while here.frames.depth != 0 {
+        if rest != 0 {
+            here.behind = rest - 1;
+            return Stepped {
+                turn: Turn::Steps,
+                standing: here,
+            };
+        }
+        let frame = here.frames.first;
+        let closed = close_block(here, rank);
+        let turn = closed.turn;
+        let Turn::Steps = turn else {
+            return closed;
+        };
+        here = closed.standing;
+        step = frame.number;
+        rest = frame.behind;
+    }
+    after_outermost(here, step, rest)
+}
