@@ -1,3 +1,4 @@
 -- The mathematics of the functions: a file with a header's bytes.
 pub mod Heads
 pub mod Blocks
+pub mod Plain

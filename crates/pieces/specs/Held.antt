@@ -3,10 +3,14 @@ use Prim.Native.Nat.{ℕ, _+_, _*_, _≤_}
 use mathlib.Core.Path.{_≡_}
 use mathlib.Core.List.{List, [], _∷_, map}
 use lib.ListN.{take}
-use Rattle.rules.specs.Limits.{mostDims, mostRun, mostDepth}
+use Rattle.rules.specs.Lists.{product}
+use Rattle.rules.specs.Limits.{mostDims, mostRun, mostDepth, mostBytes}
 use Rattle.rules.specs.Refusals.{Judged, accept}
 use Rattle.types.specs.Answers.{refusedAs}
-use Rattle.types.specs.Types.{shardingOf}
+use Rattle.types.specs.Types.{shardingOf, sizesOf}
+use Rattle.types.specs.declared.Mesh.{Mesh}
+use Rattle.types.specs.declared.Table.{Table}
+use Rattle.judge.specs.Step.{Sharded}
 use Rattle.units.specs.Units as units
 use Rattle.units.specs.Sound.{Framed}
 use Rattle.pieces.specs.declared.Frame.{Frame}
@@ -61,3 +65,12 @@ ClosedTo turn.Steps rank q r =
     × (q .frames .depth ≡ r .frames .depth + 1) × Closes rank r
 ClosedTo turn.End rank q r = ⊥
 ClosedTo (turn.Stopped x) rank q r = (mesh sizes : List ℕ) (k : ℕ) → stepDone mesh sizes rank q k 0 ≡ refusedAs x
+
+-- What is asked before a plain step: the sharding is one, and one number more does not overflow.
+pub record Goes (mesh : Mesh) (table : Table) (total : ℕ) (q : Standing) : Type 0 where
+  pub ready : Sharded mesh table (q .sharding)
+  pub total-is : total ≡ product (sizesOf table)
+  pub number-few : q .number ≤ mostBytes + 1
+  pub deep : q .frames .depth ≤ mostDepth
+  pub ran-few : q .ran ≤ q .number * mostRun
+  pub framed : Framed (q .number) (framesOf (table .rank) (q .frames))

@@ -5,21 +5,26 @@ ghost use mathlib.Core.List.{List, _∷_};
 ghost use lib.ListN.{length};
 ghost use Prim.Native.Nat.{ℕ, _+_, _≤_, _<_};
 ghost use Rattle.rules.specs.Limits.{mostDepth, leastBytes, mostBytes};
-ghost use Rattle.types.specs.Types.{shardingOf};
+ghost use Rattle.types.specs.Types.{stepOf, meshOf, sizesOf};
 ghost use Rattle.reader.specs.Reading.{headerOf, headerRead};
-ghost use Rattle.rules.specs.Refusals.{refuse};
-ghost use Rattle.types.specs.Answers.{numberOf};
-ghost use Rattle.units.specs.Units.{headed};
+ghost use Rattle.units.specs.Units.{headed, afterPlain};
 ghost use Rattle.pieces.specs.declared.Turn.the-variants as turn;
-ghost use Rattle.pieces.specs.Held.{frameOf, framesOf, steppedAs, Closes, stepDone, ClosedTo};
+ghost use Rattle.pieces.specs.Held.{frameOf, framesOf, standingOf, steppedAs, Closes, stepDone, ClosedTo, Goes};
 use blocks::same_sharding;
+use judge::judge_step;
 use reader::HeaderRead;
 use reader::read_header;
+use start::Verdict;
+use start::refusal_of;
+use taking::larger;
+use taking::shard_words;
+use types::Mesh;
 use types::PlanFile;
 use types::Reason;
 use types::Refusal;
 use types::Sharding;
 use types::Step;
+use types::Table;
 
 // A header in a file of so many bytes: 1 to 5. They are judged by the header's bytes and the length alone, so any file with these serves; here it is one
 // of zeros.
@@ -201,4 +206,36 @@ pub fn after_step(standing: Standing, k: u16, left: usize, rank: usize) -> Stepp
         rest = frame.behind;
     }
     after_outermost(here, step, rest)
+}
+
+// A plain step that is next: it is judged, and what follows it. The table has so many words.
+pub fn after_plain(
+    step: Step,
+    standing: Standing,
+    mesh: Mesh,
+    table: Table,
+    total: usize,
+) -> Stepped
+    requires { ⌜ Goes mesh table total standing ⌝ }
+    ensures { λ r. ⌜ steppedAs (meshOf mesh) (sizesOf table) (table .rank) r
+        ≡ afterPlain (meshOf mesh) (sizesOf table) (standingOf (table .rank) standing) (stepOf (table .rank) step) ⌝ }
+{
+    let k = standing.number;
+    let judged = judge_step(step, k, standing.sharding, mesh, table);
+    let verdict = judged.verdict;
+    let Verdict::Fine = verdict else {
+        return Stepped {
+            turn: Turn::Stopped(refusal_of(verdict)),
+            standing,
+        };
+    };
+    let after = judged.sharding;
+    let words = shard_words(total, mesh, table, after);
+    let most = larger(standing.largest, words);
+    let mut next = standing;
+    next.sharding = after;
+    next.largest = most;
+    next.number = k + 1;
+    next.ran = standing.ran + 1;
+    after_step(next, k, standing.behind, table.rank)
 }
