@@ -7,7 +7,8 @@ ghost use Prim.Native.Nat.{ℕ, _+_, _≤_, _<_};
 ghost use Rattle.rules.specs.Limits.{mostDepth, leastBytes, mostBytes};
 ghost use Rattle.types.specs.Types.{stepOf, meshOf, sizesOf};
 ghost use Rattle.reader.specs.Reading.{headerOf, headerRead};
-ghost use Rattle.units.specs.Units.{headed, afterPlain};
+ghost use Rattle.rules.specs.Refusals.{accept};
+ghost use Rattle.units.specs.Units.{inSteps, headed, afterPlain, afterHead};
 ghost use Rattle.pieces.specs.declared.Turn.the-variants as turn;
 ghost use Rattle.pieces.specs.Held.{frameOf, framesOf, standingOf, steppedAs, Closes, stepDone, ClosedTo, Goes};
 use blocks::same_sharding;
@@ -238,4 +239,34 @@ pub fn after_plain(
     next.number = k + 1;
     next.ran = standing.ran + 1;
     after_step(next, k, standing.behind, table.rank)
+}
+
+// A repeat that is next, run so often and with so many inner steps: the first of these is next then.
+pub fn after_head(standing: Standing, count: u8, inner: u8) -> Standing
+    requires { ⌜ (standing .frames .depth < mostDepth) × (standing .number ≤ mostBytes + 1) × (0 < inner) ⌝ }
+    ensures { λ r. ⌜ ((mesh sizes : List ℕ) (rank : ℕ) → accept (inSteps mesh sizes (standingOf rank r))
+        ≡ afterHead mesh sizes (standingOf rank standing) (record { count = count; number = inner })) ⌝ }
+{
+    let number = standing.number;
+    let behind = standing.behind;
+    let ran = standing.ran;
+    let largest = standing.largest;
+    let sharding = standing.sharding;
+    let frame = Frame {
+        number,
+        count,
+        behind,
+        ran,
+        sharding,
+    };
+    let frames = standing.frames.with(frame);
+    let left = inner as usize;
+    Standing {
+        frames,
+        behind: left - 1,
+        ran: 0,
+        number: number + 1,
+        largest,
+        sharding,
+    }
 }
