@@ -2,3 +2,4 @@
 pub mod Heads
 pub mod Blocks
 pub mod Plain
+pub mod Feeds

@@ -1,13 +1,13 @@
 -- What the types of the check in pieces (src/lib.rt) stand for in the definitions of crate units, and what its functions ask for. Assumes nothing.
-use Prim.Native.Nat.{ℕ, _+_, _*_, _≤_}
+use Prim.Native.Nat.{ℕ, _+_, _*_, _≤_, _<_}
 use mathlib.Core.Path.{_≡_}
 use mathlib.Core.List.{List, [], _∷_, map}
-use lib.ListN.{take}
-use Rattle.rules.specs.Lists.{product}
+use lib.ListN.{length, take}
+use Rattle.rules.specs.Lists.{pick, product}
 use Rattle.rules.specs.Limits.{mostDims, mostRun, mostDepth, mostBytes}
 use Rattle.rules.specs.Refusals.{Judged, accept}
-use Rattle.types.specs.Answers.{refusedAs}
-use Rattle.types.specs.Types.{shardingOf, sizesOf}
+use Rattle.types.specs.Answers.{numberOf, refusedAs}
+use Rattle.types.specs.Types.{shardingOf, meshOf, sizesOf}
 use Rattle.types.specs.declared.Mesh.{Mesh}
 use Rattle.types.specs.declared.Table.{Table}
 use Rattle.judge.specs.Step.{Sharded}
@@ -19,6 +19,9 @@ use Rattle.pieces.specs.declared.Standing.{Standing}
 use Rattle.pieces.specs.declared.Turn.{Turn}
 use Rattle.pieces.specs.declared.Turn.the-variants as turn
 use Rattle.pieces.specs.declared.Stepped.{Stepped}
+use Rattle.pieces.specs.declared.FedStep.{FedStep}
+use Rattle.types.specs.declared.Refusal.{Refusal}
+use lib.Dec.{eqb}
 
 -- a repeat that is open; those that are, innermost first, as many as the depth; where the steps stand
 abbrev pub frameOf : (rank : ℕ) → Frame → units.Frame
@@ -69,8 +72,28 @@ ClosedTo (turn.Stopped x) rank q r = (mesh sizes : List ℕ) (k : ℕ) → stepD
 -- What is asked before a plain step: the sharding is one, and one number more does not overflow.
 pub record Goes (mesh : Mesh) (table : Table) (total : ℕ) (q : Standing) : Type 0 where
   pub ready : Sharded mesh table (q .sharding)
+  pub n-is : length (meshOf mesh) ≡ mesh .n
+  pub rank-is : length (sizesOf table) ≡ table .rank
   pub total-is : total ≡ product (sizesOf table)
   pub number-few : q .number ≤ mostBytes + 1
   pub deep : q .frames .depth ≤ mostDepth
   pub ran-few : q .ran ≤ q .number * mostRun
   pub framed : Framed (q .number) (framesOf (table .rank) (q .frames))
+
+-- ---- the bytes of a unit
+
+-- what is awaited or follows, of the bytes of a unit that may be a step
+abbrev pub waitingAs : (mesh sizes : List ℕ) → (rank : ℕ) → (unit : List ℕ) → FedStep → units.Waiting
+waitingAs mesh sizes rank unit r =
+    pick (r .waits) (record { unit = unit; phase = units.inSteps mesh sizes (standingOf rank (r .stepped .standing)) })
+    (units.turned (steppedAs mesh sizes rank (r .stepped)))
+
+-- beside the refusal of a unit's reader: "7" waits
+abbrev pub fedRefused : Refusal → Standing → FedStep
+fedRefused x q = record { waits = eqb (numberOf (x .reason)) 7; stepped = record { turn = turn.Stopped x; standing = q } }
+
+-- what is asked before the head of a repeat
+pub record Opens (unit : List ℕ) (q : Standing) : Type 0 where
+  pub some : 0 < length unit
+  pub deep : q .frames .depth ≤ mostDepth
+  pub number-few : q .number ≤ mostBytes + 1

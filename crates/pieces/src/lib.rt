@@ -1,6 +1,7 @@
 // The check of a plan file that comes in pieces. What is held after each byte, and answered at the end, are definitions of crate units
 // (specs/Units.antt); specs/Held.antt says what the types here stand for.
 ghost use mathlib.Core.Path.{_≡_};
+ghost use mathlib.Core.Bool.{true, false};
 ghost use mathlib.Core.List.{List, _∷_};
 ghost use lib.ListN.{length};
 ghost use Prim.Native.Nat.{ℕ, _+_, _≤_, _<_};
@@ -8,13 +9,19 @@ ghost use Rattle.rules.specs.Limits.{mostDepth, leastBytes, mostBytes};
 ghost use Rattle.types.specs.Types.{stepOf, meshOf, sizesOf};
 ghost use Rattle.reader.specs.Reading.{headerOf, headerRead};
 ghost use Rattle.rules.specs.Refusals.{accept};
-ghost use Rattle.units.specs.Units.{inSteps, headed, afterPlain, afterHead};
+ghost use Rattle.units.specs.Units.{inSteps, headed, afterPlain, afterHead, stepIn};
 ghost use Rattle.pieces.specs.declared.Turn.the-variants as turn;
 ghost use Rattle.pieces.specs.Held.{frameOf, framesOf, standingOf, steppedAs, Closes, stepDone, ClosedTo, Goes};
+ghost use Rattle.pieces.specs.Held.{waitingAs, fedRefused, Opens};
+use blocks::RepeatRead;
+use blocks::read_repeat;
 use blocks::same_sharding;
 use judge::judge_step;
 use reader::HeaderRead;
+use reader::Next;
 use reader::read_header;
+use reader::read_step;
+use reasons::number_of;
 use start::Verdict;
 use start::refusal_of;
 use taking::larger;
@@ -268,5 +275,68 @@ pub fn after_head(standing: Standing, count: u8, inner: u8) -> Standing
         number: number + 1,
         largest,
         sharding,
+    }
+}
+
+// What the bytes of a unit that may be a step lead to: more of them are awaited, or what follows.
+pub struct FedStep {
+    pub waits: bool,
+    pub stepped: Stepped,
+}
+
+impl FedStep {
+    // A unit whose reader refused it: 7 is for bytes that are not there yet.
+    fn refused(refusal: Refusal, standing: Standing) -> FedStep
+        ensures { λ r. ⌜ r ≡ fedRefused refusal standing ⌝ }
+    {
+        let reason = refusal.reason;
+        let waits = number_of(reason) == 7;
+        FedStep {
+            waits,
+            stepped: Stepped {
+                turn: Turn::Stopped(refusal),
+                standing,
+            },
+        }
+    }
+}
+
+// The bytes of a plain step so far.
+fn feed_plain(unit: &[u8], standing: Standing, mesh: Mesh, table: Table, total: usize) -> FedStep
+    requires { ⌜ Goes mesh table total standing ⌝ }
+    ensures { λ r. ⌜ waitingAs (meshOf mesh) (sizesOf table) (table .rank) (now (unit .entry)) r
+        ≡ stepIn false (meshOf mesh) (sizesOf table) (standingOf (table .rank) standing) (now (unit .entry)) ⌝ }
+{
+    let read = read_step(unit, 0, mesh.n, table.rank, standing.number);
+    let next = read.next;
+    let Next::At(_) = next else {
+        return FedStep::refused(next.refusal(), standing);
+    };
+    let step = read.step;
+    let stepped = after_plain(step, standing, mesh, table, total);
+    FedStep {
+        waits: false,
+        stepped,
+    }
+}
+
+// The bytes of a repeat's head so far.
+fn feed_head(unit: &[u8], standing: Standing) -> FedStep
+    requires { ⌜ Opens (now unit) standing ⌝ }
+    ensures { λ r. ⌜ ((mesh sizes : List ℕ) (rank : ℕ) → waitingAs mesh sizes rank (now (unit .entry)) r
+        ≡ stepIn true mesh sizes (standingOf rank standing) (now (unit .entry))) ⌝ }
+{
+    let depth = Step::MOST_DEPTH - standing.frames.depth;
+    let head = read_repeat(unit, 1, standing.number, depth);
+    let RepeatRead::Of(count, inner) = head else {
+        return FedStep::refused(head.refusal(), standing);
+    };
+    let next = after_head(standing, count, inner);
+    FedStep {
+        waits: false,
+        stepped: Stepped {
+            turn: Turn::Steps,
+            standing: next,
+        },
     }
 }
