@@ -10,7 +10,7 @@ use borrow.Author.Tests.{le-leb, lt-leb}
 use lib.ListN.{take}
 use lib.Dec.{leb}
 use Rattle.rules.specs.Limits.{mostRun}
-use Rattle.rules.specs.Refusals.{Judged, accept, refuse, _>>_, needAt}
+use Rattle.rules.specs.Refusals.{accept, refuse, _>>_, needAt}
 use Rattle.rules.specs.PlanFile.{sameSharding}
 use Rattle.types.specs.Types.{shardingOf}
 use Rattle.units.specs.Units as units

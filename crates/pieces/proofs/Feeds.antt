@@ -1,16 +1,14 @@
 -- The bytes of a unit that may be a step, tried by its reader: refused (`tried-stops`) or read (`tried-on`). Assumes nothing.
-use Prim.Native.Nat.{ℕ, zero, suc, _-_, _≤_}
-use mathlib.Core.Path.{_≡_, refl, sym, ap, ap₂, _∙_}
+use Prim.Native.Nat.{ℕ, _-_, _≤_}
+use mathlib.Core.Path.{_≡_, sym, ap, ap₂}
 use mathlib.Core.List.{List, [], _∷_}
-use native.Mathlib.Omega.{arith}
-use lib.ListN.{length, take}
+use lib.ListN.{length}
 use lib.Seq.{length-take-le}
 use lib.Dec.{eqb}
 use Rattle.rules.specs.Lists.{pick}
 use Rattle.rules.specs.Limits.{mostDepth}
-use Rattle.rules.specs.Collectives.{Step}
 use Rattle.rules.specs.Refusals.{Judged, accept, refuse}
-use Rattle.rules.specs.PlanFile.{Read, stepAt}
+use Rattle.rules.specs.PlanFile.{stepAt}
 use Rattle.types.specs.Types.{meshOf, sizesOf}
 use Rattle.types.specs.declared.Mesh.{Mesh}
 use Rattle.types.specs.declared.Table.{Table}

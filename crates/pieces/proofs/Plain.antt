@@ -1,11 +1,11 @@
 -- A plain step that is next, by its judgement: it stops (`plain-stops`) or goes on (`plain-on`), and what is asked of the sharding holds after it
 -- (`ready-after`). Assumes nothing.
 use Prim.Native.Nat.{ℕ, _+_, max}
-use mathlib.Core.Path.{_≡_, refl, sym, ap, _∙_, subst}
+use mathlib.Core.Path.{_≡_, refl, sym, subst}
 use mathlib.Core.List.{List}
 use Rattle.rules.specs.Sharding.{Sharding, IsSharding}
 use Rattle.rules.specs.Collectives.{Step}
-use Rattle.rules.specs.Refusals.{Judged, accept, refuse, _>>=_}
+use Rattle.rules.specs.Refusals.{accept, refuse}
 use Rattle.rules.specs.PlanFile.{judgeStep}
 use Rattle.types.specs.Types.{shardingOf, meshOf, sizesOf}
 use Rattle.types.specs.declared.Mesh.{Mesh}

@@ -1,7 +1,8 @@
 -- What the types of the check in pieces (src/lib.rt) stand for in the definitions of crate units, and what its functions ask for. Assumes nothing.
 use Prim.Native.Nat.{ℕ, _+_, _*_, _≤_, _<_}
 use mathlib.Core.Path.{_≡_}
-use mathlib.Core.List.{List, [], _∷_, map}
+use mathlib.Core.Bool.{Bool}
+use mathlib.Core.List.{List, [], _∷_}
 use lib.ListN.{length, take}
 use Rattle.rules.specs.Lists.{pick, product}
 use Rattle.rules.specs.Limits.{mostDims, mostRun, mostDepth, mostBytes}
@@ -20,6 +21,7 @@ use Rattle.pieces.specs.declared.Turn.{Turn}
 use Rattle.pieces.specs.declared.Turn.the-variants as turn
 use Rattle.pieces.specs.declared.Stepped.{Stepped}
 use Rattle.pieces.specs.declared.FedStep.{FedStep}
+use Rattle.pieces.specs.declared.Numbers.{Numbers}
 use Rattle.types.specs.declared.Refusal.{Refusal}
 use lib.Dec.{eqb}
 
@@ -97,3 +99,8 @@ pub record Opens (unit : List ℕ) (q : Standing) : Type 0 where
   pub some : 0 < length unit
   pub deep : q .frames .depth ≤ mostDepth
   pub number-few : q .number ≤ mostBytes + 1
+
+-- ---- an order
+
+abbrev pub numbersOf : Numbers → (marks : List Bool) → units.Numbers
+numbersOf t marks = record { count = t .count; marks = marks; fine = t .fine; plain = t .plain }

@@ -1,19 +1,22 @@
 // The check of a plan file that comes in pieces. What is held after each byte, and answered at the end, are definitions of crate units
 // (specs/Units.antt); specs/Held.antt says what the types here stand for.
 ghost use mathlib.Core.Path.{_≡_};
-ghost use mathlib.Core.Bool.{true, false};
+ghost use mathlib.Core.Bool.{true, false, not, _&&_};
 ghost use mathlib.Core.List.{List, _∷_};
-ghost use lib.ListN.{length};
+ghost use lib.ListN.{length, getD, set};
+ghost use lib.Dec.{ltb};
 ghost use Prim.Native.Nat.{ℕ, _+_, _≤_, _<_};
-ghost use Rattle.rules.specs.Limits.{mostDepth, leastBytes, mostBytes};
+ghost use Rattle.rules.specs.Limits.{mostDevices, mostDepth, leastBytes, mostBytes};
+ghost use Rattle.rules.specs.PlanFile.{isRepeat};
 ghost use Rattle.types.specs.Types.{stepOf, meshOf, sizesOf};
 ghost use Rattle.reader.specs.Reading.{headerOf, headerRead};
 ghost use Rattle.rules.specs.Refusals.{accept};
-ghost use Rattle.units.specs.Units.{inSteps, headed, afterPlain, afterHead, stepIn};
+ghost use Rattle.units.specs.Units.{inSteps, headed, afterPlain, counted, afterHead, stepIn};
 ghost use Rattle.pieces.specs.declared.Turn.the-variants as turn;
 ghost use Rattle.pieces.specs.Held.{frameOf, framesOf, standingOf, steppedAs, Closes, stepDone, ClosedTo, Goes};
-ghost use Rattle.pieces.specs.Held.{waitingAs, fedRefused, Opens};
+ghost use Rattle.pieces.specs.Held.{numbersOf, waitingAs, fedRefused, Opens};
 use blocks::RepeatRead;
+use blocks::is_repeat;
 use blocks::read_repeat;
 use blocks::same_sharding;
 use judge::judge_step;
@@ -338,5 +341,68 @@ fn feed_head(unit: &[u8], standing: Standing) -> FedStep
             turn: Turn::Steps,
             standing: next,
         },
+    }
+}
+
+// The bytes of what stands at a kind byte so far, that byte included: a plain step, or the head of a repeat.
+pub fn feed_step(unit: &[u8], standing: Standing, mesh: Mesh, table: Table, total: usize) -> FedStep
+    requires { ⌜ Goes mesh table total standing × (0 < length (now unit)) ⌝ }
+    ensures { λ r. ⌜ waitingAs (meshOf mesh) (sizesOf table) (table .rank) (now (unit .entry)) r
+        ≡ stepIn (isRepeat (now (unit .entry)) 0) (meshOf mesh) (sizesOf table) (standingOf (table .rank) standing) (now (unit .entry)) ⌝ }
+{
+    if is_repeat(unit, 0) {
+        return feed_head(unit, standing);
+    }
+    feed_plain(unit, standing, mesh, table, total)
+}
+
+// Device numbers of an order so far: how many, whether all are below D and none came twice, whether each is its own place.
+pub struct Numbers {
+    pub count: usize,
+    pub fine: bool,
+    pub plain: bool,
+}
+
+// Whether a device number is below n and has no mark.
+fn is_new(marks: &[bool], n: usize, device: usize) -> bool
+    requires { ⌜ n ≤ length (now marks) ⌝ }
+    ensures { λ r. ⌜ r ≡ ltb device n && not (getD (now (marks .entry)) device false) ⌝ }
+{
+    if n <= device {
+        return false;
+    }
+    !marks[device]
+}
+
+// A mark for a device number; one that has no place gets none.
+fn mark(marks: &mut [bool], device: usize)
+    ensures { λ _. ⌜ now (marks .exit) ≡ set (now (marks .entry)) device true ⌝ }
+{
+    if device < marks.len() {
+        marks[device] = true;
+    }
+}
+
+// Both.
+fn both(a: bool, b: bool) -> bool
+    ensures { λ r. ⌜ r ≡ a && b ⌝ }
+{
+    if a { b } else { false }
+}
+
+// One number more of an order of n devices.
+pub fn count_number(numbers: Numbers, marks: &mut [bool], n: usize, device: usize) -> Numbers
+    requires { ⌜ (n ≤ length (now marks)) × (numbers .count < mostDevices) ⌝ }
+    ensures { λ r. ⌜ numbersOf r (now (marks .exit)) ≡ counted n (numbersOf numbers (now (marks .entry))) device ⌝ }
+{
+    let new = is_new(marks, n, device);
+    mark(marks, device);
+    let place = numbers.count;
+    let fine = both(numbers.fine, new);
+    let plain = both(numbers.plain, device == place);
+    Numbers {
+        count: place + 1,
+        fine,
+        plain,
     }
 }

@@ -1,11 +1,10 @@
 use borrow.Author.Needs.{needs}
-use Prim.Native.Nat.{ℕ}
 use mathlib.Core.Path.{ap, _∙_}
 use denote.Ref.{now}
 use lib.ListN.{length}
 use Rattle.rules.specs.Collectives as rules
 use Rattle.rules.specs.PlanFile.{Read, stepAt}
-use Rattle.types.specs.Types.{stepOf, meshOf, sizesOf}
+use Rattle.types.specs.Types.{meshOf, sizesOf}
 use Rattle.reader.proofs.Answers.{read-on, read-stopped}
 use Rattle.units.specs.Units as units
 use Rattle.pieces.specs.Held.{standingOf, waitingAs}

@@ -3,7 +3,6 @@ use Prim.Native.Nat.{ℕ}
 use mathlib.Core.Path.{ap}
 use lib.Dec.{eqb}
 use Rattle.pieces.specs.declared.Turn.the-variants as turn
-use Rattle.pieces.specs.declared.FedStep.{FedStep}
 use Rattle.pieces.proofs.FedStep.refused.Statement.{statement}
 use Rattle.pieces.proofs.FedStep.refused.Tie as tie
 
