@@ -1,5 +1,5 @@
--- What every state that comes from the opening call satisfies, whatever bytes came. "The state may not keep the file": what is held is small (`Small`).
--- And what is held is what the judgements ask for (`Sound`): sizes within their limits, a sharding of that mesh and table, numbers that do not overflow.
+-- What every state that comes from the opening call satisfies, whatever bytes came. "The state may not keep the file": what is held is small (`unit-few`, `head-few`, `deep`).
+-- And it is what the judgements ask for (`Sound`): sizes within their limits, a sharding of that mesh and table, numbers that do not overflow.
 -- Statements; proofs/Sounds.antt proves them. Assumes nothing.
 use Prim.Native.Nat.{ℕ, _+_, _*_, _≤_, _<_}
 use mathlib.Core.Path.{_≡_}
