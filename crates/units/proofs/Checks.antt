@@ -1,4 +1,4 @@
--- The check of a whole file as its header's judgement and the rest (`check-is`), and the header's judgement by its 18 bytes and the length of the file
+-- The check of a whole file, but for the words moved, as its header's judgement and the rest (`check-is`), and the header's judgement by its 18 bytes and the length of the file
 -- alone (`header-same`). Assumes nothing.
 use Prim.Native.Nat.{ℕ, _+_, _*_, _≤_, _<_, max}
 use mathlib.Core.Path.{_≡_, refl, sym, ap, ap₂, _∙_}
@@ -18,7 +18,7 @@ use Rattle.rules.specs.Collectives.{Step, after}
 use Rattle.rules.specs.Refusals.{Judged, accept, refuse, _>>=_, _>>_, need}
 use Rattle.rules.specs.PlanFile.{Read, u16At, edition, axisCount, rankCount, stepCount, meshOffset, tensorOffset, shardingOffset, stepsOffset, totalLength}
 use Rattle.rules.specs.PlanFile.{editionKnown, axesAllowed, rankAllowed, judgeHeader, judgeHeaderBy, sizesAt, carriesOrder, orderAt, MeshAndTable, meshAndTableAt, meshAndTableAtBy}
-use Rattle.rules.specs.PlanFile.{carriesReplicated, shardingAt, judgeStart, oneMeaning, Front, judgeFront, judgeFrontBy, Outermost, outermostAt, Plan, judgeBy, announced, announcedShape, room}
+use Rattle.rules.specs.PlanFile.{carriesReplicated, shardingAt, judgeStart, oneMeaning, Front, judgeFront, judgeFrontBy, Outermost, outermostAt, Plan, judge, judgeBy, announced, announcedShape, room}
 use Rattle.rules.specs.Calls.{CheckAnswer, checkOf}
 use Rattle.laws.specs.Demands.{largestOn}
 use Rattle.laws.proofs.Judging.{need-inv, then-assoc, bind-assoc}
@@ -29,7 +29,7 @@ use Rattle.reader.specs.Reading.{numbersOf, headerOf}
 use Rattle.reader.specs.declared.Header.{Header}
 use Rattle.opening.specs.Opening.{judgeOpening}
 use Rattle.blocks.specs.Blocks.{shardWords}
-use Rattle.units.specs.Units.{inMesh, headed}
+use Rattle.units.specs.Units.{inMesh, headed, unpriced}
 use Rattle.units.proofs.Steps.{bind-same, outerRest}
 use Rattle.units.proofs.Rests.{after-need, stepsFrom, startFrom, tableFrom, orderFrom, meshRest, restOf}
 
@@ -39,6 +39,11 @@ use Rattle.units.proofs.Rests.{after-need, stepsFrom, startFrom, tableF
 then-bind : {A B C : Type 0} (m : Judged A) (j : Judged B) (f : B → Judged C) → _>>=_ (_>>_ m j) f ≡ _>>_ m (_>>=_ j f)
 then-bind (accept a) j f = refl
 then-bind (refuse n k) j f = refl
+
+-- words moved are in no refusal
+unpriced-bind : {A : Type 0} (j : Judged A) (f : A → Judged CheckAnswer) → unpriced (_>>=_ j f) ≡ _>>=_ j (λ a. unpriced (f a))
+unpriced-bind (accept a) f = refl
+unpriced-bind (refuse n k) f = refl
 
 -- the offset is tested before the section
 sizes-offset : (most z o count offset : ℕ) (file : List ℕ) (at : ℕ)
@@ -60,6 +65,7 @@ module _ (file : List ℕ) where
     rank = length (p .sizes);
     sharding = announced p (length (p .steps));
     shard = announcedShape p (length (p .steps));
+    moved = 0;
   }
 
   -- the steps, to the answer
@@ -88,6 +94,7 @@ module _ (file : List ℕ) where
             rank = length (f .sizes);
             sharding = inTurn after (ts .steps) (f .start);
             shard = shardSizes (f .mesh) (f .sizes) (inTurn after (ts .steps) (f .start) .dims);
+            moved = 0;
           })
       go ts g =
           let p : Plan = record { mesh = f .mesh; order = f .order; sizes = f .sizes; start = f .start; records = ts .records; steps = ts .steps; runs = ts .runs } in
@@ -101,6 +108,7 @@ module _ (file : List ℕ) where
             rank = length (f .sizes);
             sharding = s i;
             shard = shardSizes (f .mesh) (f .sizes) (s i .dims);
+            moved = 0;
           })
 
   abbrev h : Header
@@ -158,16 +166,16 @@ module _ (file : List ℕ) where
       ∙ after-need (eqb (meshOffset file) leastBytes) 6 _ _
 
   -- THE CHECK IS THE HEADER AND THE REST
-  pub check-is : checkOf file ≡ _>>_ (judgeHeader file) (_>>_ (need (eqb (meshOffset file) leastBytes) 6) (restOf h file inMesh leastBytes))
+  pub check-is : unpriced (checkOf file) ≡ _>>_ (judgeHeader file) (_>>_ (need (eqb (meshOffset file) leastBytes) 6) (restOf h file inMesh leastBytes))
   unfolding checkOf judgeBy judgeFrontBy meshAndTableAtBy
   check-is =
-      bind-assoc (judgeFront file) _ _ ∙ then-bind (judgeHeader file) _ _ ∙ ap (_>>_ (judgeHeader file)) (
+      unpriced-bind (judge file) _ ∙ bind-assoc (judgeFront file) _ _ ∙ then-bind (judgeHeader file) _ _ ∙ ap (_>>_ (judgeHeader file)) (
       bind-assoc (meshAndTableAt (carriesOrder (edition file)) (axisCount file) (rankCount file) file) _ _
       ∙ bind-same (meshAndTableAt (carriesOrder (edition file)) (axisCount file) (rankCount file) file) _ _ (λ m e. sharding-of (m .value) (m .next))
       ∙ mesh-of)
 
 -- a header that is refused
-pub check-stops : (file : List ℕ) {a k : ℕ} → judgeHeader file ≡ refuse a k → checkOf file ≡ refuse a k
+pub check-stops : (file : List ℕ) {a k : ℕ} → judgeHeader file ≡ refuse a k → unpriced (checkOf file) ≡ refuse a k
 check-stops file e = check-is file ∙ ap (λ (j : Judged (Unit {0})). _>>_ j (_>>_ (need (eqb (meshOffset file) leastBytes) 6) (restOf (numbersOf file) file inMesh leastBytes))) e
 
 -- ---- the header's judgement, by its bytes and the length
@@ -246,14 +254,14 @@ too-long file h = let l : leastBytes ≤ length file = omega arith in simp (le-l
 pub header-long : (head : List ℕ) (n : ℕ) → mostBytes < n → judgeHeader (headed head n) ≡ refuse 2 0
 header-long head n h = too-long (headed head n) (omega (arith, headed-long head n))
 
-pub check-long : (file : List ℕ) → mostBytes < length file → checkOf file ≡ refuse 2 0
+pub check-long : (file : List ℕ) → mostBytes < length file → unpriced (checkOf file) ≡ refuse 2 0
 check-long file h = check-stops file (too-long file h)
 
 -- 1
 pub header-short : (head : List ℕ) (n : ℕ) → n < leastBytes → judgeHeader (headed head n) ≡ refuse 1 0
 header-short head n h = too-short (headed head n) (omega (arith, headed-long head n))
 
-pub check-short : (file : List ℕ) → length file < leastBytes → checkOf file ≡ refuse 1 0
+pub check-short : (file : List ℕ) → length file < leastBytes → unpriced (checkOf file) ≡ refuse 1 0
 check-short file h = check-stops file (too-short file h)
 
 -- the length is what the header says

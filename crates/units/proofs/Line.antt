@@ -69,6 +69,7 @@ use Rattle.units.specs.Units.{
   closed,
   answerIn,
   endOf,
+  unpriced,
   stateAfter,
   SlowLine,
 }
@@ -427,7 +428,7 @@ module _ (file : List ℕ) (header-is : judgeHeader file ≡ accept tt) where
       a .same ∙ rw (eq-eqb (length (a .pre)) (length file) (sym (ap length (a .file-is) ∙ whole-long (a .pre) u [] ∙ omega (arith, ap length (a .waits))))) refl
   end-in (stopped x k) u a = a .same
 
-  check-behind : checkOf file ≡ behind
+  check-behind : unpriced (checkOf file) ≡ behind
   check-behind =
       check-is file ∙ ap (λ (j : Judged (Unit {0})). _>>_ j (_>>_ (need (eqb (meshOffset file) leastBytes) 6) (restOf (numbersOf file) file inMesh leastBytes))) header-is
       ∙ ap (λ (x : Header). _>>_ (need (eqb (x .«mesh_at») leastBytes) 6) (restOf x file inMesh leastBytes)) (sym (numbers-same file))
@@ -459,7 +460,7 @@ module _ (file : List ℕ) (few : length file ≤ mostBytes) where
 
   -- the header is judged: the rest as it comes
   walk : (e : judgeHeader file ≡ accept tt) → leastBytes ≤ length first → (rest : List ℕ) (n : ℕ) (w : Waiting) → n + length rest ≡ length file → AtW file e w rest
-      → endOf (pushed (knows first n w) rest) ≡ checkOf file
+      → endOf (pushed (knows first n w) rest) ≡ unpriced (checkOf file)
   unfolding endOf
   walk e l [] n w c a =
       let z : n ≡ length file = omega (arith, c) in
@@ -472,7 +473,7 @@ module _ (file : List ℕ) (few : length file ≤ mostBytes) where
       (omega (arith, ap length (a .file-is), whole-long (a .pre) (w .unit) (b ∷ rest), length-append (w .unit) (b ∷ []), c)))
 
   -- the header is whole
-  header-read : (bytes rest : List ℕ) → file ≡ bytes ++ rest → length bytes ≡ leastBytes → endOf (pushed (knows bytes leastBytes (turned (afterHeader bytes))) rest) ≡ checkOf file
+  header-read : (bytes rest : List ℕ) → file ≡ bytes ++ rest → length bytes ≡ leastBytes → endOf (pushed (knows bytes leastBytes (turned (afterHeader bytes))) rest) ≡ unpriced (checkOf file)
   unfolding afterHeader
   header-read bytes rest f l = go (judgeHeader file) refl
     where
@@ -502,7 +503,7 @@ module _ (file : List ℕ) (few : length file ≤ mostBytes) where
           (ap (λ (n : ℕ). _>>_ (need (eqb (meshOffset first) leastBytes) 6) (restOf (numbersOf first) file inMesh n)) z
           ∙ sym (after-need (eqb (meshOffset first) leastBytes) 6 (accept inMesh) (λ p. restOf (numbersOf first) file p (length first + 0)))))
 
-      go : (j : Judged (Unit {0})) → judgeHeader file ≡ j → endOf (pushed (knows bytes leastBytes (turned (afterHeader bytes))) rest) ≡ checkOf file
+      go : (j : Judged (Unit {0})) → judgeHeader file ≡ j → endOf (pushed (knows bytes leastBytes (turned (afterHeader bytes))) rest) ≡ unpriced (checkOf file)
       go (accept t) e = ap (λ (x : List ℕ). endOf (pushed (knows x leastBytes (turned (afterHeader x))) rest)) first-is ∙ walk e long rest leastBytes (turned (afterHeader first)) count (ready e)
       go (refuse a k) e =
           ap (λ (x : List ℕ). endOf (pushed (knows x leastBytes (turned (afterHeader x))) rest)) first-is ∙ walk-refused e long rest leastBytes (turned (afterHeader first)) count
@@ -512,7 +513,7 @@ module _ (file : List ℕ) (few : length file ≤ mostBytes) where
   abbrev begins : List ℕ → State
   begins bytes = record { over = false; seen = length bytes; head = bytes; unit = []; phase = inHeader }
 
-  walk-header : (rest bytes : List ℕ) → file ≡ bytes ++ rest → length bytes < leastBytes → endOf (pushed (begins bytes) rest) ≡ checkOf file
+  walk-header : (rest bytes : List ℕ) → file ≡ bytes ++ rest → length bytes < leastBytes → endOf (pushed (begins bytes) rest) ≡ unpriced (checkOf file)
   unfolding endOf fed unitIn
   walk-header [] bytes f l =
       let z : length file ≡ length bytes = ap length (f ∙ append-nil bytes) in
@@ -529,8 +530,8 @@ module _ (file : List ℕ) (few : length file ≤ mostBytes) where
           (length (bytes ++ b ∷ [])) (bytes ++ b ∷ [])
       fed-is = rw (le-ltb mostBytes (length bytes) (omega arith), lt-ltb (length bytes) leastBytes l, n-is) refl
 
-      go : Dec (length (bytes ++ b ∷ []) < leastBytes) → (length (bytes ++ b ∷ []) < leastBytes → endOf (pushed (begins (bytes ++ b ∷ [])) rest) ≡ checkOf file)
-          → endOf (pushed (begins bytes) (b ∷ rest)) ≡ checkOf file
+      go : Dec (length (bytes ++ b ∷ []) < leastBytes) → (length (bytes ++ b ∷ []) < leastBytes → endOf (pushed (begins (bytes ++ b ∷ [])) rest) ≡ unpriced (checkOf file))
+          → endOf (pushed (begins bytes) (b ∷ rest)) ≡ unpriced (checkOf file)
       go (yes s) on =
           ap (λ (s : State). endOf (pushed s rest)) (fed-is ∙ ap (λ (t : Bool). held (tried (need t 7) (record { unit = []; phase = inHeader }) (λ t. afterHeader (bytes ++ b ∷ [])))
           (length (bytes ++ b ∷ [])) (bytes ++ b ∷ [])) (lt-leb leastBytes (length (bytes ++ b ∷ [])) s))
@@ -557,10 +558,10 @@ walk-long (b ∷ rest) n head w l = go (decLt mostBytes n) (walk-long rest n hea
     go (yes s) stay on = ap (λ (t : Bool). endOf (pushed (fedIf t b (held w n head)) rest)) (lt-ltb mostBytes n s) ∙ stay (omega arith)
     go (no d) stay on = ap (λ (t : Bool). endOf (pushed (fedIf t b (held w n head)) rest)) (le-ltb mostBytes n (omega (arith, d))) ∙ on (omega arith)
 
-answers : (bytes : List ℕ) → endOf (stateAfter bytes) ≡ checkOf bytes
+answers : (bytes : List ℕ) → endOf (stateAfter bytes) ≡ unpriced (checkOf bytes)
 answers bytes = go (decLt mostBytes (length bytes))
   where
-    go : Dec (mostBytes < length bytes) → endOf (stateAfter bytes) ≡ checkOf bytes
+    go : Dec (mostBytes < length bytes) → endOf (stateAfter bytes) ≡ unpriced (checkOf bytes)
     go (yes l) = walk-long bytes 0 [] (record { unit = []; phase = inHeader }) (omega arith) ∙ sym (check-long bytes l)
     go (no d) = walk-header bytes (omega (arith, d)) bytes [] refl (omega arith)
 

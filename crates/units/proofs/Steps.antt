@@ -41,6 +41,7 @@ module _ (count : ℕ) (file mesh sizes : List ℕ) where
       rank = length sizes;
       sharding = s;
       shard = shardSizes mesh sizes (s .dims);
+      moved = 0;
     })
 
   abbrev words : Sharding → ℕ

