@@ -40,7 +40,7 @@ then-bind : {A B C : Type 0} (m : Judged A) (j : Judged B) (f : B → Judged C) 
 then-bind (accept a) j f = refl
 then-bind (refuse n k) j f = refl
 
--- words moved are in no refusal
+-- a refusal has no words moved
 unpriced-bind : {A : Type 0} (j : Judged A) (f : A → Judged CheckAnswer) → unpriced (_>>=_ j f) ≡ _>>=_ j (λ a. unpriced (f a))
 unpriced-bind (accept a) f = refl
 unpriced-bind (refuse n k) f = refl

@@ -1,5 +1,6 @@
 -- Document 02, Ask 8, "Plans over a slow line": "a check that is handed each piece, hands its state back, and at the end gives what the check of the whole
 -- file gives". A state, what one byte makes of it (`fed`), a piece (`pushed`), and what is answered at the end (`endOf`); `SlowLine` says what is promised.
+-- The words moved (Ask 7) are left aside as yet (`unpriced`).
 -- A unit is what one reader of the rules takes: the header, the sizes of mesh or table, one number of an order, the starting sharding, one step, the
 -- head of a repeat. "The state may not keep the file": it holds the header's 18 bytes and the bytes of the unit that is not whole yet. After each byte
 -- the unit's own reader is tried on them; 7 is its answer as long as bytes are missing, any other is final. Assumes nothing.
