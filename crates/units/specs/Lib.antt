@@ -1,0 +1,4 @@
+-- A plan file that comes byte by byte.
+pub mod Units
+pub mod Sound
+pub mod Worked
