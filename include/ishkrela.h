@@ -16,6 +16,10 @@
  *     tools/build
  *     cc -I include program.c target/staticlib/libcapi.a
  *
+ * or put it with `tools/install PREFIX` where other programs find it, and let pkg-config say the flags:
+ *
+ *     cc program.c $(pkg-config --cflags --libs ishkrela)
+ *
  *
  * WORDS
  *
@@ -113,7 +117,7 @@
  * whole record count for nothing:
  *
  *     ishkrela_step gather = {.kind = ISHKRELA_ALL_GATHER, .counts = {0, 1}, .axes = {[6] = 1}};
- *     ishkrela_write(mesh, 2, NULL, 0, table, 2, start, (uint8_t *)&gather, sizeof gather, file, 8192);
+ *     ishkrela_write(mesh, 2, NULL, 0, table, 2, start, (uint8_t *)&gather, sizeof gather, file, sizeof file);
  *
  *
  * A PLAN IS MADE
@@ -135,38 +139,8 @@
  * where the step is 0 for numbers outside 20 to 28 and 41 to 44. Steps are numbered from 1 by their
  * kind bytes in file order: a repeat has a number, and its inner steps have the next ones. 43 has that
  * of a repeat which alone runs too many plain steps, or else that of the outermost step with which
- * the plan so far does. docs/REFUSALS.md has an example of each number, and what to do.
- *
- *      1  fewer than 18 bytes                  2  more than 8,192 bytes, given or to be written
- *      3  the edition is none of 1, 2 and 3    4  total length is not the number of bytes given
- *      5  number of axes, rank or number of steps outside its limits
- *      6  an offset is wrong                   7  a section runs past the end; records end inside a block
- *      8  a list's count is above the number of axes
- *      9  bytes left after the last step
- *     10  a mesh size is 0                    11  the product of mesh sizes passes 1,024
- *     12  a table size is 0                   13  the product of table sizes passes 65,536
- *     14  start or goal: no such axis         15  start or goal: an axis named before
- *     16  start or goal: unreduced or replicated list not strictly increasing
- *     17  start or goal: a dimension is not divisible
- *     18  start: the replicated list of edition 2 is empty
- *     19  the order is no rearrangement of 0 to D-1, or it is the plain one
- *     20  unknown kind of step                21  a step names no axis
- *     22  step: no such axis
- *     23  an axis was named earlier in this step or, by an all-slice, is in a list of the sharding
- *     24  the gathered list is not the tail of the dimension's list
- *     25  a dimension's shard size is not divisible
- *     26  all-reduce: list not strictly increasing
- *     27  all-reduce: an axis splits a dimension or is to stay replicated; reduce-scatter: an axis is not unreduced
- *     28  all-to-all: source or target is no dimension, or they are equal
- *     30  work is shorter than the room       31  spare is shorter than the room
- *     32  no such device                      34  no such state
- *     33  an output is too short: for all groups, all first indexes, the order or the records of a file
- *     35  the buffer is shorter than the file
- *     40  the goal has an unreduced axis that is not the start's, or another replicated list
- *     41  repeat: the sharding after the block is not the one before it
- *     42  repeat: deeper than 4
- *     43  more than 4,096 plain steps are run
- *     44  repeat: the count or the number of inner steps is 0
+ * the plan so far does. ISHKRELA_REFUSALS below has the number, the name and the text of each;
+ * ishkrela_refusal_text answers the text, and docs/REFUSALS.md has an example of each, and what to do.
  *
  *
  * MEMORY
@@ -183,10 +157,10 @@
  * is 0, so it may be null. The calls keep no state of their own: threads may call at once where none
  * lends memory for writing that another uses.
  *
- * A call takes less than 26 KiB of stack: on the cases of tests/ at most 25,880 bytes for a run, 12,336
- * for a placement of a list, 10,352 for one of a device, 8,144 for a read, 8,096 for a check, 1,232 for a
- * group listing by an order and 144 for one without; 4,784 for a write and 2,473 for making a plan
- * (tests/stack.c, which tools/try_c runs).
+ * A call takes less than 26 KiB of stack (ISHKRELA_STACK_BYTES): on the cases of tests/ at most 25,880
+ * bytes for a run, 12,336 for a placement of a list, 10,352 for one of a device, 8,144 for a read, 8,096
+ * for a check, 1,232 for a group listing by an order and 144 for one without; 4,784 for a write and 2,473
+ * for making a plan (tests/stack.c, which tools/try_c runs).
  */
 #ifndef ISHKRELA_H
 #define ISHKRELA_H
@@ -198,8 +172,98 @@
 extern "C" {
 #endif
 
+/* The version of this header and of what is linked with it. Before 1.0.0 a new minor version may change
+ * a struct: compile and link with what was installed together. */
+#define ISHKRELA_VERSION_MAJOR 0
+#define ISHKRELA_VERSION_MINOR 1
+#define ISHKRELA_VERSION_PATCH 0
+#define ISHKRELA_VERSION "0.1.0"
+
+/* The limits, and beside each the refusal of what is beyond it. */
+#define ISHKRELA_MOST_AXES 6       /* of a mesh (5) */
+#define ISHKRELA_MOST_DEVICES 1024 /* of a mesh, D (11) */
+#define ISHKRELA_MOST_DIMS 4       /* of a table, its rank (5) */
+#define ISHKRELA_MOST_WORDS 65536  /* of a table (13) */
+#define ISHKRELA_MOST_STEPS 64     /* of a plan, outermost ones (5) */
+#define ISHKRELA_MOST_RUN 4096     /* of a plan, plain steps that are run (43) */
+#define ISHKRELA_MOST_DEPTH 4      /* of a repeat (42) */
+#define ISHKRELA_LEAST_BYTES 18    /* of a file (1) */
+#define ISHKRELA_MOST_BYTES 8192   /* of a file (2) */
+#define ISHKRELA_LATEST_EDITION 3  /* of a file (3) */
+
+/* What no accepted plan's room is above, and the bytes of stack that a call stays below. */
+#define ISHKRELA_MOST_ROOM (ISHKRELA_MOST_DEVICES * ISHKRELA_MOST_WORDS)
+#define ISHKRELA_STACK_BYTES 26624
+
+/* Every refusal: its number, its name and its text, in one list, so that none has a name and no text.
+ * ISHKRELA_REFUSED_NOT_TAIL is 24, and so for each. */
+#define ISHKRELA_REFUSALS(X) \
+    X(1, FILE_TOO_SHORT, "fewer than 18 bytes") \
+    X(2, FILE_TOO_LONG, "more than 8,192 bytes, given or to be written") \
+    X(3, UNKNOWN_EDITION, "the edition is none of 1, 2 and 3") \
+    X(4, WRONG_LENGTH, "total length is not the number of bytes given") \
+    X(5, COUNT_OUTSIDE_LIMITS, "number of axes, rank or number of steps outside its limits") \
+    X(6, WRONG_OFFSET, "an offset is wrong") \
+    X(7, SECTION_PAST_END, "a section runs past the end; records end inside a block") \
+    X(8, LIST_TOO_LONG, "a list's count is above the number of axes") \
+    X(9, BYTES_LEFT, "bytes left after the last step") \
+    X(10, MESH_SIZE_ZERO, "a mesh size is 0") \
+    X(11, TOO_MANY_DEVICES, "the product of mesh sizes passes 1,024") \
+    X(12, TENSOR_SIZE_ZERO, "a table size is 0") \
+    X(13, TOO_MANY_WORDS, "the product of table sizes passes 65,536") \
+    X(14, START_AXIS_TOO_LARGE, "start or goal: no such axis") \
+    X(15, START_AXIS_REPEATED, "start or goal: an axis named before") \
+    X(16, START_NOT_INCREASING, "start or goal: unreduced or replicated list not strictly increasing") \
+    X(17, START_NOT_DIVISIBLE, "start or goal: a dimension is not divisible") \
+    X(18, REPLICATED_EMPTY, "start: the replicated list of edition 2 is empty") \
+    X(19, WRONG_ORDER, "the order is no rearrangement of 0 to D-1, or it is the plain one") \
+    X(20, UNKNOWN_KIND, "unknown kind of step") \
+    X(21, NO_AXIS, "a step names no axis") \
+    X(22, AXIS_TOO_LARGE, "step: no such axis") \
+    X(23, NOT_REPLICATED, "an axis was named earlier in this step or, by an all-slice, " \
+                          "is in a list of the sharding") \
+    X(24, NOT_TAIL, "the gathered list is not the tail of the dimension's list") \
+    X(25, SHARD_NOT_DIVISIBLE, "a dimension's shard size is not divisible") \
+    X(26, NOT_INCREASING, "all-reduce: list not strictly increasing") \
+    X(27, NOT_REDUCIBLE, "all-reduce: an axis splits a dimension or is to stay replicated; " \
+                         "reduce-scatter: an axis is not unreduced") \
+    X(28, WRONG_DIMS, "all-to-all: source or target is no dimension, or they are equal") \
+    X(30, WORK_TOO_SHORT, "work is shorter than the room") \
+    X(31, SPARE_TOO_SHORT, "spare is shorter than the room") \
+    X(32, NO_SUCH_DEVICE, "no such device") \
+    X(33, OUTPUT_TOO_SHORT, "an output is too short: for all groups, all first indexes, " \
+                            "the order or the records of a file") \
+    X(34, NO_SUCH_STATE, "no such state") \
+    X(35, BUFFER_TOO_SHORT, "the buffer is shorter than the file") \
+    X(40, GOAL_OUT_OF_REACH, "the goal has an unreduced axis that is not the start's, or another replicated list") \
+    X(41, SHARDING_CHANGED, "repeat: the sharding after the block is not the one before it") \
+    X(42, TOO_DEEP, "repeat: deeper than 4") \
+    X(43, TOO_MANY_RUN, "more than 4,096 plain steps are run") \
+    X(44, REPEAT_OF_NOTHING, "repeat: the count or the number of inner steps is 0")
+
 #define ISHKRELA_NUMBER(refusal) ((refusal) % 256)
 #define ISHKRELA_STEP(refusal) ((refusal) / 256)
+
+#define ISHKRELA_NAMED(number, name, text) ISHKRELA_REFUSED_##name = number,
+enum ishkrela_refused { ISHKRELA_REFUSALS(ISHKRELA_NAMED) };
+#undef ISHKRELA_NAMED
+
+/* The text of a refusal, whatever its step. Never null: that of 0 is "no refusal", and that of a number
+ * which no call gives is "unknown refusal". */
+static inline const char *ishkrela_refusal_text(uint32_t refusal)
+{
+    if (refusal == 0)
+        return "no refusal";
+#define ISHKRELA_CASE(number, name, text) \
+    case number:                          \
+        return text;
+    switch (ISHKRELA_NUMBER(refusal)) {
+        ISHKRELA_REFUSALS(ISHKRELA_CASE)
+    default:
+        return "unknown refusal";
+    }
+#undef ISHKRELA_CASE
+}
 
 /* The six lists of a sharding: dimensions 0 to 3, the unreduced list, and the list of the axes that
  * are to stay replicated. Axis i of a list is ISHKRELA_AXIS(sharding, list, i). In a sharding that is
@@ -219,6 +283,7 @@ typedef struct {
 #define ISHKRELA_ALL_GATHER 2
 #define ISHKRELA_ALL_REDUCE 3
 #define ISHKRELA_ALL_TO_ALL 4
+#define ISHKRELA_REDUCE_SCATTER 5
 #define ISHKRELA_REPEAT 9
 #define ISHKRELA_ONE_LIST 4
 typedef struct {

@@ -908,7 +908,7 @@ class Given(Case):
 
 
 class Refusals(Case):
-    """docs/REFUSALS.md: a row for each number, with the text of Refused and of the header, and an example of it."""
+    """docs/REFUSALS.md: a row for each number, with the text of Refused, and an example of it. (tools/try_c has the header's.)"""
 
     def setUp(self):
         with open(os.path.join(ROOT, "docs", "REFUSALS.md"), encoding="utf-8") as page:
@@ -920,12 +920,6 @@ class Refusals(Case):
 
     def test_each_number_and_its_text(self):
         self.assertEqual({number: text for number, text, _ in self.rows()}, ishkrela.TEXTS)
-
-    def test_the_header_has_the_texts(self):
-        with open(os.path.join(ROOT, "include", "ishkrela.h"), encoding="utf-8") as header:
-            table = header.read().split("MEMORY")[0]
-        for number, text in ishkrela.TEXTS.items():
-            self.assertIn(f" {number}  {text}", table)
 
     def step(self, number):
         if number == 42:

@@ -62,6 +62,13 @@ class Missing(unittest.TestCase):
         self.put_on_the_path("cc")
         self.assertStops("libcapi.a is not there: tools/build makes it", "try_c")
 
+    def test_install(self):
+        self.assertStops("name the folder to install into, such as /usr/local: tools/install PREFIX", "install")
+        self.assertStops("pkg-config reads no such folder", "install", "$HOME")
+        self.assertStops("libcapi.a is not there: tools/build makes it", "install", "prefix")
+        self.write("target/staticlib/libcapi.a")
+        self.assertStops("libishkrela.so is not there: tools/build makes it", "install", "prefix")
+
     def test_benchmarks(self):
         self.put_on_the_path("rt", "cc", "cargo")
         self.assertStops("rustc is not on the path: add it", "benchmarks")

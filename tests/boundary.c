@@ -1,7 +1,9 @@
 /* What include/ishkrela.h says, tried from C: the layout of the structs and each field of them,
- * lists by their macros, fields beside a refusal, empty slices at null, and memory after a refusal.
+ * lists and kinds by their macros, fields beside a refusal, empty slices at null, and memory after a
+ * refusal.
  * Prints nothing. */
 #include <assert.h>
+#include <stdio.h>
 #include <string.h>
 #include "ishkrela.h"
 
@@ -450,6 +452,35 @@ static void plans(void)
     assert(memcmp(&none, &planned, sizeof none) == 0);
 }
 
+/* The plan of one step on mesh 2, table 2x2, leads from the one sharding to the other. */
+static int leads(ishkrela_sharding from, ishkrela_step step, ishkrela_sharding to)
+{
+    const uint16_t mesh[] = {2}, table[] = {2, 2};
+    uint8_t file[64];
+    ishkrela_written written =
+        ishkrela_write(mesh, 1, NULL, 0, table, 2, from, (uint8_t *)&step, sizeof step, file, sizeof file);
+    ishkrela_checked checked = ishkrela_check(file, written.bytes);
+    return written.refusal == 0 && checked.refusal == 0 && memcmp(&checked.sharding, &to, sizeof to) == 0;
+}
+
+/* Each name of a kind is its kind: no other kind leads from the one sharding to the other. */
+static void kinds(void)
+{
+    const ishkrela_sharding whole = {{0}, {0}}, rows = {{1}, {0}}, columns = {{0, 1}, {0}}, sum = {{[4] = 1}, {0}};
+    assert(leads(whole, (ishkrela_step){.kind = ISHKRELA_ALL_SLICE, .counts = {1}}, rows));
+    assert(leads(rows, (ishkrela_step){.kind = ISHKRELA_ALL_GATHER, .counts = {1}}, whole));
+    assert(leads(sum, (ishkrela_step){.kind = ISHKRELA_ALL_REDUCE, .counts = {[ISHKRELA_ONE_LIST] = 1}}, whole));
+    assert(leads(rows, (ishkrela_step){ISHKRELA_ALL_TO_ALL, 0, 1, {[ISHKRELA_ONE_LIST] = 1}, {0}}, columns));
+    assert(leads(sum, (ishkrela_step){.kind = ISHKRELA_REDUCE_SCATTER, .counts = {1}}, rows));
+}
+
+static void version(void)
+{
+    char said[16];
+    snprintf(said, sizeof said, "%d.%d.%d", ISHKRELA_VERSION_MAJOR, ISHKRELA_VERSION_MINOR, ISHKRELA_VERSION_PATCH);
+    assert(strcmp(said, ISHKRELA_VERSION) == 0);
+}
+
 static void empty(void)
 {
     const uint16_t mesh[] = {2};
@@ -485,6 +516,8 @@ int main(void)
     writes_blocks();
     reads();
     plans();
+    kinds();
+    version();
     empty();
     return 0;
 }

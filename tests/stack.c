@@ -10,7 +10,7 @@
 #include <string.h>
 #include "ishkrela.h"
 
-enum { CALLS = 9, PAINT = 0xa5, STACK = 1 << 18, ROOM = 67108864, SAID = 26624 };
+enum { CALLS = 9, PAINT = 0xa5, STACK = 1 << 18, ROOM = ISHKRELA_MOST_ROOM, SAID = ISHKRELA_STACK_BYTES };
 
 static _Alignas(64) unsigned char stack[STACK];
 static uint32_t work[ROOM], spare[ROOM];

@@ -35,7 +35,8 @@ static void print_sizes(const uint16_t *sizes, int rank)
 
 static int refused(uint32_t refusal)
 {
-    printf("refused: %u in step %u\n", (unsigned)ISHKRELA_NUMBER(refusal), (unsigned)ISHKRELA_STEP(refusal));
+    printf("refused: %u in step %u: %s\n", (unsigned)ISHKRELA_NUMBER(refusal), (unsigned)ISHKRELA_STEP(refusal),
+           ishkrela_refusal_text(refusal));
     return 1;
 }
 

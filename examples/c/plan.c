@@ -19,7 +19,8 @@ static void accepted(uint32_t refusal)
 {
     if (refusal == 0)
         return;
-    printf("refused: %u in step %u\n", (unsigned)ISHKRELA_NUMBER(refusal), (unsigned)ISHKRELA_STEP(refusal));
+    printf("refused: %u in step %u: %s\n", (unsigned)ISHKRELA_NUMBER(refusal), (unsigned)ISHKRELA_STEP(refusal),
+           ishkrela_refusal_text(refusal));
     exit(1);
 }
 
