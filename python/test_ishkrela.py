@@ -908,7 +908,7 @@ class Given(Case):
 
 
 class Refusals(Case):
-    """docs/REFUSALS.md: a row for each number, with the text of Refused, and an example of it. (tools/try_c has the header's.)"""
+    """docs/REFUSALS.md: a row for each number, with the text of Refused, and an example of it (tools/try_c: the header)."""
 
     def setUp(self):
         with open(os.path.join(ROOT, "docs", "REFUSALS.md"), encoding="utf-8") as page:

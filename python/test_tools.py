@@ -64,7 +64,7 @@ class Missing(unittest.TestCase):
 
     def test_install(self):
         self.assertStops("name the folder to install into, such as /usr/local: tools/install PREFIX", "install")
-        self.assertStops("pkg-config reads no such folder", "install", "$HOME")
+        self.assertStops("pkg-config reads no such name", "install", "$HOME")
         self.assertStops("libcapi.a is not there: tools/build makes it", "install", "prefix")
         self.write("target/staticlib/libcapi.a")
         self.assertStops("libishkrela.so is not there: tools/build makes it", "install", "prefix")
