@@ -1055,6 +1055,10 @@ fn reduce(mesh: &Mesh, axes: &[Axis], words: usize, old: &[u32], new: &mut [u32]
     }
 }
 
+/// States of at most so many words have their words moved counted one by one. Larger ones would take
+/// minutes so, and are counted shard by shard.
+const ONE_BY_ONE: usize = 1 << 14;
+
 /// A step that only moves words. Along each dimension it gathers, slices or does neither; the
 /// state between gathering and slicing is never made.
 struct Move<'a> {
@@ -1078,9 +1082,31 @@ impl Move<'_> {
         }
     }
 
-    /// The new words that come from another device: of each new shard, those whose source does not
-    /// lie in the old shard at the same place.
+    /// The new words that come from another device.
     fn moved(&self) -> u64 {
+        if self.mesh.devices * self.after.words() <= ONE_BY_ONE {
+            self.moved_one_by_one()
+        } else {
+            self.moved_by_shards()
+        }
+    }
+
+    /// The same, word by word, from the places that the words are taken from.
+    fn moved_one_by_one(&self) -> u64 {
+        let strides = row_major(&self.before.shard);
+        let sources = self.sources(&strides);
+        let words = self.before.words();
+        let from_others = |place: usize| {
+            let origin = self.origin(place, &strides);
+            let is_other = |source: &&usize| (origin + **source) / words != place;
+            sources.iter().filter(is_other).count() as u64
+        };
+        (0..self.mesh.devices).map(from_others).sum()
+    }
+
+    /// The same for each new shard at once: its words but those whose source lies in the old shard
+    /// at the same place.
+    fn moved_by_shards(&self) -> u64 {
         let distances = self.distances();
         let words = self.after.words() as u64;
         let from_others = |place: usize| {
