@@ -8,9 +8,8 @@
  * State 0 is the start, state k is after the k-th of these steps, where a repeat with all that is in
  * it is one.
  *
- * These calls judge a plan, at once or as its bytes come in, say where its shards lie, run it, on
- * integers or on floats, and list device groups; they write the file of a plan and read it back, and
- * make the plan from one sharding to another. Their code is
+ * These calls judge a plan, say where its shards lie, run it, and list device groups; they write the
+ * file of a plan and read it back, and make the plan from one sharding to another. Their code is
  * proved to answer what the rules define on every input: any bytes may be handed over, nothing
  * asks for a valid plan, and no call stops the program. Build (for x86-64 Linux) and link:
  *
@@ -85,9 +84,9 @@
  *             dimension, the shards of its group in order of position for the step's list
  * all-reduce  adds. It has one strictly increasing list (26) of axes that split no dimension and are
  *             not to stay replicated (27). Each device gets the word-by-word sum over its group,
- *             modulo 2^32 (of floats: FLOATS); the shard's sizes stay. Unreduced axes become
- *             replicated. Along an axis that no list names the shards of a table are equal, and their
- *             sum is the table's words times the axis's size
+ *             modulo 2^32; the shard's sizes stay. Unreduced axes become replicated. Along an axis
+ *             that no list names the shards of a table are equal, and their sum is the table's words
+ *             times the axis's size
  * all-to-all  moves a split from a source dimension to another, the target (28). Its one list is
  *             gathered off the source (24) and then sliced on the target (25), as one step: there
  *             is no state between, and no room is needed for one
@@ -105,18 +104,6 @@
  * depth 1. After the block the sharding is the one before it, list for list (41). A plan runs at most
  * 4,096 plain steps, the five above, each counted as often as it is run (43). State numbers and the
  * numbers of steps in the header and in the check's answer count outermost steps alone.
- *
- *
- * FLOATS
- *
- * A table of 32-bit floats (`float`, of IEEE 754) is moved by the same plans, with ishkrela_run_f32.
- * What a step only moves keeps every bit: minus zero, and not-a-numbers with their payloads. A sum over
- * a group goes by position in the group, never by device number, and in halves: one word is itself, bit
- * for bit; else it is the sum of the first half of the list, the larger if uneven, plus that of the
- * second, each addition rounded once, to the nearest float and at a tie to the even one. So four words
- * a, b, c, d give (a + b) + (c + d), on every machine and in every run alike; where a sum gives a
- * not-a-number, its payload is free. The floating-point environment is the one that a program begins
- * with: rounding to nearest, and no float flushed to zero.
  *
  *
  * STEP RECORDS
@@ -141,22 +128,6 @@
  * list. A step that would name no axis is left out. The check accepts every such plan, it ends at the
  * goal, and its run carries a table from the start to the goal. There is none where the goal has an
  * unreduced axis that is not the start's, or where the replicated lists differ (40).
- *
- *
- * A FILE IN PIECES
- *
- * Where a file comes some bytes at a time, the check can take them as they come and need not keep the
- * file: ishkrela_check_begin gives a state, ishkrela_check_push the state with one piece more, and
- * ishkrela_check_end the answer that ishkrela_check has of all bytes together, however they were cut:
- *
- *     ishkrela_checking state = ishkrela_check_begin();
- *     while ((len = next_piece(piece, sizeof piece)) > 0)
- *         state = ishkrela_check_push(state, piece, len);
- *     ishkrela_ended ended = ishkrela_check_end(state);
- *
- * Refusals come only at the end. The state that the end gives takes no more pieces, and a second end
- * repeats the first one's answer; a copy of an earlier state goes on by itself. A state that no call
- * gave does no harm: it gets some state and some answer, 1 where it contradicts itself.
  *
  *
  * REFUSALS
@@ -186,11 +157,10 @@
  * is 0, so it may be null. The calls keep no state of their own: threads may call at once where none
  * lends memory for writing that another uses.
  *
- * A call takes less than 44 KiB of stack (ISHKRELA_STACK_BYTES): on the cases of tests/ at most 44,280
- * bytes for a run on floats, 26,008 for one on integers, 21,800 for a piece of a file, 19,720 for the
- * end of a check in pieces and 6,648 for its beginning, 12,656 for a placement of a list, 10,672 for one
- * of a device, 8,432 for a read, 8,352 for a check, 1,256 for a group listing by an order and 168 for
- * one without; 4,912 for a write and 2,473 for making a plan (tests/stack.c, which tools/try_c runs).
+ * A call takes less than 26 KiB of stack (ISHKRELA_STACK_BYTES): on the cases of tests/ at most 25,880
+ * bytes for a run, 12,336 for a placement of a list, 10,352 for one of a device, 8,144 for a read, 8,096
+ * for a check, 1,232 for a group listing by an order and 144 for one without; 4,784 for a write and 2,473
+ * for making a plan (tests/stack.c, which tools/try_c runs).
  */
 #ifndef ISHKRELA_H
 #define ISHKRELA_H
@@ -223,7 +193,7 @@ extern "C" {
 
 /* What no accepted plan's room is above, and the bytes of stack that a call stays below. */
 #define ISHKRELA_MOST_ROOM (ISHKRELA_MOST_DEVICES * ISHKRELA_MOST_WORDS)
-#define ISHKRELA_STACK_BYTES 45056
+#define ISHKRELA_STACK_BYTES 26624
 
 /* Every refusal: its number, its name and its text, in one list, so that none has a name and no text.
  * ISHKRELA_REFUSED_NOT_TAIL is 24, and so for each. */
@@ -336,52 +306,6 @@ typedef struct {
     uint64_t moved;              /* the words that a run moves between devices */
 } ishkrela_checked;
 
-/* The state of a check in pieces: ISHKRELA_CHECKING_BYTES bytes, whatever the file. What is in it is the
- * library's: hand on what a call gave, and read and change none of it. It is numbers alone, with no
- * pointer among them, and may be copied like one. */
-#define ISHKRELA_CHECKING_BYTES 1568
-typedef struct {
-    uint16_t count;
-    uint8_t axes[6];
-} ishkrela_held_list;
-typedef struct {
-    ishkrela_held_list dims[4], unreduced, replicated;
-} ishkrela_held_sharding;
-typedef struct {
-    uint16_t number;
-    uint8_t count;
-    size_t behind, ran;
-    uint64_t moved;
-    ishkrela_held_sharding sharding;
-} ishkrela_held_frame;
-typedef struct {
-    size_t depth;
-    ishkrela_held_frame first, second, third, fourth;
-} ishkrela_held_frames;
-typedef struct {
-    ishkrela_held_frames frames;
-    size_t behind, ran;
-    uint64_t moved;
-    uint16_t number;
-    size_t largest;
-    ishkrela_held_sharding sharding;
-} ishkrela_held_standing;
-typedef struct {
-    uint8_t over, phase, reason, fine, plain;
-    uint8_t head[18], unit[42];
-    size_t step;
-    uint16_t mesh[6], table[4];
-    size_t seen, count, numbers;
-    ishkrela_held_standing standing;
-    uint8_t marks[1024];
-} ishkrela_checking;
-
-/* The answer at the end of a check in pieces. */
-typedef struct {
-    ishkrela_checking state;  /* takes no more pieces; the end may be asked of it again */
-    ishkrela_checked answer;  /* the check's, of all bytes that came */
-} ishkrela_ended;
-
 /* The answer of the run. */
 typedef struct {
     uint32_t refusal;  /* 0, or the refusal */
@@ -431,13 +355,6 @@ typedef struct {
 /* Judges a plan file, and announces its last state. Refusals 1 to 28, and 41 to 44. */
 ishkrela_checked ishkrela_check(const uint8_t *file, size_t file_len);
 
-/* The check of a file that comes in pieces: the state before the first byte; the state with one piece
- * more, which may have no bytes; and at the end the answer of the check of all bytes. The last two take
- * any state. */
-ishkrela_checking ishkrela_check_begin(void);
-ishkrela_checking ishkrela_check_push(ishkrela_checking state, const uint8_t *piece, size_t piece_len);
-ishkrela_ended ishkrela_check_end(ishkrela_checking state);
-
 /* Announces a state of a plan, the start or that after an outermost step, and where a device's shard
  * begins in the table.
  * Refusals of the check; then 34, then 32. */
@@ -470,17 +387,13 @@ uint32_t ishkrela_groups_ordered(const uint16_t *mesh, size_t mesh_len, const ui
 ishkrela_ran ishkrela_run(const uint8_t *file, size_t file_len, uint32_t *work, size_t work_len,
                           uint32_t *spare, size_t spare_len);
 
-/* The same on a table of floats: sums are taken in halves, and the rest of work and all of spare are plus
- * zero afterwards. Refusals, room and words moved are those of the call above. */
-ishkrela_ran ishkrela_run_f32(const uint8_t *file, size_t file_len, float *work, size_t work_len, float *spare,
-                              size_t spare_len);
-
 /* Writes the file of a plan that is given by the sizes of its mesh and of its table, its starting
  * sharding and its step records; and by the order of its devices, where it has one: an order of no
  * numbers is none. The file is the one that the check reads as these records, and bytes after it stay;
  * 8,192 bytes are enough for every plan. Refusals 5, 10, 11, 19, 12, 13, 8, 14 to 17; then those of the
  * records in turn, 20 to 28 and 41 to 44, 8 and 7 among them; then 2, then 35. Every record is
- * judged, however many there are. */
+ * judged, however many there are; a refusal of one past the 65,535th, which a step number does not
+ * reach, is 2. */
 ishkrela_written ishkrela_write(const uint16_t *mesh, size_t mesh_len, const uint16_t *order, size_t order_len,
                                 const uint16_t *table, size_t table_len, ishkrela_sharding start,
                                 const uint8_t *steps, size_t steps_bytes, uint8_t *file, size_t file_len);

@@ -1,6 +1,6 @@
 /* What include/ishkrela.h says, tried from C: the layout of the structs and each field of them,
  * lists and kinds by their macros, fields beside a refusal, empty slices at null, and memory after a
- * refusal; the bits of floats; files in pieces, and states that no call gave.
+ * refusal.
  * Prints nothing. */
 #include <assert.h>
 #include <stdio.h>
@@ -64,60 +64,6 @@ FIELD(ishkrela_planned, refusal, 0, 4);
 FIELD(ishkrela_planned, count, 4, 4);
 FIELD(ishkrela_planned, steps, 8, 114);
 _Static_assert(sizeof(ishkrela_planned) == 124, "ishkrela_planned");
-
-FIELD(ishkrela_held_list, count, 0, 2);
-FIELD(ishkrela_held_list, axes, 2, 6);
-_Static_assert(sizeof(ishkrela_held_list) == 8, "ishkrela_held_list");
-
-FIELD(ishkrela_held_sharding, dims, 0, 32);
-FIELD(ishkrela_held_sharding, unreduced, 32, 8);
-FIELD(ishkrela_held_sharding, replicated, 40, 8);
-_Static_assert(sizeof(ishkrela_held_sharding) == 48, "ishkrela_held_sharding");
-
-FIELD(ishkrela_held_frame, number, 0, 2);
-FIELD(ishkrela_held_frame, count, 2, 1);
-FIELD(ishkrela_held_frame, behind, 8, 8);
-FIELD(ishkrela_held_frame, ran, 16, 8);
-FIELD(ishkrela_held_frame, moved, 24, 8);
-FIELD(ishkrela_held_frame, sharding, 32, 48);
-_Static_assert(sizeof(ishkrela_held_frame) == 80, "ishkrela_held_frame");
-
-FIELD(ishkrela_held_frames, depth, 0, 8);
-FIELD(ishkrela_held_frames, first, 8, 80);
-FIELD(ishkrela_held_frames, second, 88, 80);
-FIELD(ishkrela_held_frames, third, 168, 80);
-FIELD(ishkrela_held_frames, fourth, 248, 80);
-_Static_assert(sizeof(ishkrela_held_frames) == 328, "ishkrela_held_frames");
-
-FIELD(ishkrela_held_standing, frames, 0, 328);
-FIELD(ishkrela_held_standing, behind, 328, 8);
-FIELD(ishkrela_held_standing, ran, 336, 8);
-FIELD(ishkrela_held_standing, moved, 344, 8);
-FIELD(ishkrela_held_standing, number, 352, 2);
-FIELD(ishkrela_held_standing, largest, 360, 8);
-FIELD(ishkrela_held_standing, sharding, 368, 48);
-_Static_assert(sizeof(ishkrela_held_standing) == 416, "ishkrela_held_standing");
-
-FIELD(ishkrela_checking, over, 0, 1);
-FIELD(ishkrela_checking, phase, 1, 1);
-FIELD(ishkrela_checking, reason, 2, 1);
-FIELD(ishkrela_checking, fine, 3, 1);
-FIELD(ishkrela_checking, plain, 4, 1);
-FIELD(ishkrela_checking, head, 5, 18);
-FIELD(ishkrela_checking, unit, 23, 42);
-FIELD(ishkrela_checking, step, 72, 8);
-FIELD(ishkrela_checking, mesh, 80, 12);
-FIELD(ishkrela_checking, table, 92, 8);
-FIELD(ishkrela_checking, seen, 104, 8);
-FIELD(ishkrela_checking, count, 112, 8);
-FIELD(ishkrela_checking, numbers, 120, 8);
-FIELD(ishkrela_checking, standing, 128, 416);
-FIELD(ishkrela_checking, marks, 544, 1024);
-_Static_assert(sizeof(ishkrela_checking) == ISHKRELA_CHECKING_BYTES, "ishkrela_checking");
-
-FIELD(ishkrela_ended, state, 0, ISHKRELA_CHECKING_BYTES);
-FIELD(ishkrela_ended, answer, 1568, 72);
-_Static_assert(sizeof(ishkrela_ended) == 1640, "ishkrela_ended");
 
 /* mesh 2x2, table of 4, sharding [[1, 0]], gather of [0], and of [1], which is not the tail */
 static const uint8_t tail[] = {1, 0, 2, 0, 1, 0, 1, 0, 18, 0, 22, 0, 24, 0, 28, 0, 31, 0,
@@ -369,43 +315,6 @@ static void runs(void)
     assert(memcmp(work, left, sizeof work) == 0 && memcmp(spare, zeros, sizeof spare) == 0);
 }
 
-/* Mesh 1, table of 2, and mesh 4, a table of one word: unreduced [0], all-reduce of [0]. */
-static const uint8_t alone[] = {1, 0, 1, 0, 1, 0, 1, 0, 18, 0, 20, 0, 22, 0, 25, 0, 28, 0,
-                                1, 0, 2, 0, 0, 1, 0, 3, 1, 0};
-static const uint8_t quartet[] = {1, 0, 1, 0, 1, 0, 1, 0, 18, 0, 20, 0, 22, 0, 25, 0, 28, 0,
-                                  4, 0, 1, 0, 0, 1, 0, 3, 1, 0};
-
-/* A run on floats of these bits, in so many words of each buffer, answers this and leaves these bits. */
-static int ran_f32(const uint8_t *file, size_t len, const uint32_t given[9], size_t words, size_t more,
-                   uint32_t refusal, uint64_t moved, const uint32_t left[9])
-{
-    float work[9], spare[9], kept[9];
-    memcpy(work, given, sizeof work);
-    memset(spare, 0x55, sizeof spare);
-    memset(kept, 0x55, sizeof kept);
-    if (refusal == 0)
-        memset(kept, 0, more * sizeof *kept);
-    ishkrela_ran answer = ishkrela_run_f32(file, len, work, words, spare, more);
-    return answer.refusal == refusal && answer.moved == moved && memcmp(work, left, sizeof work) == 0 &&
-           memcmp(spare, kept, sizeof spare) == 0;
-}
-
-/* Bits that a move, and a sum of one word, keeps: minus zero, the smallest float, not-a-numbers that are quiet and
- * signalling, with payloads. 2^24 and 1, 1, 1 give 2^24 + 2 in halves, and 2^24 one after the other. */
-static void runs_f32(void)
-{
-    const uint32_t odd[9] = {0x80000000, 0x7fc12345, 1, 0xff800001, 7, 7, 7, 7, 7};
-    const uint32_t gathered[9] = {0x80000000, 1, 0x7fc12345, 0xff800001, 0x80000000, 1, 0x7fc12345, 0xff800001};
-    const uint32_t pair[9] = {0x80000000, 0x7f800001, 7, 7, 7}, kept_pair[9] = {0x80000000, 0x7f800001, 0, 0, 7};
-    const uint32_t four_words[9] = {0x4b800000, 0x3f800000, 0x3f800000, 0x3f800000, 7, 7};
-    const uint32_t sums[9] = {0x4b800001, 0x4b800001, 0x4b800001, 0x4b800001, 0, 7};
-    assert(ran_f32(tail, sizeof tail, odd, 7, 9, 30, 0, odd) && ran_f32(tail, sizeof tail, odd, 9, 7, 31, 0, odd));
-    assert(ran_f32(front, sizeof front, odd, 9, 9, 24 + 256, 0, odd) && ran_f32(NULL, 0, odd, 9, 9, 1, 0, odd));
-    assert(ran_f32(tail, sizeof tail, odd, 9, 8, 0, 4, gathered));
-    assert(ran_f32(alone, sizeof alone, pair, 4, 2, 0, 0, kept_pair));
-    assert(ran_f32(quartet, sizeof quartet, four_words, 5, 4, 0, 12, sums));
-}
-
 /* W1: mesh 2x2, table 4x4, sharding [[0], [1]], gather of [1] off dimension 1. */
 static const uint16_t two[] = {2, 2}, four[] = {4, 4};
 static const ishkrela_sharding both = {{1, 1}, {[0] = 0, [6] = 1}};
@@ -459,28 +368,6 @@ static void writes_blocks(void)
     written = ishkrela_write(mesh, 1, cables, 2, table, 1, whole, records, 3 * 38, file, 64);
     assert(written.refusal == 0 && written.bytes == 38 && file[0] == 3 && file[20] == 1 && file[22] == 0);
     assert(ishkrela_check(file, 38).steps == 1);
-}
-
-/* More records than any file holds, 17 blocks of 16 blocks of 254 steps in one: the last has its number. */
-static void writes_none_of_many(void)
-{
-    static ishkrela_step steps[1 + 17 * (1 + 16 * 255)];
-    const size_t count = sizeof steps / sizeof *steps;
-    const uint16_t two[] = {2};
-    const ishkrela_sharding whole = {0};
-    uint8_t file[64];
-    steps[0] = (ishkrela_step){.kind = ISHKRELA_REPEAT, .source = 1, .target = 17};
-    for (size_t at = 1; at < count; at++) {
-        size_t outer = (at - 1) % (1 + 16 * 255), inner = outer == 0 ? 0 : (outer - 1) % 255;
-        uint8_t kind = inner % 2 == 1 ? ISHKRELA_ALL_SLICE : ISHKRELA_ALL_GATHER;
-        steps[at] = inner == 0 ? (ishkrela_step){.kind = ISHKRELA_REPEAT, .source = 1, .target = outer == 0 ? 16 : 254}
-                               : (ishkrela_step){.kind = kind, .counts = {1}};
-    }
-    const uint8_t *records = (const uint8_t *)steps;
-    assert(ishkrela_write(two, 1, NULL, 0, two, 1, whole, records, 38 * count, file, 64).refusal == 43 + 256);
-    steps[count - 1].kind = 6;
-    uint32_t refusal = ishkrela_write(two, 1, NULL, 0, two, 1, whole, records, 38 * count, file, 64).refusal;
-    assert(ISHKRELA_NUMBER(refusal) == 20 && ISHKRELA_STEP(refusal) == count && count == 69378);
 }
 
 /* Whether every field beside the refusal is 0. */
@@ -587,94 +474,6 @@ static void kinds(void)
     assert(leads(sum, (ishkrela_step){.kind = ISHKRELA_REDUCE_SCATTER, .counts = {1}}, rows));
 }
 
-/* Whether two states are the same, field by field. */
-static int same_state(const ishkrela_checking *a, const ishkrela_checking *b)
-{
-    const ishkrela_held_standing *p = &a->standing, *q = &b->standing;
-    const ishkrela_held_frame *f = &p->frames.first, *g = &q->frames.first;
-    int same = p->frames.depth == q->frames.depth && p->behind == q->behind && p->ran == q->ran;
-    for (int i = 0; i < 4; i++)
-        same &= f[i].number == g[i].number && f[i].count == g[i].count && f[i].behind == g[i].behind &&
-                f[i].ran == g[i].ran && f[i].moved == g[i].moved &&
-                memcmp(&f[i].sharding, &g[i].sharding, sizeof f[i].sharding) == 0;
-    return same && p->moved == q->moved && p->number == q->number && p->largest == q->largest &&
-           memcmp(&p->sharding, &q->sharding, sizeof p->sharding) == 0 && a->over == b->over && a->phase == b->phase &&
-           a->reason == b->reason && a->fine == b->fine && a->plain == b->plain &&
-           memcmp(a->head, b->head, sizeof a->head) == 0 && memcmp(a->unit, b->unit, sizeof a->unit) == 0 &&
-           a->step == b->step && memcmp(a->mesh, b->mesh, sizeof a->mesh) == 0 &&
-           memcmp(a->table, b->table, sizeof a->table) == 0 && a->seen == b->seen && a->count == b->count &&
-           a->numbers == b->numbers && memcmp(a->marks, b->marks, sizeof a->marks) == 0;
-}
-
-/* A file in pieces of so many bytes, and of none between them, is answered as the whole; after the end a piece
- * changes nothing, and the second end repeats the first. */
-static void in_pieces(const uint8_t *file, size_t len, size_t size)
-{
-    ishkrela_checked whole = ishkrela_check(file, len);
-    ishkrela_checking state = ishkrela_check_begin();
-    for (size_t at = 0; at < len; at += size) {
-        state = ishkrela_check_push(state, NULL, 0);
-        state = ishkrela_check_push(state, file + at, len - at < size ? len - at : size);
-    }
-    ishkrela_ended ended = ishkrela_check_end(state);
-    assert(memcmp(&ended.answer, &whole, sizeof whole) == 0);
-    ishkrela_ended again = ishkrela_check_end(ishkrela_check_push(ended.state, file, len));
-    assert(memcmp(&again.answer, &whole, sizeof whole) == 0 && same_state(&again.state, &ended.state));
-}
-
-/* Each plan above, cut in every way into equal pieces; cut short, and with a byte too many. */
-static void pieces(void)
-{
-    const struct {
-        const uint8_t *file;
-        size_t len;
-    } plans[] = {
-        {w1, sizeof w1},         {tail, sizeof tail},   {front, sizeof front}, {kept, sizeof kept},
-        {unkept, sizeof unkept}, {cabled, sizeof cabled}, {plain, sizeof plain}, {full, sizeof full},
-        {block, sizeof block},   {alone, sizeof alone},
-    };
-    static uint8_t longest[8194];
-    uint8_t more[sizeof w1 + 1] = {0};
-    for (size_t i = 0; i < sizeof plans / sizeof *plans; i++)
-        for (size_t size = 1; size <= plans[i].len; size++)
-            in_pieces(plans[i].file, plans[i].len, size);
-    for (size_t len = 0; len <= sizeof w1; len++)
-        in_pieces(w1, len, 1);
-    memcpy(more, w1, sizeof w1);
-    in_pieces(more, sizeof more, 1);
-    memcpy(longest, w1, sizeof w1);
-    in_pieces(longest, 8192, 1000);
-    in_pieces(longest, sizeof longest, 1);
-    assert(ishkrela_check_end(ishkrela_check_begin()).answer.refusal == 1);
-
-    ishkrela_checking half = ishkrela_check_push(ishkrela_check_begin(), w1, 20);
-    assert(ishkrela_check_end(ishkrela_check_push(half, w1 + 20, 15)).answer.refusal == 0);
-    assert(ishkrela_check_end(half).answer.refusal == 4); /* it is as it was */
-}
-
-/* States that no call gave get an answer: all bytes alike; a file that is stopped at a step that 32 bits do not hold
- * beside the number; one that has begun its steps with more repeats open than there are places. */
-static void made_up(void)
-{
-    ishkrela_checking state;
-    for (int byte = 0; byte < 256; byte++) {
-        memset(&state, byte, sizeof state);
-        assert(ishkrela_check_end(state).answer.refusal == 1);
-        ishkrela_ended ended = ishkrela_check_end(ishkrela_check_push(state, w1, sizeof w1));
-        assert(ended.state.over == 1 && ended.answer.refusal == (byte == 0 ? 0 : 1));
-    }
-    state = ishkrela_check_push(ishkrela_check_begin(), w1, sizeof w1);
-    state.phase = 200;
-    state.reason = 24;
-    state.step = 3;
-    assert(ishkrela_check_end(state).answer.refusal == 24 + 256 * 3);
-    state.step = SIZE_MAX;
-    assert(ishkrela_check_end(state).answer.refusal == 24 + 256 * 0xffffffu);
-    state = ishkrela_check_push(ishkrela_check_begin(), w1, 31);
-    state.standing.frames.depth = 1000;
-    (void)ishkrela_check_end(ishkrela_check_push(state, w1 + 31, 4));
-}
-
 static void version(void)
 {
     char said[16];
@@ -687,7 +486,6 @@ static void empty(void)
     const uint16_t mesh[] = {2};
     uint16_t out[2] = {9, 9};
     assert(ishkrela_check(NULL, 0).refusal == 1 && ishkrela_place(NULL, 0, 0, 0).refusal == 1);
-    assert(ishkrela_run_f32(NULL, 0, NULL, 0, NULL, 0).refusal == 1);
     assert(ishkrela_place_all(NULL, 0, 0, NULL, 0, NULL, 0).refusal == 1);
     assert(ishkrela_place_all(tail, sizeof tail, 0, NULL, 0, NULL, 0).refusal == 0);
     assert(ishkrela_place_all(tail, sizeof tail, 0, mesh, 1, NULL, 0).refusal == 33);
@@ -714,15 +512,11 @@ int main(void)
     groups();
     groups_ordered();
     runs();
-    runs_f32();
     writes();
     writes_blocks();
-    writes_none_of_many();
     reads();
     plans();
     kinds();
-    pieces();
-    made_up();
     version();
     empty();
     return 0;

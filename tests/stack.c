@@ -10,13 +10,10 @@
 #include <string.h>
 #include "ishkrela.h"
 
-enum { CALLS = 13, PAINT = 0xa5, STACK = 1 << 18, ROOM = ISHKRELA_MOST_ROOM, SAID = ISHKRELA_STACK_BYTES };
+enum { CALLS = 9, PAINT = 0xa5, STACK = 1 << 18, ROOM = ISHKRELA_MOST_ROOM, SAID = ISHKRELA_STACK_BYTES };
 
 static _Alignas(64) unsigned char stack[STACK];
-static union {
-    uint32_t words[ROOM];
-    float floats[ROOM];
-} work, spare;
+static uint32_t work[ROOM], spare[ROOM];
 static uint8_t file[10000];
 static size_t len;
 static ishkrela_checked plan;
@@ -63,31 +60,7 @@ static void groups_ordered(void)
 
 static void run(void)
 {
-    ishkrela_run(file, len, work.words, plan.room, spare.words, plan.room);
-}
-
-static void run_f32(void)
-{
-    ishkrela_run_f32(file, len, work.floats, plan.room, spare.floats, plan.room);
-}
-
-/* The state with all bytes of the file. */
-static ishkrela_checking begun, pushed;
-static ishkrela_ended ended;
-
-static void check_begin(void)
-{
-    begun = ishkrela_check_begin();
-}
-
-static void check_push(void)
-{
-    pushed = ishkrela_check_push(begun, file, len);
-}
-
-static void check_end(void)
-{
-    ended = ishkrela_check_end(pushed);
+    ishkrela_run(file, len, work, plan.room, spare, plan.room);
 }
 
 static void write_nested(void)
@@ -107,12 +80,10 @@ static void plan_goal(void)
 }
 
 static const char *const names[CALLS] = {
-    "check", "place", "place_all", "groups",      "groups_ordered", "run",       "write",
-    "read",  "plan",  "run_f32",   "check_begin", "check_push",     "check_end",
+    "check", "place", "place_all", "groups", "groups_ordered", "run", "write", "read", "plan",
 };
 static void (*volatile const calls[CALLS])(void) = {
-    check,     place,     place_all, groups,      groups_ordered, run, write_nested,
-    read_back, plan_goal, run_f32,   check_begin, check_push,     check_end,
+    check, place, place_all, groups, groups_ordered, run, write_nested, read_back, plan_goal,
 };
 
 static void *calling(void *which)

@@ -1,11 +1,9 @@
 //! Random repeats: blocks that end in the sharding that they begin with, plans that run as many
 //! plain steps or have as many bytes as there may be, and repeats that are refused.
 
+use crate::answers::{Dim, Refusal, MOST_BYTES, MOST_DEPTH, MOST_RUN, MOST_STEPS};
 use crate::plans::{Draft, Lists, Step, Tracked};
 use crate::random::Random;
-use crate::refusal;
-use ishkrela::limits::{MOST_BYTES, MOST_DEPTH, MOST_RUN, MOST_STEPS};
-use ishkrela::{Dim, Refusal};
 
 /// A byte counts the inner steps of a block, and how often it is run.
 const MOST_INNER: usize = 255;
@@ -300,7 +298,7 @@ pub(crate) fn put(
     draft: &mut Draft,
     last: bool,
     make: impl FnOnce(&mut Random, &Tracked, usize) -> Option<Step>,
-) -> Option<u32> {
+) -> Option<u16> {
     let mut steps = std::mem::take(&mut draft.steps);
     let mut place = Place {
         state: Tracked::start(draft),
@@ -309,7 +307,7 @@ pub(crate) fn put(
         last,
     };
     let put = place.put(random, &mut steps, MOST_STEPS, make);
-    let number = place.number as u32;
+    let number = place.number as u16;
     draft.steps = steps;
     put.then_some(number)
 }
@@ -391,7 +389,7 @@ pub(crate) fn broken(
     let step = put(random, &mut draft, last, make)? + inside;
     let file = draft.encode();
     // A plan with one more block may be too long.
-    (file.len() <= MOST_BYTES).then_some((file, refusal(number, step)))
+    (file.len() <= MOST_BYTES).then_some((file, Refusal { number, step }))
 }
 
 /// A repeat whose block does not lead back, sometimes to the same shard sizes, and sometimes run
@@ -437,7 +435,7 @@ fn too_deep(
     state: &Tracked,
     depth: usize,
     last: Step,
-    before: &mut u32,
+    before: &mut u16,
 ) -> Step {
     if depth > MOST_DEPTH {
         return last;
@@ -447,7 +445,7 @@ fn too_deep(
         false => Vec::new(),
     };
     block.truncate(MOST_INNER - 1);
-    *before += 1 + kinds(&block) as u32;
+    *before += 1 + kinds(&block) as u16;
     block.push(too_deep(random, state, depth + 1, last, before));
     Step::Repeat(positive(random), block)
 }
@@ -482,13 +480,13 @@ fn runs_on(random: &mut Random, draft: &Draft) -> Option<(Vec<u8>, Refusal)> {
     if last.runs() <= short_of {
         return None;
     }
-    let step = kinds(&draft.steps) as u32 + 1;
+    let step = kinds(&draft.steps) as u16 + 1;
     draft.steps.push(last);
     if random.once_in(2) && draft.steps.len() < MOST_STEPS {
         draft.steps.push(Step::Bytes(vec![random.byte()]));
     }
     let file = draft.encode();
-    let refusal = refusal(43, step);
+    let refusal = Refusal { number: 43, step };
     (file.len() <= MOST_BYTES).then_some((file, refusal))
 }
 

@@ -3,14 +3,13 @@
 //! A `Draft` is a plan before it is bytes. The generator keeps its own account of the sharding,
 //! so that it knows what each next step may name. `blocks` makes the steps of repeats.
 
+use crate::answers::{
+    Axis, Device, Dim, Refusal, MOST_AXES, MOST_BYTES, MOST_DEVICES, MOST_RANK, MOST_RUN,
+    MOST_STEPS, MOST_WORDS,
+};
 use crate::blocks;
 use crate::random::Random;
 use crate::spreads::product;
-use crate::{refusal, whole};
-use ishkrela::limits::{
-    MOST_AXES, MOST_BYTES, MOST_DEVICES, MOST_DIMS, MOST_RUN, MOST_STEPS, MOST_WORDS,
-};
-use ishkrela::{Axis, Device, Dim, Refusal};
 
 /// One axis list for each dimension.
 pub type Lists = Vec<Vec<Axis>>;
@@ -450,7 +449,7 @@ pub fn small(random: &mut Random) -> Draft {
 /// A plan that is accepted.
 pub fn accepted(random: &mut Random, scale: Scale) -> Draft {
     let mesh = random_mesh(random, scale.devices);
-    let rank = random.between(1, MOST_DIMS);
+    let rank = random.between(1, MOST_RANK);
     let mut draft = with_random_start(random, mesh, rank);
     draft.table = random_table(random, &draft, scale.words);
     if random.once_in(3) {
@@ -511,7 +510,7 @@ fn with_largest_state(random: &mut Random, scale: Scale) -> Draft {
     } else {
         2
     };
-    let rank = random.between(least, MOST_DIMS);
+    let rank = random.between(least, MOST_RANK);
     let mut draft = Draft {
         table: powers_of_two(random, rank, scale.words),
         start: vec![Vec::new(); rank],
@@ -676,7 +675,7 @@ pub fn broken(random: &mut Random, number: u8) -> (Vec<u8>, Refusal) {
 /// Breaks the header, the length of a section or a count.
 fn broken_bytes(random: &mut Random, draft: &Draft, number: u8) -> Option<(Vec<u8>, Refusal)> {
     let mut file = draft.encode();
-    let length = file.len();
+    let whole = file.len();
     match number {
         1 => file.truncate(random.below(18)),
         2 => {
@@ -689,7 +688,7 @@ fn broken_bytes(random: &mut Random, draft: &Draft, number: u8) -> Option<(Vec<u
             file[..2].copy_from_slice(&edition.to_le_bytes());
         }
         4 => change_number(random, &mut file, 8),
-        5 => return Some((broken_limit(random, draft), whole(5))),
+        5 => return Some((broken_limit(random, draft), Refusal::whole(5))),
         // An offset is wrong for an edition without the list or the order that stands before it.
         6 if draft.edition() > 1 && random.once_in(5) => {
             file[0] = random.between(1, draft.edition() - 1) as u8;
@@ -708,7 +707,7 @@ fn broken_bytes(random: &mut Random, draft: &Draft, number: u8) -> Option<(Vec<u
         // Behind the kind byte or the count of a repeat, or before its inner steps.
         7 if random.once_in(3) => file = blocks::ends_early(random, draft),
         7 => {
-            file.truncate(random.between(18, length - 1));
+            file.truncate(random.between(18, whole - 1));
             mend_length(&mut file);
         }
         8 => {
@@ -717,14 +716,14 @@ fn broken_bytes(random: &mut Random, draft: &Draft, number: u8) -> Option<(Vec<u
         }
         9 => {
             // Sometimes as long as a file may be.
-            let most = random.pick(&[1, 40, MOST_BYTES - length]);
+            let most = random.pick(&[1, 40, MOST_BYTES - whole]);
             let least = if most > 40 { most } else { 1 };
             file.extend((0..random.between(least, most)).map(|_| random.byte()));
             mend_length(&mut file);
         }
         _ => return None,
     }
-    Some((file, whole(number)))
+    Some((file, Refusal::whole(number)))
 }
 
 /// Writes another number at an entry of the header.
@@ -753,7 +752,7 @@ fn broken_limit(random: &mut Random, draft: &Draft) -> Vec<u8> {
     match random.below(4) {
         0 => draft.mesh = vec![1; random.pick(&[0, MOST_AXES + 1, MOST_AXES + 2])],
         1 => {
-            let rank = random.pick(&[0, MOST_DIMS + 1, MOST_DIMS + 2]);
+            let rank = random.pick(&[0, MOST_RANK + 1, MOST_RANK + 2]);
             draft.table = vec![1; rank];
             draft.start = vec![Vec::new(); rank];
         }
@@ -849,7 +848,7 @@ fn broken_start(random: &mut Random, mut draft: Draft, number: u8) -> Option<(Ve
     }
     let empty = number == 18 || (draft.edition() == 1 && random.once_in(4));
     let edition = if empty { 2 } else { draft.edition() };
-    Some((draft.encode_as(edition), whole(number)))
+    Some((draft.encode_as(edition), Refusal::whole(number)))
 }
 
 /// Gives the devices an order that is none, or the plain one.
@@ -880,7 +879,7 @@ fn broken_order(random: &mut Random, mut draft: Draft) -> Option<(Vec<u8>, Refus
         file.truncate(18 + 2 * (draft.mesh.len() + count));
         mend_length(&mut file);
     }
-    Some((file, whole(19)))
+    Some((file, Refusal::whole(19)))
 }
 
 /// A size that passes a limit, often by one.
@@ -963,7 +962,7 @@ fn broken_step(random: &mut Random, mut draft: Draft, number: u8) -> Option<(Vec
     let make = |random: &mut Random, state: &Tracked, _| faulty(random, state, number);
     let last = random.once_in(4);
     let step = blocks::put(random, &mut draft, last, make)?;
-    Some((draft.encode(), refusal(number, step)))
+    Some((draft.encode(), Refusal { number, step }))
 }
 
 fn faulty(random: &mut Random, state: &Tracked, number: u8) -> Option<Step> {

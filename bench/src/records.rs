@@ -1,9 +1,8 @@
 //! Plans as records, which the writer of document 02 takes, the reading call gives back and the
 //! planner makes. `Records::new` makes them of nested steps.
 
+use crate::answers::{Axis, Device, Dim, Sharding, Sizes, MOST_AXES, MOST_RANK};
 use crate::plans::{Draft, Lists, Step};
-use ishkrela::limits::{MOST_AXES, MOST_DIMS};
-use ishkrela::{Axis, Device, Dim, Sharding};
 
 /// A mesh, the order of its devices (empty for plain order) and the sizes of a table.
 #[derive(Clone, Debug, Default, PartialEq, Eq)]
@@ -11,6 +10,14 @@ pub struct MeshAndTable {
     pub mesh: Vec<u16>,
     pub order: Vec<Device>,
     pub table: Vec<u16>,
+}
+
+/// A sharding with a list for each dimension of its table. Lists may be longer than any that passes.
+#[derive(Clone, Debug, Default, PartialEq, Eq)]
+pub struct ShardingRecord {
+    pub dims: Lists,
+    pub unreduced: Vec<Axis>,
+    pub replicated: Vec<Axis>,
 }
 
 /// What stands at one kind byte.
@@ -34,7 +41,7 @@ pub enum StepRecord {
 #[derive(Clone, Debug, Default, PartialEq, Eq)]
 pub struct Records {
     pub on: MeshAndTable,
-    pub start: Sharding,
+    pub start: ShardingRecord,
     pub steps: Vec<StepRecord>,
 }
 
@@ -42,7 +49,7 @@ pub struct Records {
 #[derive(Clone, Debug, PartialEq, Eq)]
 pub struct Opened {
     pub mesh: Vec<u16>,
-    pub table: Vec<u16>,
+    pub table: Sizes,
     pub start: Sharding,
     /// How many device numbers were written; none for plain order.
     pub order: usize,
@@ -51,18 +58,11 @@ pub struct Opened {
 }
 
 /// The lists of a step record: those of dimensions 0 to 3, and the one list of a step that has one.
-pub const RECORD_LISTS: usize = MOST_DIMS + 1;
+pub const RECORD_LISTS: usize = MOST_RANK + 1;
 /// The bytes of a step record: kind, source, target, the counts of its lists, six places for each.
 pub const RECORD_BYTES: usize = 3 + RECORD_LISTS + RECORD_LISTS * MOST_AXES;
 /// The fewest bytes that a step record has in an accepted file: a step names an axis.
 pub const LEAST_STEP_BYTES: usize = 3;
-
-impl MeshAndTable {
-    /// As the calls take them.
-    pub fn parts(&self) -> (&[u16], &[Device], &[u16]) {
-        (&self.mesh, &self.order, &self.table)
-    }
-}
 
 impl StepRecord {
     /// The record as the calls take it; places that are not used are 0. A list with more axes than
@@ -84,9 +84,9 @@ impl StepRecord {
         let by_dim = lists
             .iter()
             .map(|list| &list[..])
-            .take(MOST_DIMS)
+            .take(MOST_RANK)
             .enumerate();
-        for (at, list) in by_dim.chain([(MOST_DIMS, list)]) {
+        for (at, list) in by_dim.chain([(MOST_RANK, list)]) {
             bytes[3 + at] = list.len().min(255) as u8;
             let places = &mut bytes[3 + RECORD_LISTS + MOST_AXES * at..][..MOST_AXES];
             for (place, axis) in places.iter_mut().zip(list) {
@@ -111,8 +111,8 @@ impl StepRecord {
         Some(match kind {
             1 => StepRecord::Slice(lists()?),
             2 => StepRecord::Gather(lists()?),
-            3 => StepRecord::Reduce(list(MOST_DIMS)?),
-            4 => StepRecord::AllToAll(Dim(source), Dim(target), list(MOST_DIMS)?),
+            3 => StepRecord::Reduce(list(MOST_RANK)?),
+            4 => StepRecord::AllToAll(Dim(source), Dim(target), list(MOST_RANK)?),
             5 => StepRecord::Scatter(lists()?),
             9 => StepRecord::Repeat {
                 count: source,
@@ -137,7 +137,7 @@ impl StepRecord {
 impl Records {
     /// The records of a plan, made of steps that may have blocks of others. A block has 255 steps at
     /// most: panics where one has more.
-    pub fn new(on: MeshAndTable, start: Sharding, steps: &[Step]) -> Records {
+    pub fn new(on: MeshAndTable, start: ShardingRecord, steps: &[Step]) -> Records {
         let mut records = Vec::new();
         steps.iter().for_each(|step| flatten(step, &mut records));
         Records {
@@ -156,9 +156,9 @@ impl Records {
             on: MeshAndTable {
                 mesh: opened.mesh.clone(),
                 order: order.get(..opened.order)?.to_vec(),
-                table: opened.table.clone(),
+                table: opened.table.to_vec(),
             },
-            start: opened.start.clone(),
+            start: ShardingRecord::from(&opened.start),
             steps: bytes
                 .chunks(RECORD_BYTES)
                 .map(record)
@@ -196,6 +196,16 @@ fn next_step(left: &mut std::slice::Iter<StepRecord>) -> Option<Step> {
     })
 }
 
+impl From<&Sharding> for ShardingRecord {
+    fn from(sharding: &Sharding) -> ShardingRecord {
+        ShardingRecord {
+            dims: sharding.dims.iter().map(|list| list.to_vec()).collect(),
+            unreduced: sharding.unreduced.to_vec(),
+            replicated: sharding.replicated.to_vec(),
+        }
+    }
+}
+
 impl From<&Draft> for Records {
     fn from(draft: &Draft) -> Records {
         let on = MeshAndTable {
@@ -203,7 +213,7 @@ impl From<&Draft> for Records {
             order: draft.order.clone(),
             table: draft.table.clone(),
         };
-        let start = Sharding {
+        let start = ShardingRecord {
             dims: draft.start.clone(),
             unreduced: draft.unreduced.clone(),
             replicated: draft.replicated.clone(),

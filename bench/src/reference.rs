@@ -9,26 +9,22 @@
 //! A place is the row-major number of coordinates. Groups and steps go by place; the order of the
 //! devices tells which one stands there.
 
-use crate::{refusal, whole};
-use compact::{AxisList, DimLists, Sharding, Sizes};
-use ishkrela::limits::{
-    LEAST_BYTES, MOST_AXES, MOST_BYTES, MOST_DEPTH, MOST_DEVICES, MOST_DIMS, MOST_RUN, MOST_STEPS,
+use crate::answers::{
+    Axis, AxisList, Checked, Device, Dim, DimLists, NotPlaced, Placed, Refusal, Sharding, Sizes,
+    LEAST_BYTES, MOST_AXES, MOST_BYTES, MOST_DEPTH, MOST_DEVICES, MOST_RANK, MOST_RUN, MOST_STEPS,
     MOST_WORDS,
 };
-use ishkrela::{Axis, Checked, Device, Dim, NotPlaced, Placed, Refusal};
-use short::Short;
+use crate::short::Short;
 use std::collections::{BTreeMap, BTreeSet};
 use std::mem;
 
-mod compact;
 pub mod records;
-mod short;
 
 /// The answer of the check, and the shard sizes of every state, the start first.
 #[derive(Clone, Debug, PartialEq, Eq)]
 pub struct Judged {
     pub checked: Checked,
-    pub shards: Vec<Vec<u16>>,
+    pub shards: Vec<Sizes>,
 }
 
 /// The limits that document 02, Ask 12, raised.
@@ -64,43 +60,29 @@ pub fn check_within(file: &[u8], limits: Limits) -> Result<Judged, Refusal> {
     let plan = Plan::judge_within(file, limits)?;
     let last = plan.last();
     let checked = Checked {
-        room: plan.room(),
+        room: plan.room() as u32,
         devices: plan.mesh.devices as u16,
         steps: plan.steps.len() as u16,
-        sharding: last.sharding.into(),
-        shard: last.shard.to_vec(),
+        sharding: last.sharding,
+        shard: last.shard,
         moved: plan.moved(),
     };
-    let shards = plan
-        .states
-        .iter()
-        .map(|state| state.shard.to_vec())
-        .collect();
+    let shards = plan.states.iter().map(|state| state.shard).collect();
     Ok(Judged { checked, shards })
 }
 
 /// Tells how a state is sharded, and where in the table a device's shard begins.
 pub fn place(file: &[u8], state: u16, device: Device) -> Result<Placed, Refusal> {
-    let (state, first) = find(file, state, device)?;
-    Ok(Placed {
-        sharding: state.sharding.into(),
-        shard: state.shard.to_vec(),
-        first: first.to_vec(),
-    })
-}
-
-/// Whether a state has a device.
-pub fn places(file: &[u8], state: u16, device: Device) -> bool {
-    find(file, state, device).is_ok()
-}
-
-fn find(file: &[u8], state: u16, device: Device) -> Result<(State, Sizes), Refusal> {
     let plan = Plan::judge(file)?;
-    let state = *plan.state(state)?;
+    let state = plan.state(state)?;
     if !plan.has(device) {
-        return Err(whole(32));
+        return Err(Refusal::whole(32));
     }
-    Ok((state, state.first(&plan.mesh, plan.order.place(device))))
+    Ok(Placed {
+        sharding: state.sharding,
+        shard: state.shard,
+        first: state.first(&plan.mesh, plan.order.place(device)),
+    })
 }
 
 /// Writes where the shard of each device of a list begins, as many numbers for each as the rank.
@@ -114,11 +96,11 @@ pub fn place_all(
     let state = plan.state(state)?;
     let rank = state.shard.len();
     if first.len() < devices.len() * rank {
-        return Err(whole(33).into());
+        return Err(Refusal::whole(33).into());
     }
     if let Some(place) = devices.iter().position(|&device| !plan.has(device)) {
         return Err(NotPlaced {
-            refusal: whole(32),
+            refusal: Refusal::whole(32),
             place: Some(place),
         });
     }
@@ -149,7 +131,7 @@ pub fn groups_ordered(
 
 fn given_mesh(sizes: &[u16]) -> Result<Mesh, Refusal> {
     if !(1..=MOST_AXES).contains(&sizes.len()) {
-        return Err(whole(5));
+        return Err(Refusal::whole(5));
     }
     Mesh::judge(sizes.iter().copied().collect(), MOST_DEVICES)
 }
@@ -163,7 +145,7 @@ fn list_groups(
     let mut named = Named::default();
     axes.iter().try_for_each(|&axis| named.name(mesh, axis))?;
     if out.len() < mesh.devices {
-        return Err(whole(33));
+        return Err(Refusal::whole(33));
     }
     for (entry, place) in out.iter_mut().zip(mesh.listing(axes)) {
         *entry = order.device(place);
@@ -178,57 +160,15 @@ pub fn accepts(file: &[u8]) -> bool {
 
 /// Runs a plan on the words in `work`, and answers the words moved between devices; `spare` is lent to
 /// hold every other state.
-pub fn run<W: Element>(file: &[u8], work: &mut [W], spare: &mut [W]) -> Result<u64, Refusal> {
+pub fn run(file: &[u8], work: &mut [u32], spare: &mut [u32]) -> Result<u64, Refusal> {
     let plan = Plan::judge(file)?;
     plan.run(work, spare)?;
     Ok(plan.moved())
 }
 
 /// The same without the count.
-pub fn only_run<W: Element>(file: &[u8], work: &mut [W], spare: &mut [W]) -> Result<(), Refusal> {
+pub fn only_run(file: &[u8], work: &mut [u32], spare: &mut [u32]) -> Result<(), Refusal> {
     Plan::judge(file)?.run(work, spare)
-}
-
-/// What a table is made of; its default is left behind the last state.
-pub trait Element: Copy + Default {
-    /// Puts the word-by-word sum of shards, given by position in their group, into `sum`.
-    fn sum_shards(shards: &[&[Self]], sum: &mut [Self]);
-}
-
-/// Added modulo 2^32.
-impl Element for u32 {
-    fn sum_shards(shards: &[&[u32]], sum: &mut [u32]) {
-        sum.fill(0);
-        for shard in shards {
-            for (total, word) in sum.iter_mut().zip(*shard) {
-                *total = word.wrapping_add(*total);
-            }
-        }
-    }
-}
-
-/// Added in halves, each addition rounded once.
-impl Element for f32 {
-    fn sum_shards(shards: &[&[f32]], sum: &mut [f32]) {
-        let mut words = vec![0.0; shards.len()];
-        for (at, total) in sum.iter_mut().enumerate() {
-            for (word, shard) in words.iter_mut().zip(shards) {
-                *word = shard[at];
-            }
-            *total = in_halves(&words);
-        }
-    }
-}
-
-/// One word is itself, else the sum of the first half, the larger if uneven, plus that of the second.
-fn in_halves(words: &[f32]) -> f32 {
-    match words {
-        [word] => *word,
-        _ => {
-            let (first, second) = words.split_at(words.len().div_ceil(2));
-            in_halves(first) + in_halves(second)
-        }
-    }
 }
 
 /// An accepted plan.
@@ -265,12 +205,12 @@ impl Plan {
         reader.expect_at(header.steps_at)?;
         let start = State::start(&mesh, &table, start)?;
         if header.edition == 2 && start.sharding.replicated.is_empty() {
-            return Err(whole(18));
+            return Err(Refusal::whole(18));
         }
         let mut judge = Judge::new(&mesh, reader, start);
         let (steps, states) = judge.outermost(header.steps)?;
         if judge.source.at < file.len() {
-            return Err(whole(9));
+            return Err(Refusal::whole(9));
         }
         let most = judge.most;
         Ok(Plan {
@@ -285,7 +225,7 @@ impl Plan {
 
     fn state(&self, number: u16) -> Result<&State, Refusal> {
         let state = self.states.get(usize::from(number));
-        state.ok_or(whole(34))
+        state.ok_or(Refusal::whole(34))
     }
 
     fn has(&self, device: Device) -> bool {
@@ -300,21 +240,21 @@ impl Plan {
         self.mesh.devices * self.most
     }
 
-    fn run<W: Element>(&self, work: &mut [W], spare: &mut [W]) -> Result<(), Refusal> {
+    fn run(&self, work: &mut [u32], spare: &mut [u32]) -> Result<(), Refusal> {
         let room = self.room();
         if work.len() < room {
-            return Err(whole(30));
+            return Err(Refusal::whole(30));
         }
         if spare.len() < room {
-            return Err(whole(31));
+            return Err(Refusal::whole(31));
         }
         let times = self.apply(&mut work[..room], &mut spare[..room]);
         let words = self.mesh.devices * self.last().words();
         if times % 2 == 1 {
             work[..words].copy_from_slice(&spare[..words]);
         }
-        work[words..].fill(W::default());
-        spare.fill(W::default());
+        work[words..].fill(0);
+        spare.fill(0);
         Ok(())
     }
 
@@ -326,10 +266,10 @@ impl Plan {
 
     /// Runs all steps, on shards by place. Answers how often the state went from one buffer to the
     /// other: after an even number of times it is in `work`, else in `spare`.
-    fn apply<W: Element>(&self, work: &mut [W], spare: &mut [W]) -> usize {
+    fn apply(&self, work: &mut [u32], spare: &mut [u32]) -> usize {
         let (mut old, mut new) = (work, spare);
         let mut times = 0;
-        let mut pass = |make: &dyn Fn(&[W], &mut [W])| {
+        let mut pass = |make: &dyn Fn(&[u32], &mut [u32])| {
             make(old, new);
             mem::swap(&mut old, &mut new);
             times += 1;
@@ -398,7 +338,7 @@ impl Item {
 }
 
 impl Taken {
-    fn apply<W: Element>(&self, mesh: &Mesh, old: &[W], new: &mut [W]) {
+    fn apply(&self, mesh: &Mesh, old: &[u32], new: &mut [u32]) {
         self.step.apply(mesh, &self.before, &self.after, old, new);
     }
 }
@@ -513,9 +453,13 @@ impl<'a, S: Source> Judge<'a, S> {
     }
 }
 
-/// A refusal of the step with this number.
+/// A refusal of the step with this number. Records may be more than 16 bits count: past them the file
+/// is too long for any refusal of its own.
 fn refusal_at(number: u8, step: usize) -> Refusal {
-    refusal(number, step as u32)
+    match u16::try_from(step) {
+        Ok(step) => Refusal { number, step },
+        Err(_) => Refusal::whole(2),
+    }
 }
 
 /// The numbers at the front of a file, within their limits.
@@ -533,17 +477,17 @@ struct Header {
 impl Header {
     fn judge(file: &[u8], most: usize) -> Result<Header, Refusal> {
         if file.len() < LEAST_BYTES {
-            return Err(whole(1));
+            return Err(Refusal::whole(1));
         }
         if file.len() > most {
-            return Err(whole(2));
+            return Err(Refusal::whole(2));
         }
         let entry = |index: usize| usize::from(number_at(file, 2 * index));
         if !(1..=3).contains(&entry(0)) {
-            return Err(whole(3));
+            return Err(Refusal::whole(3));
         }
         if entry(8) != file.len() {
-            return Err(whole(4));
+            return Err(Refusal::whole(4));
         }
         let (axes, rank, steps) = (entry(1), entry(2), entry(3));
         within_limits(axes, rank, steps)?;
@@ -562,11 +506,11 @@ impl Header {
 
 fn within_limits(axes: usize, rank: usize, steps: usize) -> Result<(), Refusal> {
     let within =
-        (1..=MOST_AXES).contains(&axes) && (1..=MOST_DIMS).contains(&rank) && steps <= MOST_STEPS;
+        (1..=MOST_AXES).contains(&axes) && (1..=MOST_RANK).contains(&rank) && steps <= MOST_STEPS;
     if within {
         Ok(())
     } else {
-        Err(whole(5))
+        Err(Refusal::whole(5))
     }
 }
 
@@ -585,14 +529,14 @@ impl Reader<'_> {
         if offset == self.at {
             Ok(())
         } else {
-            Err(whole(6))
+            Err(Refusal::whole(6))
         }
     }
 
     fn bytes(&mut self, count: usize) -> Result<&[u8], Refusal> {
         let bytes = self.file[self.at..].get(..count);
         self.at += count;
-        bytes.ok_or(whole(7))
+        bytes.ok_or(Refusal::whole(7))
     }
 
     fn byte(&mut self) -> Result<u8, Refusal> {
@@ -613,7 +557,7 @@ impl Reader<'_> {
     fn list(&mut self, axes: usize) -> Result<AxisList, Refusal> {
         let count = usize::from(self.byte()?);
         if count > axes {
-            return Err(whole(8));
+            return Err(Refusal::whole(8));
         }
         Ok(self.bytes(count)?.iter().map(|&byte| Axis(byte)).collect())
     }
@@ -678,10 +622,10 @@ fn product_within(sizes: &[u16], zero: u8, most: usize, past: u8) -> Result<usiz
     for &size in sizes {
         product *= usize::from(size);
         if size == 0 {
-            return Err(whole(zero));
+            return Err(Refusal::whole(zero));
         }
         if product > most {
-            return Err(whole(past));
+            return Err(Refusal::whole(past));
         }
     }
     Ok(product)
@@ -772,7 +716,7 @@ impl Order {
         let mut sorted = listed.clone();
         sorted.sort_unstable();
         if sorted != plain || listed == plain {
-            return Err(whole(19));
+            return Err(Refusal::whole(19));
         }
         Ok(Order(listed))
     }
@@ -801,14 +745,14 @@ impl Order {
     }
 
     /// Puts shards that lie by device number where the places are.
-    fn by_place<W: Copy>(&self, words: usize, old: &[W], new: &mut [W]) {
+    fn by_place(&self, words: usize, old: &[u32], new: &mut [u32]) {
         for (shard, device) in new.chunks_exact_mut(words).zip(&self.0) {
             shard.copy_from_slice(&old[device.index() * words..][..words]);
         }
     }
 
     /// The way back.
-    fn by_device<W: Copy>(&self, words: usize, old: &[W], new: &mut [W]) {
+    fn by_device(&self, words: usize, old: &[u32], new: &mut [u32]) {
         for (shard, device) in old.chunks_exact(words).zip(&self.0) {
             new[device.index() * words..][..words].copy_from_slice(shard);
         }
@@ -822,10 +766,10 @@ struct Named(AxisList);
 impl Named {
     fn name(&mut self, mesh: &Mesh, axis: Axis) -> Result<(), Refusal> {
         if axis.index() >= mesh.axes() {
-            return Err(whole(14));
+            return Err(Refusal::whole(14));
         }
         if self.0.contains(&axis) {
-            return Err(whole(15));
+            return Err(Refusal::whole(15));
         }
         self.0.push(axis);
         Ok(())
@@ -843,7 +787,7 @@ impl Sharding {
             for &axis in list {
                 named.name(mesh, axis)?;
                 if before >= Some(axis) {
-                    return Err(whole(16));
+                    return Err(Refusal::whole(16));
                 }
                 before = Some(axis);
             }
@@ -872,7 +816,7 @@ struct State {
 impl State {
     fn start(mesh: &Mesh, table: &Sizes, sharding: Sharding) -> Result<State, Refusal> {
         sharding.judge_start(mesh)?;
-        let shard = divided(mesh, table, &sharding.dims).ok_or(whole(17))?;
+        let shard = divided(mesh, table, &sharding.dims).ok_or(Refusal::whole(17))?;
         Ok(State { sharding, shard })
     }
 
@@ -1034,20 +978,13 @@ impl Step {
     }
 
     /// Makes the state after the step in `new` from the state before it in `old`.
-    fn apply<W: Element>(
-        &self,
-        mesh: &Mesh,
-        before: &State,
-        after: &State,
-        old: &[W],
-        new: &mut [W],
-    ) {
+    fn apply(&self, mesh: &Mesh, before: &State, after: &State, old: &[u32], new: &mut [u32]) {
         match self {
             Step::Reduce(axes) => reduce(mesh, axes, before.words(), old, new),
             Step::Scatter(lists) => {
                 let mut axes: Vec<Axis> = lists.iter().flatten().copied().collect();
                 axes.sort();
-                let mut sums = vec![W::default(); mesh.devices * before.words()];
+                let mut sums = vec![0; mesh.devices * before.words()];
                 reduce(mesh, &axes, before.words(), old, &mut sums);
                 self.moves(mesh, before, after, &sums, new);
             }
@@ -1056,7 +993,7 @@ impl Step {
     }
 
     /// Gathers and slices.
-    fn moves<W: Copy>(&self, mesh: &Mesh, before: &State, after: &State, old: &[W], new: &mut [W]) {
+    fn moves(&self, mesh: &Mesh, before: &State, after: &State, old: &[u32], new: &mut [u32]) {
         self.movement_between(mesh, before, after).apply(old, new);
     }
 
@@ -1102,14 +1039,16 @@ fn others_in_groups(mesh: &Mesh, axes: &[Axis]) -> u64 {
 }
 
 /// Gives each device the word-by-word sum of its group's shards, which lie by place.
-fn reduce<W: Element>(mesh: &Mesh, axes: &[Axis], words: usize, old: &[W], new: &mut [W]) {
-    let mut sum = vec![W::default(); words];
+fn reduce(mesh: &Mesh, axes: &[Axis], words: usize, old: &[u32], new: &mut [u32]) {
+    let mut sum = vec![0; words];
     for group in mesh.listing(axes).chunks(mesh.group_size(axes)) {
-        let shards: Vec<&[W]> = group
-            .iter()
-            .map(|place| &old[place * words..][..words])
-            .collect();
-        W::sum_shards(&shards, &mut sum);
+        sum.fill(0);
+        for place in group {
+            let shard = &old[place * words..][..words];
+            for (total, word) in sum.iter_mut().zip(shard) {
+                *total = word.wrapping_add(*total);
+            }
+        }
         for place in group {
             new[place * words..][..words].copy_from_slice(&sum);
         }
@@ -1131,7 +1070,7 @@ struct Move<'a> {
 }
 
 impl Move<'_> {
-    fn apply<W: Copy>(&self, old: &[W], new: &mut [W]) {
+    fn apply(&self, old: &[u32], new: &mut [u32]) {
         let strides = row_major(&self.before.shard);
         let sources = self.sources(&strides);
         let shards = new.chunks_exact_mut(self.after.words());
@@ -1242,7 +1181,7 @@ impl Move<'_> {
 }
 
 /// How far apart neighbours along each dimension are in row-major order.
-fn row_major(sizes: &[u16]) -> Short<usize, MOST_DIMS> {
+fn row_major(sizes: &[u16]) -> Short<usize, MOST_RANK> {
     let mut left: usize = sizes.iter().map(|&size| usize::from(size)).product();
     let stride = |&size: &u16| {
         left /= usize::from(size);

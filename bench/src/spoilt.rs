@@ -1,11 +1,10 @@
 //! Plans as records that are refused, most of them.
 
+use crate::answers::{Axis, Device, Dim, MOST_AXES, MOST_BYTES, MOST_RANK, MOST_STEPS};
 use crate::blocks;
 use crate::plans::{self, axes, Draft, Step};
 use crate::random::Random;
 use crate::records::{Records, StepRecord};
-use ishkrela::limits::{MOST_AXES, MOST_BYTES, MOST_DIMS, MOST_STEPS};
-use ishkrela::{Axis, Device, Dim};
 
 /// Records with something changed in the plan that they are of, or among the records themselves.
 pub fn records(random: &mut Random) -> Records {
@@ -54,7 +53,7 @@ fn past_a_limit(random: &mut Random, draft: Draft) -> Records {
     match random.below(3) {
         0 => records.on.mesh = vec![1; random.pick(&[0, MOST_AXES + 1, 300])],
         1 => {
-            let rank = random.pick(&[0, MOST_DIMS + 1, 300]);
+            let rank = random.pick(&[0, MOST_RANK + 1, 300]);
             records.on.table = vec![1; rank];
             records.start.dims = vec![Vec::new(); rank];
             records.steps.clear();
@@ -69,21 +68,20 @@ fn past_a_limit(random: &mut Random, draft: Draft) -> Records {
     records
 }
 
-/// A file of one byte too many, with sound steps or not; now and then far more records.
+/// A file of one byte too many, with sound steps or not; now and then more records than step numbers.
 fn too_long(random: &mut Random) -> Records {
     let mut records = Records::from(&blocks::longest(random, plans::small, MOST_BYTES + 1));
     match random.below(8) {
         0 => drop(spoil_record(random, &mut records.steps)),
-        1 => records = past_files(random),
+        1 => records = past_numbers(random),
         _ => {}
     }
     records
 }
 
-/// More records than any file holds, with something changed in them, often where numbers of 16 bits
-/// end.
-fn past_files(random: &mut Random) -> Records {
-    let mut records = more_than_a_file();
+/// More records than step numbers, with something changed in them, often where the numbers end.
+fn past_numbers(random: &mut Random) -> Records {
+    let mut records = more_than_numbers();
     let end = usize::from(u16::MAX);
     let near = random.between(end - 4, end + 4);
     match random.below(6) {
@@ -97,7 +95,7 @@ fn past_files(random: &mut Random) -> Records {
 
 /// One repeat of more records than 16 bits count. Each of its blocks is accepted, and together they
 /// run too many plain steps: 43 in step 1.
-pub fn more_than_a_file() -> Records {
+pub fn more_than_numbers() -> Records {
     let repeat = |steps: usize| {
         let steps = steps as u8;
         vec![StepRecord::Repeat { count: 1, steps }]

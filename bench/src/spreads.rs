@@ -3,8 +3,8 @@
 //! This is written from the definition, device by device and coordinate by coordinate, and
 //! shares nothing with the reference.
 
+use crate::answers::{Axis, Device, Sharding};
 use crate::random::Random;
-use ishkrela::{Axis, Device, Sharding};
 use std::ops::Range;
 
 /// A sharding of a table over a mesh. A place is the row-major number of coordinates.

@@ -1,14 +1,14 @@
 //! What the generator makes is what it says: accepted, refused with the chosen number, faithful.
 //! What a plan with repeats answers and does is what its plain steps in running order do.
 
+use bench::answers::{Device, Refusal};
 use bench::plans::{
     accepted, broken, damaged, filling, random_scale, scale_at_a_limit, small, Draft, Scale, Step,
     FILE_REFUSALS,
 };
 use bench::random::Random;
 use bench::spreads::{product, Layout};
-use bench::{blocks, implementations, whole, Implementation};
-use ishkrela::Device;
+use bench::{blocks, implementations, Implementation};
 
 #[test]
 fn accepted_plans_are_accepted() {
@@ -93,7 +93,7 @@ fn plans_with_the_most_plain_steps_are_accepted() {
 fn plans_of_the_most_bytes_are_accepted() {
     let mut random = Random::new(9);
     for _ in 0..100 {
-        for (bytes, answer) in [(8192, Ok(())), (8193, Err(whole(2)))] {
+        for (bytes, answer) in [(8192, Ok(())), (8193, Err(Refusal::whole(2)))] {
             let file = blocks::longest(&mut random, small, bytes).encode();
             assert_eq!(file.len(), bytes);
             for one in implementations() {
@@ -128,7 +128,7 @@ fn a_plan_with_repeats_does_what_its_plain_steps_do() {
                 .map(|piece| one.check(&piece.encode()).expect("accepted").room);
             let alone = one.check(&draft.prefix(0).encode()).expect("accepted").room;
             assert_eq!(checked.room, rooms.max().unwrap_or(alone));
-            let room = checked.room;
+            let room = checked.room as usize;
             let mut words = random.words(alone as usize);
             let whole = ran(one, &draft, &words, room);
             for piece in &pieces {
@@ -158,7 +158,7 @@ fn states_are_those_after_outermost_steps() {
                 assert_eq!((placed.sharding, placed.shard), (last.sharding, last.shard));
             }
             let none = one.place(&file, draft.steps.len() as u16 + 1, Device(0));
-            assert_eq!(none, Err(whole(34)));
+            assert_eq!(none, Err(Refusal::whole(34)));
         }
     }
 }

@@ -1,9 +1,9 @@
 //! The words moved of document 02, Ask 7: of each kind of step, of a group of three, of a block in each
 //! of its rounds, at the limits, and of runs that are refused.
 
+use bench::answers::{Dim, Refusal};
 use bench::plans::{axes, devices, lists, Draft, Step};
-use bench::{implementations, whole};
-use ishkrela::Dim;
+use bench::implementations;
 
 /// A mesh of three devices with one step.
 fn row(table: &[u16], start: &[&[u8]], unreduced: &[u8], step: Step) -> Draft {
@@ -23,7 +23,7 @@ fn assert_moved(draft: &Draft, moved: u64) {
     for one in implementations() {
         let checked = one.check(&file).expect("accepted");
         assert_eq!(checked.moved, moved, "{}: the check", one.name());
-        let room = checked.room;
+        let room = checked.room as usize;
         let (mut work, mut spare) = (vec![7; room], vec![8; room]);
         let ran = one.run(&file, &mut work, &mut spare);
         assert_eq!(ran, Ok(moved), "{}: the run", one.name());
@@ -88,7 +88,7 @@ fn a_refused_run_says_nothing_else() {
     let draft = row(&[6], &[&[0]], &[], Step::Gather(lists(&[&[0]])));
     for one in implementations() {
         let (mut work, mut spare) = (vec![7; 17], vec![8; 18]);
-        let refused = Err(whole(30));
+        let refused = Err(Refusal::whole(30));
         assert_eq!(one.run(&draft.encode(), &mut work, &mut spare), refused);
     }
 }

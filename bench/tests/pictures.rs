@@ -1,8 +1,8 @@
 //! The pictures of source document 000. Each is drawn again from what a run leaves.
 
+use bench::answers::Dim;
 use bench::implementations;
 use bench::plans::{axes, lists, Draft, Step};
-use ishkrela::Dim;
 
 /// The words of shards drawn side by side, one picture row per line, blanks between words and
 /// bars between devices; the shards come in order of device number.
@@ -68,7 +68,7 @@ fn on_mesh_2x2(start: &[&[u8]], step: Step) -> Draft {
 fn assert_picture(draft: &Draft, before: &[Vec<u32>], after: &[Vec<u32>]) {
     let file = draft.encode();
     for one in implementations() {
-        let room = one.check(&file).expect("accepted").room;
+        let room = one.check(&file).expect("accepted").room as usize;
         let mut work = before.concat();
         work.resize(room, 0);
         one.run(&file, &mut work, &mut vec![0; room])
@@ -134,7 +134,7 @@ fn reduce_scatter_as_drawn() {
 /// (i, 0, k, 1) and (i, 2, k, 0).
 #[test]
 fn group_order_as_told() {
-    use ishkrela::Device;
+    use bench::answers::Device;
     for one in implementations() {
         let mut out = [Device(0); 120];
         one.groups(&[2, 3, 4, 5], &axes(&[3, 1]), &mut out)

@@ -1,16 +1,17 @@
 //! The writer of document 02, Ask 2, the way back, and the planner of Ask 10: the bytes, the order of
 //! the refusals, what is left of the lent lists, and the steps from one sharding to another.
 
+use bench::answers::{Device, Dim, Refusal, MOST_BYTES};
+#[cfg(library)]
+use bench::library;
 use bench::plans::{self, accepted, axes, devices, lists, random_scale, Draft, Step};
 use bench::random::Random;
-use bench::records::{MeshAndTable, Opened, Records, StepRecord, RECORD_BYTES};
+use bench::records::{MeshAndTable, Opened, Records, ShardingRecord, StepRecord, RECORD_BYTES};
 use bench::{blocks, hex, implementations, spoilt, Implementation};
-use ishkrela::limits::MOST_BYTES;
-use ishkrela::{plan_between, Device, Dim, Mesh, Plan, Refusal, Sharding};
 use std::collections::BTreeMap;
 
-fn refusal<T>(number: u8, step: u32) -> Result<T, Refusal> {
-    Err(bench::refusal(number, step))
+fn refusal<T>(number: u8, step: u16) -> Result<T, Refusal> {
+    Err(Refusal { number, step })
 }
 
 /// What each implementation answers.
@@ -43,7 +44,7 @@ fn assert_written(records: &Records, file: &[u8]) {
 }
 
 /// Whether there is room or none, and nothing is written.
-fn assert_refused(records: &Records, number: u8, step: u32) {
+fn assert_refused(records: &Records, number: u8, step: u16) {
     for room in [0, 2 * MOST_BYTES] {
         for (answer, out) in write(records, room) {
             assert_eq!(answer, refusal(number, step), "{records:?}");
@@ -52,8 +53,8 @@ fn assert_refused(records: &Records, number: u8, step: u32) {
     }
 }
 
-fn sharding(dims: &[&[u8]], unreduced: &[u8], replicated: &[u8]) -> Sharding {
-    Sharding {
+fn sharding(dims: &[&[u8]], unreduced: &[u8], replicated: &[u8]) -> ShardingRecord {
+    ShardingRecord {
         dims: lists(dims),
         unreduced: axes(unreduced),
         replicated: axes(replicated),
@@ -68,7 +69,7 @@ fn on(mesh: &[u16], order: &[u16], table: &[u16]) -> MeshAndTable {
     }
 }
 
-fn records(on: MeshAndTable, start: Sharding, steps: Vec<StepRecord>) -> Records {
+fn records(on: MeshAndTable, start: ShardingRecord, steps: Vec<StepRecord>) -> Records {
     Records { on, start, steps }
 }
 
@@ -156,8 +157,8 @@ fn spoilt_records_get_the_refusal_of_the_check() {
             match one.check(&file) {
                 Ok(_) => assert_written(&records, &file),
                 Err(refused) => {
-                    *seen.entry(refused.number()).or_default() += 1;
-                    assert_refused(&records, refused.number(), refused.step);
+                    *seen.entry(refused.number).or_default() += 1;
+                    assert_refused(&records, refused.number, refused.step);
                 }
             }
         }
@@ -247,7 +248,7 @@ fn the_order_is_judged_between_mesh_and_table() {
 
 #[test]
 fn all_counts_of_the_start_are_judged_before_its_axes() {
-    let of = |start: Sharding| records(on(&[2, 2], &[], &[4, 3]), start, Vec::new());
+    let of = |start: ShardingRecord| records(on(&[2, 2], &[], &[4, 3]), start, Vec::new());
     assert_refused(&of(sharding(&[&[7], &[0, 1, 0]], &[], &[])), 8, 0);
     assert_refused(&of(sharding(&[&[7], &[]], &[0, 1, 0], &[])), 8, 0);
     assert_refused(&of(sharding(&[&[7], &[]], &[], &[0, 1, 0])), 8, 0);
@@ -264,16 +265,16 @@ fn a_file_past_the_limit_gets_2_before_35() {
         let mut records = Records::from(&longer);
         assert_refused(&records, 2, 0);
         // The refusal of the records themselves comes first.
-        let last = records.steps.len() as u32;
+        let last = records.steps.len() as u16;
         *records.steps.last_mut().expect("a step") = StepRecord::Unknown(6);
         assert_refused(&records, 20, last);
     }
 }
 
 #[test]
-fn records_that_no_file_holds_are_judged() {
+fn records_past_the_last_step_number_are_judged() {
     assert_refused(&small(vec![repeat(1, 1); 65536]), 42, 5);
-    let many = spoilt::more_than_a_file();
+    let many = spoilt::more_than_numbers();
     assert_eq!(many.steps.len(), 69378);
     assert_refused(&many, 43, 1);
     let with = |change: &dyn Fn(&mut Vec<StepRecord>)| {
@@ -289,15 +290,12 @@ fn records_that_no_file_holds_are_judged() {
         steps.push(StepRecord::Slice(lists(&[&[0]])));
     });
     assert_refused(&comes_elsewhere, 41, 1);
-    // A record's own refusal, also where 16 bits do not hold its number.
+    // A record's own refusal up to the last number, past it that of a file too long.
     let unknown = |at: usize| with(&|steps| steps[at] = StepRecord::Unknown(6));
+    assert_refused(&unknown(65533), 20, 65534);
     assert_refused(&unknown(65534), 20, 65535);
-    assert_refused(&unknown(65535), 20, 65536);
-    assert_refused(&unknown(69000), 20, 69001);
-    let empty = with(&|steps| steps[65536] = StepRecord::Gather(lists(&[&[]])));
-    assert_refused(&empty, 21, 65537);
-    let of_nothing = with(&|steps| steps[69376] = repeat(0, 1));
-    assert_refused(&of_nothing, 44, 69377);
+    assert_refused(&unknown(65535), 2, 0);
+    assert_refused(&unknown(69000), 2, 0);
 }
 
 // ---- the way back
@@ -339,7 +337,7 @@ fn assert_read(records: &Records, file: &[u8]) {
     }
 }
 
-fn assert_not_read(file: &[u8], devices: usize, bytes: usize, number: u8, step: u32) {
+fn assert_not_read(file: &[u8], devices: usize, bytes: usize, number: u8, step: u16) {
     for (answer, order, steps) in read(file, devices, bytes) {
         assert_eq!(answer, refusal(number, step));
         assert_eq!(order, vec![Device(0xa5a5); devices]);
@@ -421,8 +419,8 @@ fn a_file_is_judged_before_the_lists() {
 
 fn assert_planned(
     on: &MeshAndTable,
-    start: &Sharding,
-    goal: &Sharding,
+    start: &ShardingRecord,
+    goal: &ShardingRecord,
     expected: Result<Vec<StepRecord>, Refusal>,
 ) {
     for answer in answers(|one| one.plan(on, start, goal)) {
@@ -431,7 +429,7 @@ fn assert_planned(
 }
 
 /// The steps between shardings of a table of 8x4x4 on a mesh of five axes of 2.
-fn assert_steps(start: &Sharding, goal: &Sharding, steps: Vec<StepRecord>) {
+fn assert_steps(start: &ShardingRecord, goal: &ShardingRecord, steps: Vec<StepRecord>) {
     assert_planned(&on(&[2; 5], &[], &[8, 4, 4]), start, goal, Ok(steps));
 }
 
@@ -474,7 +472,7 @@ fn plans_are_refused_in_order() {
         sharding(&[dim, &[]], unreduced, replicated)
     };
     let whole = of(&[], &[], &[]);
-    let assert_no = |on: &MeshAndTable, start: &Sharding, goal: &Sharding, number| {
+    let assert_no = |on: &MeshAndTable, start: &ShardingRecord, goal: &ShardingRecord, number| {
         assert_planned(on, start, goal, refusal(number, 0));
     };
     let long = of(&[0, 1, 0], &[], &[]);
@@ -519,7 +517,7 @@ fn plans_are_accepted_and_end_at_the_goal() {
         let Records { on, start, .. } = Records::from(&draft);
         for one in implementations() {
             let goal = one.check(&draft.encode()).expect("accepted").sharding;
-            let answer = one.plan(&on, &start, &goal);
+            let answer = one.plan(&on, &start, &ShardingRecord::from(&goal));
             let steps = answer.expect("a plan");
             of_length[steps.len()] += 1;
             let mut file = vec![0; MOST_BYTES];
@@ -534,52 +532,61 @@ fn plans_are_accepted_and_end_at_the_goal() {
 
 // ---- the safe calls of the library
 
-/// The same plan as values of the package `ishkrela`.
-fn values(draft: &Draft) -> Plan {
-    let Records { on, start, .. } = Records::from(draft);
-    Plan {
-        mesh: Mesh {
-            sizes: on.mesh,
-            order: on.order,
-        },
-        table: on.table,
-        start,
-        steps: draft.steps.iter().map(value).collect(),
-    }
-}
-
-fn value(step: &Step) -> ishkrela::Step {
-    match step.clone() {
-        Step::Slice(lists) => ishkrela::Step::AllSlice(lists),
-        Step::Gather(lists) => ishkrela::Step::AllGather(lists),
-        Step::Reduce(axes) => ishkrela::Step::AllReduce(axes),
-        Step::AllToAll(source, target, axes) => ishkrela::Step::AllToAll {
-            source,
-            target,
-            axes,
-        },
-        Step::Scatter(lists) => ishkrela::Step::ReduceScatter(lists),
-        Step::Repeat(count, block) => ishkrela::Step::Repeat {
-            count,
-            steps: block.iter().map(value).collect(),
-        },
-        Step::Bytes(bytes) => panic!("no step: {bytes:?}"),
-    }
-}
-
+/// The lines of README.md.
+#[cfg(library)]
 #[test]
-fn what_is_written_is_read_as_the_same_values() {
+fn a_plan_is_made_of_values() -> Result<(), Refusal> {
+    let on = MeshAndTable {
+        mesh: vec![2, 2],
+        table: vec![4, 4],
+        ..MeshAndTable::default()
+    };
+    let start = ShardingRecord {
+        dims: lists(&[&[0], &[1]]),
+        ..ShardingRecord::default()
+    };
+    let block = vec![
+        Step::Gather(lists(&[&[], &[1]])),
+        Step::Slice(lists(&[&[], &[1]])),
+    ];
+    let file = library::write(&Records::new(on, start, &[Step::Repeat(3, block)]))?;
+    let again = library::read(&file)?;
+    assert_eq!(library::write(&again), Ok(file));
+    assert!(
+        matches!(&again.nested().expect("steps")[..], [Step::Repeat(3, block)] if block.len() == 2)
+    );
+    Ok(())
+}
+
+#[cfg(library)]
+#[test]
+fn what_is_written_is_read_as_the_same_records() {
     let mut random = Random::new(27);
     for _ in 0..500 {
         let draft = plans::small(&mut random);
-        let (plan, file) = (values(&draft), draft.encode());
-        assert_eq!(plan.to_bytes().as_ref(), Ok(&file));
-        assert_eq!(Plan::from_bytes(&file).as_ref(), Ok(&plan));
-        let goal = ishkrela::check(&file).expect("accepted").sharding;
-        let planned = plan_between(plan.mesh, plan.table, plan.start, &goal).expect("a plan");
-        let file = planned.to_bytes().expect("accepted");
-        assert_eq!(ishkrela::check(&file).expect("accepted").sharding, goal);
+        let (records, file) = (Records::from(&draft), draft.encode());
+        assert_eq!(library::write(&records).as_ref(), Ok(&file));
+        assert_eq!(library::read(&file).as_ref(), Ok(&records));
+        let goal = ShardingRecord::from(&library::check(&file).expect("accepted").sharding);
+        let steps = library::plan(&records.on, &records.start, &goal).expect("a plan");
+        let planned = library::write(&Records { steps, ..records }).expect("accepted");
+        assert_eq!(
+            ShardingRecord::from(&library::check(&planned).expect("accepted").sharding),
+            goal
+        );
     }
     let longest = blocks::longest(&mut random, plans::small, MOST_BYTES);
-    assert_eq!(Plan::from_bytes(&longest.encode()), Ok(values(&longest)));
+    assert_eq!(
+        library::read(&longest.encode()),
+        Ok(Records::from(&longest))
+    );
+    assert_eq!(library::write(&small(vec![gather()])), refusal(24, 1));
+    assert_eq!(library::read(&[0; 17]), refusal(1, 0));
+}
+
+#[cfg(library)]
+#[test]
+#[should_panic(expected = "give a list for each dimension")]
+fn a_step_has_a_list_for_each_dimension() {
+    let _ = library::write(&small(vec![StepRecord::Slice(lists(&[&[0]]))]));
 }

@@ -1,13 +1,13 @@
 //! The repeats of document 02, Ask 11: their bytes, the order of their refusals, step and state
 //! numbers, the room, the limits and the runs.
 
+use bench::answers::{Device, Dim, Refusal};
 use bench::plans::{axes, devices, lists, mend_length, Draft, Step};
 use bench::reference::{self, Limits};
 use bench::{blocks, hex, implementations, Implementation};
-use ishkrela::{Device, Dim, Refusal};
 
-fn refusal<T>(number: u8, step: u32) -> Result<T, Refusal> {
-    Err(bench::refusal(number, step))
+fn refusal<T>(number: u8, step: u16) -> Result<T, Refusal> {
+    Err(Refusal { number, step })
 }
 
 /// A mesh of 2 and a table of 2 that no axis splits, with these steps.
@@ -73,7 +73,7 @@ fn even(runs: usize) -> Step {
     repeat(16, vec![block])
 }
 
-fn assert_refused(draft: &Draft, number: u8, step: u32) {
+fn assert_refused(draft: &Draft, number: u8, step: u16) {
     for one in implementations() {
         let answer = one.check(&draft.encode());
         assert_eq!(answer, refusal(number, step), "{}", one.name());
@@ -97,7 +97,7 @@ fn assert_accepted(draft: &Draft, steps: u16) {
 fn assert_run(draft: &Draft, words: &[u32], state: &[u32]) {
     let file = draft.encode();
     for one in implementations() {
-        let room = one.check(&file).expect("accepted").room;
+        let room = one.check(&file).expect("accepted").room as usize;
         let (mut work, mut spare) = (vec![7; room + 3], vec![9; room + 1]);
         work[..words.len()].copy_from_slice(words);
         one.run(&file, &mut work, &mut spare).expect("a run");
@@ -140,7 +140,7 @@ fn a_count_or_number_of_0_is_judged_when_its_byte_is_read() {
         // Inside blocks down to a depth of 4, behind two steps.
         for depth in 1..=3 {
             let inner = [pairs(1), vec![bytes(repeat)]].concat();
-            let at = step * (depth as u32 + 3);
+            let at = step * (depth as u16 + 3);
             assert_refused(&plan(nested(depth, inner)), number, at);
         }
     }
@@ -163,7 +163,7 @@ fn repeats_nest_to_a_depth_of_4() {
 
 #[test]
 fn depth_is_tested_after_both_bytes_and_before_the_inner_steps() {
-    let cases: [(&[u8], u8, u32); 9] = [
+    let cases: [(&[u8], u8, u16); 9] = [
         (&[9], 7, 0),
         (&[9, 1], 7, 0),
         (&[9, 0], 44, 5),
@@ -576,7 +576,7 @@ fn the_longest_file_is_accepted() {
     let mut file = of_bytes(8192, 15).encode();
     let last = file.len() - 2;
     file[last] = 1;
-    let number = blocks::kinds(&of_bytes(8192, 15).steps) as u32;
+    let number = blocks::kinds(&of_bytes(8192, 15).steps) as u16;
     for one in implementations() {
         assert_eq!(one.check(&file), refusal(22, number));
     }

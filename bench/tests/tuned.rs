@@ -1,10 +1,10 @@
 //! The tuned kernels of the benchmark do what a plan of the same step does.
 
+use bench::answers::Dim;
 use bench::plans::{axes, Draft, Lists, Step};
 use bench::random::Random;
 use bench::tuned::{self, Shape};
 use bench::{Implementation, Reference};
-use ishkrela::Dim;
 
 const SHAPES: [(usize, usize, usize, usize); 8] = [
     (2, 3, 4, 1),

@@ -2,15 +2,15 @@
 //! document 02 moves them, the replicated list of edition 2, the order of edition 3, the placement of
 //! a list of devices and the all-reduces of axes that nothing names, with their factors.
 
+use bench::answers::{Device, Dim, NotPlaced, Refusal};
 use bench::plans::{axes, devices, lists, mend_length, Draft, Step};
 use bench::{hex, implementations, Implementation};
-use ishkrela::{Device, Dim, NotPlaced, Refusal};
 
 const W1: &str = "01 00 02 00 02 00 01 00 12 00 16 00 1a 00 1f 00 23 00 | 02 00 02 00 \
                   | 04 00 04 00 | 01 00 01 01 00 | 02 00 01 01";
 
-fn refusal<T>(number: u8, step: u32) -> Result<T, Refusal> {
-    Err(bench::refusal(number, step))
+fn refusal<T>(number: u8, step: u16) -> Result<T, Refusal> {
+    Err(Refusal { number, step })
 }
 
 fn w1() -> Vec<u8> {
@@ -66,7 +66,7 @@ fn resting(mesh: u16, table: u16, start: &[u8]) -> Draft {
 
 /// The whole of work after a run in buffers that are longer than the room.
 fn run(one: &dyn Implementation, file: &[u8], words: &[u32]) -> Vec<u32> {
-    let room = one.check(file).expect("accepted").room;
+    let room = one.check(file).expect("accepted").room as usize;
     let mut work = vec![7; room + 3];
     work[..words.len()].copy_from_slice(words);
     let mut spare = vec![9; room + 1];
@@ -168,8 +168,8 @@ fn assert_list(
     assert_eq!(first, after, "{}", one.name());
 }
 
-fn not_placed<T>(number: u8, step: u32, place: Option<usize>) -> Result<T, NotPlaced> {
-    let refusal = bench::refusal(number, step);
+fn not_placed<T>(number: u8, step: u16, place: Option<usize>) -> Result<T, NotPlaced> {
+    let refusal = Refusal { number, step };
     Err(NotPlaced { refusal, place })
 }
 

@@ -1,30 +1,28 @@
 //! Compares the library with the reference on random plans, and tries demand 3.
 //!
-//! Arguments: a seed, a number of files, a number of runs.
+//! Arguments: a seed, a number of files, a number of runs. Without the library demand 3 and the
+//! planner's plans alone are tried, on the reference.
 
-#[path = "differential/boundary.rs"]
+#[cfg_attr(library, path = "differential/boundary.rs")]
+#[cfg_attr(not(library), path = "differential/no_boundary.rs")]
 mod boundary;
-#[path = "differential/floats.rs"]
-mod floats;
 #[path = "differential/lists.rs"]
 mod lists;
-#[path = "differential/pieces.rs"]
-mod pieces;
 #[path = "differential/records.rs"]
 mod records;
 #[path = "differential/routes.rs"]
 mod routes;
 
+use bench::answers::{
+    Axis, Device, Refusal, MOST_BYTES, MOST_DEPTH, MOST_DEVICES, MOST_ROOM, MOST_RUN, MOST_STEPS,
+    MOST_WORDS,
+};
 use bench::blocks;
 use bench::plans::{self, Draft, Scale, Step, FILE_REFUSALS};
 use bench::random::Random;
 use bench::spreads::{product, Layout};
-use bench::{hex, implementations, spoilt, Implementation, Library, Reference};
+use bench::{hex, implementations, library, spoilt, Implementation, Reference};
 use boundary::Boundary;
-use ishkrela::limits::{
-    MOST_BYTES, MOST_DEPTH, MOST_DEVICES, MOST_ROOM, MOST_RUN, MOST_STEPS, MOST_WORDS,
-};
-use ishkrela::{Axis, Checked, Device, Plan, Refusal};
 use std::collections::BTreeMap;
 use std::fmt::Debug;
 use std::process::ExitCode;
@@ -81,8 +79,6 @@ struct Tally {
     multiplied: usize,
     multiplied_by_0: usize,
     refusals: Met,
-    pieces: pieces::Tally,
-    floats: floats::Tally,
     records: records::Tally,
     routes: routes::Tally,
 }
@@ -100,7 +96,7 @@ struct Met(BTreeMap<u8, usize>);
 impl Met {
     fn see<T>(&mut self, answer: &Result<T, Refusal>) {
         if let Err(refusal) = answer {
-            *self.0.entry(refusal.number()).or_default() += 1;
+            *self.0.entry(refusal.number).or_default() += 1;
         }
     }
 
@@ -154,13 +150,15 @@ fn main() -> ExitCode {
         eprintln!("usage: differential SEED FILES RUNS; three numbers, such as 1 20000 2000");
         return ExitCode::FAILURE;
     };
+    if library().is_none() {
+        println!("The library is not linked: the reference alone is tried, on demand 3 and plans.");
+    }
     let mut tally = Tally::default();
     let outcome = compare(&mut Random::new(seed), files, runs, &mut tally);
     println!("seed {seed}\n{tally}");
-    let of_pieces = tally.pieces.missing(&FILE_REFUSALS);
-    let missing = [of_pieces, tally.lists.missing(), tally.records.missing()].concat();
+    let missing = [tally.lists.missing(), tally.records.missing()].concat();
     match outcome {
-        Ok(()) if files >= ENOUGH_FILES && !missing.is_empty() => {
+        Ok(()) if files >= ENOUGH_FILES && library().is_some() && !missing.is_empty() => {
             println!("refusals that were not met: {}", missing.join(", "));
             ExitCode::FAILURE
         }
@@ -176,22 +174,21 @@ fn main() -> ExitCode {
 }
 
 fn compare(random: &mut Random, files: u64, runs: u64, tally: &mut Tally) -> Outcome {
-    for _ in 0..files {
-        let file = random_file(random, tally);
-        compare_file(random, &file, tally)?;
-        lists::compare_place_all(random, &file, &mut tally.lists)?;
-        compare_groups(random, tally)?;
-        records::compare_read(random, &file, &mut tally.records)?;
-        records::compare_write(random, &mut tally.records)?;
+    if let Some(library) = library() {
+        for _ in 0..files {
+            let file = random_file(random, tally);
+            compare_file(random, library, &file, tally)?;
+            lists::compare_place_all(random, library, &file, &mut tally.lists)?;
+            compare_groups(random, library, tally)?;
+            records::compare_read(random, library, &file, &mut tally.records)?;
+            records::compare_write(random, library, &mut tally.records)?;
+        }
     }
     for _ in 0..files / 4 {
-        records::compare_plan(random, &mut tally.records)?;
+        records::compare_plan(random, library(), &mut tally.records)?;
     }
     for _ in 0..runs {
         compare_run(random, tally)?;
-    }
-    for _ in 0..runs / 2 {
-        floats::compare_floats(random, tally)?;
     }
     for faithful in [true, false] {
         compare_most_room(random, faithful, tally)?;
@@ -246,17 +243,18 @@ fn random_draft(random: &mut Random) -> Draft {
     plans::accepted(random, scale)
 }
 
-fn compare_file(random: &mut Random, file: &[u8], tally: &mut Tally) -> Outcome {
+fn compare_file(
+    random: &mut Random,
+    library: &dyn Implementation,
+    file: &[u8],
+    tally: &mut Tally,
+) -> Outcome {
     let answer = Reference.check(file);
     tally.see(&answer);
     tally.most_bytes += usize::from(file.len() == MOST_BYTES);
-    same("check", file, &answer, &Library.check(file))?;
-    let (ours, theirs) = (answer.as_ref().err(), Plan::from_bytes(file).err());
-    same("read as values", file, &ours, &theirs.as_ref())?;
-    let numbers = |checked: &Checked| (checked.steps, checked.devices);
-    let (steps, devices) = answer.as_ref().map_or((3, 4), numbers);
-    pieces::compare_pieces(random, file, &answer, &mut tally.pieces)?;
+    same("check", file, &answer, &library.check(file))?;
     same_at_boundary(file, "check", |raw| raw.check(file, answer))?;
+    let (steps, devices) = answer.map_or((3, 4), |checked| (checked.steps, checked.devices));
     for _ in 0..4 {
         // Sometimes one too many, sometimes far too many.
         let state = number_up_to(random, steps + 1);
@@ -265,7 +263,7 @@ fn compare_file(random: &mut Random, file: &[u8], tally: &mut Tally) -> Outcome 
         let answer = Reference.place(file, state, device);
         tally.placements += 1;
         tally.see(&answer);
-        same(&call, file, &answer, &Library.place(file, state, device))?;
+        same(&call, file, &answer, &library.place(file, state, device))?;
         same_at_boundary(file, &call, |raw| raw.place(file, state, device, answer))?;
     }
     Ok(())
@@ -315,7 +313,7 @@ fn same<T: PartialEq + Debug + ?Sized>(
     }
 }
 
-fn compare_groups(random: &mut Random, tally: &mut Tally) -> Outcome {
+fn compare_groups(random: &mut Random, library: &dyn Implementation, tally: &mut Tally) -> Outcome {
     let (mesh, axes) = random_listing(random);
     let devices = product(&mesh).min(MOST_DEVICES);
     let order = listed_order(random, devices);
@@ -327,7 +325,7 @@ fn compare_groups(random: &mut Random, tally: &mut Tally) -> Outcome {
         Some(order) => one.groups_ordered(&mesh, order, &axes, out),
     };
     let answer = listed(&Reference, &mut ours);
-    let other = listed(&Library, &mut theirs);
+    let other = listed(library, &mut theirs);
     tally.listings += 1;
     tally.listings_by_order += usize::from(order.is_some());
     tally.see(&answer);
@@ -373,16 +371,25 @@ fn random_listing(random: &mut Random) -> (Vec<u16>, Vec<Axis>) {
 fn compare_run(random: &mut Random, tally: &mut Tally) -> Outcome {
     tally.runs += 1;
     let faithful = random.once_in(2);
-    if faithful {
-        let draft = random_run(random, tally);
-        tally.faithful += 1;
-        return try_demand_3(random, &draft, tally);
+    match library() {
+        // A file that is no plan.
+        Some(library) if !faithful && random.once_in(4) => {
+            let file = spoilt_file(random);
+            compare_any_words(random, library, &file, tally)
+        }
+        library => {
+            let draft = random_run(random, tally);
+            match library {
+                Some(library) if !faithful => {
+                    compare_any_words(random, library, &draft.encode(), tally)
+                }
+                _ => {
+                    tally.faithful += 1;
+                    try_demand_3(random, &draft, tally)
+                }
+            }
+        }
     }
-    let file = match random.once_in(4) {
-        true => spoilt_file(random), // one that is no plan
-        false => random_run(random, tally).encode(),
-    };
-    compare_any_words(random, &file, tally)
 }
 
 /// A plan to be run, now and then one with the most devices, the most words or the most plain steps.
@@ -415,7 +422,7 @@ fn small_draft(random: &mut Random) -> Draft {
     plans::accepted(random, scale)
 }
 
-/// A run that needs the most room, of few steps.
+/// A run that needs the most room, of few steps; on any words only where there is a library.
 fn compare_most_room(random: &mut Random, faithful: bool, tally: &mut Tally) -> Outcome {
     let steps = 4;
     let draft = plans::filling(
@@ -429,10 +436,12 @@ fn compare_most_room(random: &mut Random, faithful: bool, tally: &mut Tally) -> 
     if faithful {
         tally.faithful += 1;
         try_demand_3(random, &draft, tally)?;
-    } else {
+    } else if let Some(library) = library() {
         let (work, spare) = (random.words(MOST_ROOM), random.words(MOST_ROOM));
-        let answer = same_run(&draft.encode(), &work, &spare)?;
+        let answer = same_run(library, &draft.encode(), &work, &spare)?;
         answer.map_err(|refusal| refused("a run with the most room", &draft.encode(), refusal))?;
+    } else {
+        return Ok(());
     }
     tally.runs += 1;
     tally.runs_at_most_room += 1;
@@ -442,14 +451,19 @@ fn compare_most_room(random: &mut Random, faithful: bool, tally: &mut Tally) -> 
 }
 
 /// A run on words that spread no table, in buffers of any length.
-fn compare_any_words(random: &mut Random, file: &[u8], tally: &mut Tally) -> Outcome {
+fn compare_any_words(
+    random: &mut Random,
+    library: &dyn Implementation,
+    file: &[u8],
+    tally: &mut Tally,
+) -> Outcome {
     let room = room_of(file);
     let work = random_length(random, room);
     let work = random.words(work);
     let spare = random_length(random, room);
     let spare = random.words(spare);
     tally.longer_buffers += usize::from(work.len() > room || spare.len() > room);
-    let answer = same_run(file, &work, &spare)?;
+    let answer = same_run(library, file, &work, &spare)?;
     tally.refused_runs += usize::from(answer.is_err());
     tally.see(&answer);
     Ok(())
@@ -467,7 +481,7 @@ fn spoilt_file(random: &mut Random) -> Vec<u8> {
 /// The room of a plan; for a file that is refused any length will do.
 fn room_of(file: &[u8]) -> usize {
     let checked = Reference.check(file);
-    checked.map_or(64, |checked| checked.room)
+    checked.map_or(64, |checked| checked.room as usize)
 }
 
 /// A length around the room: just enough, more, or too little.
@@ -481,24 +495,24 @@ fn random_length(random: &mut Random, room: usize) -> usize {
 }
 
 /// Compares the runs of a file on copies of the buffers, and answers how they ended.
-fn same_run(file: &[u8], work: &[u32], spare: &[u32]) -> Result<Result<u64, Refusal>, Difference> {
+fn same_run(
+    library: &dyn Implementation,
+    file: &[u8],
+    work: &[u32],
+    spare: &[u32],
+) -> Result<Result<u64, Refusal>, Difference> {
     let after = |one: &dyn Implementation| {
         let (mut work, mut spare) = (work.to_vec(), spare.to_vec());
         let answer = one.run(file, &mut work, &mut spare);
         (answer, work, spare)
     };
     let (answer, our_work, our_spare) = after(&Reference);
-    let (other, their_work, their_spare) = after(&Library);
+    let (other, their_work, their_spare) = after(library);
     let lengths = format!("work of {} and spare of {} words", work.len(), spare.len());
     same(&format!("run with {lengths}"), file, &answer, &other)?;
     same_at_boundary(file, "run", |raw| raw.run(file, work, spare, answer))?;
-    if let (Ok(moved), Ok(checked)) = (other, Library.check(file)) {
-        same(
-            "words moved by a run, and by the check",
-            file,
-            &checked.moved,
-            &moved,
-        )?;
+    if let (Ok(moved), Ok(checked)) = (other, library.check(file)) {
+        same("words moved by a run, and by the check", file, &checked.moved, &moved)?;
     }
     same_words(
         &format!("work after a run with {lengths}"),
@@ -544,8 +558,10 @@ fn try_demand_3(random: &mut Random, draft: &Draft, tally: &mut Tally) -> Outcom
     work.extend(random.words(rest));
     let spare = room + random.below(3);
     let spare = random.words(spare);
-    let answer = same_run(&file, &work, &spare)?;
-    answer.map_err(|refusal| refused("a run of an accepted plan", &file, refusal))?;
+    if let Some(library) = library() {
+        let answer = same_run(library, &file, &work, &spare)?;
+        answer.map_err(|refusal| refused("a run of an accepted plan", &file, refusal))?;
+    }
     for (part, state) in random_parts(random, draft, room, tally) {
         let factor = part.factor();
         tally.multiplied += usize::from(factor != 1);
@@ -739,8 +755,6 @@ impl fmt::Display for Tally {
             "    {multiplied} of these with a factor other than 1, {by_0} with 0"
         )?;
         writeln!(f, "{}", self.routes)?;
-        writeln!(f, "{}", self.floats)?;
-        writeln!(f, "{}", self.pieces)?;
         writeln!(
             f,
             "{met} of {REFUSALS} refusal numbers met: {}",

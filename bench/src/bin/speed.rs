@@ -5,11 +5,10 @@
 //! time printed is the least of all. What is printed is Markdown, which `tools/benchmarks` puts
 //! into docs/BENCHMARKS.md.
 
+use bench::answers::{Axis, Device, Dim, MOST_DEVICES, MOST_ROOM, MOST_RUN, MOST_WORDS};
 use bench::plans::{axes, Draft, Lists, Step};
 use bench::random::Random;
-use bench::{Implementation, Library, Reference};
-use ishkrela::limits::{MOST_DEVICES, MOST_ROOM, MOST_RUN, MOST_WORDS};
-use ishkrela::{Axis, Device, Dim};
+use bench::{library, Implementation, Reference};
 use std::env;
 use std::fmt::Write;
 use std::hint::black_box;
@@ -23,10 +22,6 @@ macro_rules! say {
     };
 }
 
-#[path = "speed/floats.rs"]
-mod floats;
-#[path = "speed/pieces.rs"]
-mod pieces;
 #[path = "speed/shapes.rs"]
 mod shapes;
 
@@ -91,16 +86,18 @@ fn main() -> ExitCode {
         );
         return ExitCode::FAILURE;
     };
+    if library().is_none() {
+        eprintln!("speed: target/staticlib/libcapi.a is not there: tools/build makes it");
+        return ExitCode::FAILURE;
+    }
     let mut bench = Bench::new();
     for _ in 0..rounds {
         bench.begin_round();
         preface(&mut bench.page, rounds);
         small_calls(&mut bench);
         placed_lists(&mut bench);
-        pieces::checks_in_pieces(&mut bench);
         one_step_runs(&mut bench);
         scattered_runs(&mut bench);
-        floats::float_runs(&mut bench);
         steps_alone(&mut bench);
         shapes::every_shape(&mut bench);
         whole_runs(&mut bench);
@@ -153,12 +150,9 @@ struct Limits {
     scatter_in_two: Limit,
     order: Limit,
     repeated: Limit,
-    float_sum: Limit,
-    float_move: Limit,
     placed_list: Limit,
     small_call: Limit,
     one_step_run: Limit,
-    float_run: Limit,
     step: Limit,
     whole_run: Limit,
     repeated_run: Limit,
@@ -215,12 +209,9 @@ impl Limits {
             scatter_in_two: Limit::new("reduce-scatter / all-reduce, all-slice", 1.0),
             order: Limit::new("an order's part / copies in and out", 2.0),
             repeated: Limit::new("step of a block / step of a flat file", 1.2),
-            float_sum: Limit::new("sum of floats / sum of integers", 2.2),
-            float_move: Limit::new("move of floats / move of integers", 1.1),
             placed_list: Limit::new("list of devices / single placements", 1.0),
             small_call: Limit::new("small call / reference", 1.0),
             one_step_run: Limit::new("run of one step / reference", 1.0),
-            float_run: Limit::new("run of one step on floats / reference", 1.0),
             step: Limit::new("step / reference", 1.0),
             whole_run: Limit::new("run of 64 steps / reference", 1.0),
             repeated_run: Limit::new("run of 4,096 steps / reference", 1.0),
@@ -270,14 +261,11 @@ impl Limits {
             &self.scatter,
             &self.scatter_in_two,
             &self.repeated,
-            &self.float_sum,
-            &self.float_move,
             &self.placed_list,
         ];
         let beside_reference = [
             &self.small_call,
             &self.one_step_run,
-            &self.float_run,
             &self.step,
             &self.whole_run,
             &self.repeated_run,
@@ -312,7 +300,7 @@ struct Bench {
     spare: Vec<u32>,
 }
 
-/// Microseconds; the library's are missing before the first are taken.
+/// Microseconds; the library's are missing when it is not linked.
 #[derive(Clone, Copy)]
 struct Times {
     library: Option<f64>,
@@ -328,11 +316,8 @@ impl Times {
     /// The lesser of these times and of new ones, the reference's first.
     fn least(self, mut time: impl FnMut(&dyn Implementation) -> f64) -> Times {
         let reference = self.reference.min(time(&Reference));
-        let library = time(&Library).min(self.library.unwrap_or(f64::INFINITY));
-        Times {
-            library: Some(library),
-            reference,
-        }
+        let library = library().map(|one| time(one).min(self.library.unwrap_or(f64::INFINITY)));
+        Times { library, reference }
     }
 
     fn with(self, other: Times, combine: impl Fn(f64, f64) -> f64) -> Times {
@@ -412,7 +397,7 @@ impl Bench {
 
     fn run(&mut self, one: &dyn Implementation, file: &[u8]) -> f64 {
         let checked = Reference.check(file).expect("a plan of the benchmark");
-        self.time(checked.room, |work, spare| {
+        self.time(checked.room as usize, |work, spare| {
             one.only_run(file, work, spare).expect("room enough");
         })
     }
@@ -695,7 +680,7 @@ fn small_calls(bench: &mut Bench) {
     for order in [0, 32] {
         let file = steps_file(8, order);
         small_call(bench, &with_order("placement, 8 steps", order), |one| {
-            black_box(one.places(black_box(&file), 8, Device(3)));
+            black_box(one.place(black_box(&file), 8, Device(3)).is_ok());
         });
     }
     let listings: [(&[u16], &[u8]); 3] = [
@@ -829,7 +814,7 @@ fn placed_list(bench: &mut Bench, devices: usize, order: usize) {
     });
     let single = call_times(CALLS, |one| {
         for &device in &list {
-            black_box(one.places(black_box(&file), STATE, device));
+            black_box(one.place(black_box(&file), STATE, device).is_ok());
         }
     });
     let (at_once, single) = (bench.kept_both(at_once), bench.kept_both(single));
@@ -1313,8 +1298,8 @@ fn of_each_kind(extent: Extent) -> Vec<Case> {
 /// Prints a row, and answers the nanoseconds that a word costs.
 fn run_with_cost(bench: &mut Bench, case: &Case, smaller: Option<f64>) -> Option<f64> {
     let file = case.draft.encode();
-    let time = bench.run(&Library, &file);
-    let time = Some(bench.kept(time));
+    let time = library().map(|one| bench.run(one, &file));
+    let time = time.map(|time| bench.kept(time));
     let copy = bench.copy_once(case.room(), case.words);
     let copy = bench.kept(copy);
     let cost = time.map(|time| time * 1e3 / case.words as f64);

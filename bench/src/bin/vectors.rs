@@ -1,4 +1,4 @@
-//! Compares files of vectors with the reference and with the library.
+//! Compares files of vectors with the reference, and with the library when it is linked.
 //!
 //! Each argument is a file of vectors, or a folder that holds some. The name of a file tells
 //! what its cases are: `check.txt` or `plans.txt`, `run.txt` or `runs.txt`, `place.txt` or
@@ -6,10 +6,10 @@
 //! are no cases. A file whose name ends with `-CALL.jsonl` has a JSON object in each line, as
 //! `tools/json_cases` takes them, and is compared where it is named itself.
 
+use bench::answers::{Axis, Device, Dim, NotPlaced, Refusal, Sharding};
 use bench::json::Json;
-use bench::records::{MeshAndTable, Records, StepRecord};
+use bench::records::{MeshAndTable, Records, ShardingRecord, StepRecord};
 use bench::{hex, implementations, Implementation};
-use ishkrela::{Axis, Device, Dim, NotPlaced, Refusal, Sharding};
 use std::path::{Path, PathBuf};
 use std::process::ExitCode;
 use std::{env, fs};
@@ -26,10 +26,9 @@ const FILES: [(&str, Compare); 8] = [
     ("groups_ordered.txt", compare_groups_ordered),
 ];
 
-/// The same of files in JSON, by the end of their name; the runs of Ask 13 are on floats.
-const JSON_FILES: [(&str, CompareJson); 8] = [
+/// The same of files in JSON, by the end of their name.
+const JSON_FILES: [(&str, CompareJson); 7] = [
     ("-check.jsonl", json_check),
-    ("-13-run.jsonl", json_run_f32),
     ("-run.jsonl", json_run),
     ("-place.jsonl", json_place),
     ("-place_all.jsonl", json_place_all),
@@ -150,20 +149,14 @@ fn compare_check(implementation: &dyn Implementation, fields: &[&str]) -> Result
         return Err("two fields are wanted".into());
     };
     let file = bytes(file)?;
-    Ok(outcome_lines(implementation, &file) == *printed && same_in_pieces(implementation, &file))
-}
-
-/// Whether a file that comes byte by byte is answered as the whole is.
-fn same_in_pieces(implementation: &dyn Implementation, file: &[u8]) -> bool {
-    let pieces: Vec<&[u8]> = file.chunks(1).collect();
-    implementation.check_pieces(&pieces) == implementation.check(file)
+    Ok(outcome_lines(implementation, &file) == *printed)
 }
 
 /// What the program of document 01 prints, its lines divided by `/`.
 fn outcome_lines(implementation: &dyn Implementation, file: &[u8]) -> String {
     let shards = match implementation.shards(file) {
         Ok(shards) => shards,
-        Err(refusal) => return printed_refusal(refusal),
+        Err(refusal) => return refusal.to_string(),
     };
     let mut lines = format!("ok {}", shards.len() - 1);
     for (state, shard) in shards.iter().enumerate() {
@@ -266,12 +259,12 @@ fn json_check(implementation: &dyn Implementation, case: &Json) -> Option<bool> 
             })
             .collect();
         Ok(object([
-            ("room", Json::Number(checked.room as u64)),
+            ("room", Json::Number(checked.room.into())),
             ("devices", Json::Number(checked.devices.into())),
             ("states", Json::List(states?)),
         ]))
     });
-    Some(same_json(case, "check", answer)? && same_in_pieces(implementation, &file))
+    same_json(case, "check", answer)
 }
 
 fn json_run(implementation: &dyn Implementation, case: &Json) -> Option<bool> {
@@ -294,50 +287,6 @@ fn json_run(implementation: &dyn Implementation, case: &Json) -> Option<bool> {
         false => object([("work", work), ("spare", spare)]),
     });
     Some(same_json(case, "run", answered)? && (answer.is_ok() || stayed))
-}
-
-/// Words are the bits of floats; `"nan"` stands for any that is not a number.
-fn json_run_f32(implementation: &dyn Implementation, case: &Json) -> Option<bool> {
-    let before = json_floats(case, "work")?;
-    let spare_before = json_floats(case, "spare")?;
-    let (mut work, mut spare) = (before.clone(), spare_before.clone());
-    let answer = implementation.run_f32(&json_file(case)?, &mut work, &mut spare);
-    let run = case.get("run")?;
-    match answer {
-        Ok(moved) => {
-            let counted = run.get("moved").and_then(Json::number) == Some(moved);
-            Some(
-                counted
-                    && same_floats(&work, run.get("work")?)
-                    && same_floats(&spare, run.get("spare")?),
-            )
-        }
-        Err(_) => {
-            let stayed = bits(&work) == bits(&before) && bits(&spare) == bits(&spare_before);
-            Some(same_json(case, "run", answer.map(Json::Number))? && stayed)
-        }
-    }
-}
-
-fn json_floats(case: &Json, name: &str) -> Option<Vec<f32>> {
-    case.get(name)?
-        .list(|word| word.number().map(f32::from_bits))
-}
-
-fn bits(words: &[f32]) -> Vec<u32> {
-    words.iter().map(|word| word.to_bits()).collect()
-}
-
-/// Whether floats are those of a case, bit for bit but where it says `"nan"`.
-fn same_floats(words: &[f32], shown: &Json) -> bool {
-    let Json::List(shown) = shown else {
-        return false;
-    };
-    let same = |(word, shown): (&f32, &Json)| match shown.text() {
-        Some(text) => text == "nan" && word.is_nan(),
-        None => shown.number() == Some(word.to_bits()),
-    };
-    words.len() == shown.len() && words.iter().zip(shown).all(same)
 }
 
 fn json_place(implementation: &dyn Implementation, case: &Json) -> Option<bool> {
@@ -408,11 +357,11 @@ fn json_plan(implementation: &dyn Implementation, case: &Json) -> Option<bool> {
     let answer = implementation.plan(&on, &start, &goal);
     Some(match case.get("plan")?.get("no") {
         Some(refusal) => {
-            let [number, step] = refusal.numbers::<u32>()?[..] else {
+            let [number, step] = refusal.numbers::<u16>()?[..] else {
                 return None;
             };
             let number = u8::try_from(number).ok()?;
-            answer == Err(bench::refusal(number, step))
+            answer == Err(Refusal { number, step })
         }
         None => answer == Ok(case.get("plan")?.list(json_step)?),
     })
@@ -430,8 +379,8 @@ fn json_axes(list: &Json) -> Option<Vec<Axis>> {
     list.list(|axis| axis.number().map(Axis))
 }
 
-fn json_sharding_record(sharding: &Json) -> Option<Sharding> {
-    Some(Sharding {
+fn json_sharding_record(sharding: &Json) -> Option<ShardingRecord> {
+    Some(ShardingRecord {
         dims: sharding.get("dims")?.list(json_axes)?,
         unreduced: json_axes(sharding.get("unreduced")?)?,
         replicated: json_axes(sharding.get("replicated")?)?,
@@ -467,7 +416,7 @@ fn same_json(case: &Json, call: &str, answer: Result<Json, Refusal>) -> Option<b
 }
 
 fn json_refusal(refusal: Refusal) -> Json {
-    json_numbers(&[refusal.number().into(), refusal.step])
+    json_numbers(&[refusal.number.into(), refusal.step])
 }
 
 fn json_file(case: &Json) -> Option<Vec<u8>> {
@@ -497,12 +446,7 @@ fn json_sharding(sharding: &Sharding) -> Json {
 // ---- parts of lines
 
 fn printed<T>(answer: Result<T, Refusal>, accepted: impl FnOnce(T) -> String) -> String {
-    answer.map_or_else(printed_refusal, accepted)
-}
-
-/// The line of document 01.
-fn printed_refusal(refusal: Refusal) -> String {
-    format!("no {} {}", refusal.number(), refusal.step)
+    answer.map_or_else(|refusal| refusal.to_string(), accepted)
 }
 
 fn printed_hex(bytes: &[u8]) -> String {

@@ -1,13 +1,11 @@
 //! Document 02, Asks 2 and 10: the writer, the way back, and the planner.
 
-use super::compact::{AxisList, DimLists, Sharding, Sizes};
 use super::{
     product_within, within_limits, Item, Judge, Mesh, Order, Plan, Source, State, Step, MOST_BYTES,
     MOST_DEVICES, MOST_WORDS, REPEAT,
 };
-use crate::records::{MeshAndTable, Opened, Records, StepRecord};
-use crate::whole;
-use ishkrela::{Axis, Device, Refusal};
+use crate::answers::{Axis, AxisList, Device, DimLists, Refusal, Sharding, Sizes};
+use crate::records::{MeshAndTable, Opened, Records, ShardingRecord, StepRecord};
 use std::slice;
 
 /// Writes the file of a plan, and answers how many bytes it has.
@@ -22,9 +20,9 @@ pub fn write(records: &Records, out: &mut [u8]) -> Result<usize, Refusal> {
     Judge::new(&ground.mesh, walk, start).outermost(steps)?;
     let file = encode(records, steps);
     if file.len() > MOST_BYTES {
-        return Err(whole(2));
+        return Err(Refusal::whole(2));
     }
-    let part = out.get_mut(..file.len()).ok_or(whole(35))?;
+    let part = out.get_mut(..file.len()).ok_or(Refusal::whole(35))?;
     part.copy_from_slice(&file);
     Ok(file.len())
 }
@@ -39,15 +37,15 @@ pub fn read(file: &[u8], order: &mut [Device], steps: &mut [u8]) -> Result<Opene
         .for_each(|item| add_records(item, &mut records));
     let bytes: Vec<u8> = records.iter().flat_map(StepRecord::to_bytes).collect();
     let devices = &plan.order.0;
-    let short = whole(33);
+    let short = Refusal::whole(33);
     let order = order.get_mut(..devices.len()).ok_or(short)?;
     let steps = steps.get_mut(..bytes.len()).ok_or(short)?;
     order.copy_from_slice(devices);
     steps.copy_from_slice(&bytes);
     Ok(Opened {
         mesh: plan.mesh.sizes.to_vec(),
-        table: plan.table.to_vec(),
-        start: plan.states[0].sharding.into(),
+        table: plan.table,
+        start: plan.states[0].sharding,
         order: order.len(),
         steps: steps.len(),
     })
@@ -81,8 +79,8 @@ fn add_records(item: &Item, records: &mut Vec<StepRecord>) {
 /// Makes the plan from one sharding to another.
 pub fn plan(
     on: &MeshAndTable,
-    start: &ishkrela::Sharding,
-    goal: &ishkrela::Sharding,
+    start: &ShardingRecord,
+    goal: &ShardingRecord,
 ) -> Result<Vec<StepRecord>, Refusal> {
     let ground = Ground::judge(on, 0)?;
     let start = ground.state(start)?.sharding;
@@ -92,7 +90,7 @@ pub fn plan(
         .iter()
         .all(|axis| start.unreduced.contains(axis));
     if !all_there || start.replicated != goal.replicated {
-        return Err(whole(40));
+        return Err(Refusal::whole(40));
     }
     let kept = |axis: &Axis| goal.unreduced.contains(axis);
     let reduced = start.unreduced.iter().copied().filter(|axis| !kept(axis));
@@ -148,7 +146,7 @@ impl Ground {
     }
 
     /// The state of the table under a sharding; all counts are judged before the first axis.
-    fn state(&self, given: &ishkrela::Sharding) -> Result<State, Refusal> {
+    fn state(&self, given: &ShardingRecord) -> Result<State, Refusal> {
         let axes = self.mesh.axes();
         let sharding = Sharding {
             dims: lists(&given.dims, axes)?,
@@ -161,7 +159,7 @@ impl Ground {
 
 fn list(given: &[Axis], axes: usize) -> Result<AxisList, Refusal> {
     if given.len() > axes {
-        return Err(whole(8));
+        return Err(Refusal::whole(8));
     }
     Ok(given.iter().copied().collect())
 }
@@ -179,7 +177,7 @@ struct Walk<'a> {
 impl Source for Walk<'_> {
     fn kind(&mut self) -> Result<u8, Refusal> {
         self.at = self.left.next();
-        self.at.map(kind).ok_or(whole(7))
+        self.at.map(kind).ok_or(Refusal::whole(7))
     }
 
     fn repeat(
@@ -188,7 +186,7 @@ impl Source for Walk<'_> {
     ) -> Result<(usize, usize), Refusal> {
         match self.at {
             Some(StepRecord::Repeat { count, steps }) => Ok((positive(*count)?, positive(*steps)?)),
-            _ => Err(whole(7)),
+            _ => Err(Refusal::whole(7)),
         }
     }
 

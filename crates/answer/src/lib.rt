@@ -2,6 +2,8 @@
 // its shard sizes. `ishkrela::check` judges the file once; where it passed, each outermost step is read again once, with
 // the steps inside it, and the sizes are those of `dims::shard_of` after it. These calls answer document 01's
 // definitions; that the lines are 01's is tested (tests/plans.txt).
+#![tactic(auto)]
+
 ghost use Rattle.std.specs.Prelude.{◌≡◌};
 ghost use Rattle.types.specs.Answers.{number_of};
 ghost use Rattle.types.specs.Promises.{CheckPromise};
@@ -76,7 +78,7 @@ fn print_steps(
     let mut after = start;
     let mut most = shard_words(total, mesh, table, start);
     let mut place = at;
-    let mut number: usize = 1;
+    let mut number: u16 = 1;
     let mut k: usize = 0;
     while k < count {
         let item = judge_item(file, place, number, depth, mesh, table, extent, most, after);

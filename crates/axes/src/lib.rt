@@ -1,4 +1,6 @@
 // One axis list at a time: the tests and changes of lists that a judgement is made of, marks of named axes, and the sizes of a mesh.
+#![tactic(auto)]
+
 ghost use Rattle.std.specs.Prelude.{◌≡◌, true, false, [], ◌∷◌, ◌++◌, ◌+◌, ◌≤◌, ◌<◌, length, get_or, set};
 ghost use Rattle.rules.specs.Lists.{tab, pick, mem, keep, without as without_of};
 ghost use Rattle.rules.specs.Limits.{most_axes};

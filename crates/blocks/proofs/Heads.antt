@@ -1,4 +1,4 @@
--- The kind byte of a repeat and the two bytes behind it: how each test stops the reading, what is read where all pass (`head_is`), and what an answer
+-- The kind byte of a repeat and the two bytes behind it: how each test stops the reading, what is read where all pass (`head-is`), and what an answer
 -- tells once it is taken apart. Assumes nothing.
 use Prim.Native.Nat.{ℕ, zero, suc, ◌+◌, ◌≤◌, ◌<◌}
 use mathlib.Core.Path.{◌≡◌, refl, sym, ap, ◌∙◌}
@@ -71,9 +71,9 @@ module _ (depth k : ℕ) (file : List ℕ) (at : ℕ) where
       unfolding head_at
       too-deep z = rw (e, q, z) refl
 
-      pub head_is : depth ≢ 0 → head_at depth k file at ≡ accept (record { count = count; number = number })
+      pub head-is : depth ≢ 0 → head_at depth k file at ≡ accept (record { count = count; number = number })
       unfolding head_at
-      head_is z = rw (e, q) (go depth z)
+      head-is z = rw (e, q) (go depth z)
         where
           go : (d : ℕ) → d ≢ 0 → ◌>>◌ {B = Head} (not_too_deep d k) (accept (record { count = count; number = number }))
               ≡ accept (record { count = count; number = number })

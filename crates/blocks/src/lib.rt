@@ -1,5 +1,7 @@
 // Repeats: what stands at a kind byte, a plain step or a repeat with all steps inside it, read and judged (document 02, Ask 11).
 // Judging a block calls judging an item, which calls judging a block; the bytes left fall. specs/Blocks.antt says what is asked and answered.
+#![tactic(auto)]
+
 ghost use Rattle.std.specs.Prelude.{◌≡◌, true, ℕ, ◌+◌, ◌≤◌, length, take};
 ghost use Rattle.rules.specs.Limits.{most_dims, every_kind};
 ghost use Rattle.rules.specs.Lists.{both};
@@ -15,7 +17,7 @@ use taking::{Extent, charge_step, larger, shard_words, take_step};
 use types::{AxisList, Dim, DimLists, Mesh, Reason, Refusal, Sharding, Step, Table};
 
 // A byte that is not 0, or the refusal.
-#[derive(Drop)]
+#[derive(Clone, Copy)]
 pub enum Positive {
     Is(u8),
     Refused(Refusal),
@@ -37,7 +39,7 @@ impl Positive {
 }
 
 // The byte at a position, in the repeat with number k.
-pub fn positive_at(file: &[u8], at: usize, k: usize) -> Positive
+pub fn positive_at(file: &[u8], at: usize, k: u16) -> Positive
     ensures { positive_read result ≡ positive_at k file.now at }
 {
     if file.len() <= at {
@@ -57,7 +59,7 @@ pub fn positive_at(file: &[u8], at: usize, k: usize) -> Positive
 }
 
 // How often a block is run, and how many steps it has; or the refusal.
-#[derive(Drop)]
+#[derive(Clone, Copy)]
 pub enum RepeatRead {
     Of(u8, u8),
     Refused(Refusal),
@@ -79,7 +81,7 @@ impl RepeatRead {
 }
 
 // The two bytes behind the kind byte of the repeat with number k, where repeats may nest so deep, this one included.
-pub fn read_repeat(file: &[u8], at: usize, k: usize, depth: usize) -> RepeatRead
+pub fn read_repeat(file: &[u8], at: usize, k: u16, depth: usize) -> RepeatRead
     requires { at ≤ length file.now }
     ensures { repeat_read result ≡ head_at depth k file.now at }
 {
@@ -152,10 +154,10 @@ pub fn same_sharding(a: Sharding, b: Sharding, rank: usize) -> bool
 
 // Steps that were judged: where the next byte is, the number of the kind byte there, how many plain steps are run, the most words that a shard had so
 // far, the words moved between devices, and the sharding after them.
-#[derive(Drop)]
+#[derive(Clone, Copy)]
 pub struct StepsJudged {
     pub next: Next,
-    pub number: usize,
+    pub number: u16,
     pub runs: usize,
     pub largest: usize,
     pub moved: u64,
@@ -182,7 +184,7 @@ impl StepsJudged {
 fn judge_plain(
     file: &[u8],
     at: usize,
-    k: usize,
+    k: u16,
     mesh: Mesh,
     table: Table,
     extent: Extent,
@@ -215,13 +217,7 @@ fn judge_plain(
 }
 
 // The end of the block with number k: the sharding is the one before it, and so many rounds are not too many steps.
-fn close_block(
-    k: usize,
-    count: u8,
-    block: StepsJudged,
-    before: Sharding,
-    rank: usize,
-) -> StepsJudged
+fn close_block(k: u16, count: u8, block: StepsJudged, before: Sharding, rank: usize) -> StepsJudged
     requires { Closing block rank }
     ensures { StepsTell rank (sharding_of rank before) (closed k count rank before block) result }
 {
@@ -264,7 +260,7 @@ fn close_block(
 pub fn judge_block(
     file: &[u8],
     at: usize,
-    k: usize,
+    k: u16,
     depth: usize,
     mesh: Mesh,
     table: Table,
@@ -320,7 +316,7 @@ pub fn judge_block(
 pub fn judge_item(
     file: &[u8],
     at: usize,
-    k: usize,
+    k: u16,
     depth: usize,
     mesh: Mesh,
     table: Table,

@@ -1,4 +1,2 @@
 -- The laws of the boundary.
-pub mod Codes
-pub mod Pieces
 pub mod Replies

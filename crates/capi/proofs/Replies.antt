@@ -1,7 +1,6 @@
--- Laws of the boundary: the library's answers in numbers (`check-told`, `place-told`, `run-told`, `read_told`, `plan-told`), and that a refusal's step fits beside its
--- number (`place-step`, ..). Assumes nothing.
-use Prim.Native.Nat.{ℕ, ◌+◌, ◌*◌, ◌≤◌, min}
-use mathlib.Core.Path.{◌≡◌, refl, sym, ap, ap₂, subst, ◌∙◌}
+-- Laws of the boundary: the library's answers in numbers (`check-told`, `place-told`, `read_told`, `plan-told`). Assumes nothing.
+use Prim.Native.Nat.{ℕ, ◌+◌, ◌*◌, ◌≤◌}
+use mathlib.Core.Path.{◌≡◌, refl, sym, ap, subst, ◌∙◌}
 use mathlib.Core.List.{List, [], ◌∷◌, map}
 use mathlib.Core.Bool.{Bool, true, false}
 use native.Mathlib.Omega.{arith}
@@ -15,15 +14,13 @@ use Rattle.types.specs.Answers.{refused_with, number_of, reason_of, checked_of, 
 use Rattle.rules.specs.PlanFile.{Plan, judge}
 use Rattle.types.specs.Types.{four_places}
 use Rattle.rules.specs.Calls.{CheckAnswer, check_of, PlaceAnswer, place_of}
-use Rattle.rules.specs.Calls as rules
-use Rattle.types.specs.Promises.{CheckPromise, PlacePromise, RunPromiseBy}
+use Rattle.types.specs.Promises.{CheckPromise, PlacePromise}
 use Rattle.types.specs.declared.Checked.{Checked}
 use Rattle.types.specs.declared.Placed.{Placed}
 use Rattle.types.specs.declared.CheckOutcome.{CheckOutcome}
 use Rattle.types.specs.declared.CheckOutcome.TheVariants as check
 use Rattle.types.specs.declared.PlaceOutcome.{PlaceOutcome}
 use Rattle.types.specs.declared.PlaceOutcome.TheVariants as place
-use Rattle.types.specs.declared.Ran.{Ran}
 use Rattle.types.specs.declared.Refusal.{Refusal}
 use Rattle.types.specs.declared.Sharding as code
 use Rattle.types.specs.declared.Step as declared
@@ -31,7 +28,7 @@ use Rattle.laws.proofs.Judging.{never, accept-inj, then-inv}
 use Rattle.laws.proofs.Accepted.{AcceptedPlan, accepted}
 use Rattle.types.proofs.Answers.{InPlaces, check-in-places, check-listed, place-in-places, place-listed}
 use Rattle.records.specs.Forms.{sharding_given, record_bytes, six_places}
-use Rattle.records.specs.RoundTrip.{ShortSharding, last_step}
+use Rattle.records.specs.RoundTrip.{ShortSharding}
 use Rattle.records.specs.Planning.{plan_steps, plan_of}
 use Rattle.records.specs.PlanAnswer.{steps_from, steps_planned, planned_of}
 use Rattle.records.specs.Reading.{ReadAnswer, order_read, read_answer, read_of, opened_of}
@@ -43,7 +40,6 @@ use Rattle.records.specs.declared.Steps.{Steps}
 use Rattle.records.specs.declared.Planned.{Planned}
 use Rattle.records.specs.declared.PlanOutcome.{PlanOutcome}
 use Rattle.records.specs.declared.PlanOutcome.TheVariants as plan
-use Rattle.records.proofs.Numbers.{Within}
 use Rattle.records.proofs.Reread.{sharding-short}
 use Rattle.records.proofs.Reading.{read-inv}
 use Rattle.records.proofs.Accepting.{plan-few}
@@ -51,32 +47,21 @@ use Rattle.records.proofs.Arrives.{plan-short}
 use Rattle.placements.specs.PlaceAll.{place_all_of, placed_before, place_beside, placed_all_with, PlaceAllPromise}
 use Rattle.placements.specs.declared.PlacedAll.{PlacedAll}
 use Rattle.placements.specs.declared.PlaceAllOutcome.{PlaceAllOutcome}
-use Rattle.placements.specs.declared.PlaceAllOutcome.TheVariants as all
 use Rattle.placements.proofs.Promises.{all_listed}
 use Rattle.marshal.specs.Structs.{step_numbers}
 use Rattle.marshal.specs.declared.StepReply.{StepReply}
 use Rattle.marshal.proofs.Structs.{sharding-of, step-at}
-use Rattle.capi.specs.Boundary.{refusal_code, check_reply, ran_reply, place_reply, checked_reply, checked_rank, ran_numbers, placed_reply, opened_reply, planned_reply, read_reply, made_reply, placed_all_reply, all_reply}
-use Rattle.capi.proofs.Codes.{check-codes, place-codes, place-all-codes, read-codes, plan-codes}
+use Rattle.capi.specs.Boundary.{check_reply, place_reply, checked_reply, placed_reply, opened_reply, planned_reply, read_reply, made_reply, placed_all_reply, all_reply}
 
 -- each list of an answer has a place for its axes
 in-places : {rank : ℕ} (s : Sharding) → InPlaces rank s → ShortSharding s
 in-places s f = record { dims = f.lists-few; unreduced = f.unreduced_few; replicated = f.replicated_few }
 
--- the step of a refusal, 0 where there is none
-abbrev pub placed_step : PlaceOutcome → ℕ
-placed_step (place.Found rank) = 0
-placed_step (place.Refused r) = r.step
-
-abbrev pub placed_all_step : PlaceAllOutcome → ℕ
-placed_all_step all.Placed = 0
-placed_all_step (all.Refused r) = r.step
-
-abbrev pub read_step : ReadOutcome → ℕ
-read_step (read.Opened c) = 0
-read_step (read.Refused r) = r.step
-
 -- the rank of an answer, 0 beside a refusal
+abbrev pub checked_rank : CheckOutcome → ℕ
+checked_rank (check.Passed t) = t.rank
+checked_rank (check.Refused r) = 0
+
 abbrev pub placed_rank : PlaceOutcome → ℕ
 placed_rank (place.Found rank) = rank
 placed_rank (place.Refused r) = 0
@@ -98,10 +83,7 @@ module _ (file : List ℕ) where
         }),
         f.rank_few,
       )
-  checked (refuse n k) e =
-      let few : k ≤ last_step = (check-codes file).bound n k e in
-      let same : min k last_step ≡ k = omega arith in
-      (ap₂ (λ (m l : ℕ). check_reply (refuse m l)) (check-listed file n k e) same, omega arith)
+  checked (refuse n k) e = (ap (λ (m : ℕ). check_reply (refuse m k)) (check-listed file n k e), omega arith)
 
   module _ {r : Checked} {o : CheckOutcome} (p : CheckPromise file r) (e : r.outcome ≡ o) where
     pub check-told : checked_reply o r ≡ check_reply (check_of file)
@@ -132,24 +114,8 @@ module _ (file : List ℕ) (state device : ℕ) where
     place-told =
         ap (λ (x : PlaceOutcome). placed_reply x r) (sym e) ∙ ap (λ (c : Placed). placed_reply c.outcome c) p ∙ (placed (place_of file state device) refl).0
 
-    pub place-step : placed_step o ≤ last_step
-    place-step =
-        subst (λ (x : PlaceOutcome). placed_step x ≤ last_step) (ap (λ (c : Placed). c.outcome) (sym p) ∙ e)
-        (go (place_of file state device) (place-codes file state device))
-      where
-        go : (j : Judged PlaceAnswer) → Within last_step j → placed_step (placed_of j).outcome ≤ last_step
-        go (accept a) h = omega arith
-        go (refuse n k) h = h.bound n k refl
-
     pub place-rank : placed_rank o ≤ most_dims
     place-rank = subst (λ (x : PlaceOutcome). placed_rank x ≤ most_dims) (ap (λ (c : Placed). c.outcome) (sym p) ∙ e) (placed (place_of file state device) refl).1
-
--- ---- the run, whatever the words are
-
-pub run-told : {W : Type 0} {runs : List ℕ → (work spare : List W) → rules.Ran W} {Demand : Plan → (work spare : List W) → rules.Ran W → Type 0}
-    {file : List ℕ} {work spare : List W} {r : Ran} {workAfter spareAfter : List W} → RunPromiseBy runs Demand file work spare r workAfter spareAfter
-    → ran_numbers r ≡ ran_reply (runs file work spare)
-run-told p i = record { refusal = refusal_code (p.answers i); moved = p.moved_is i }
 
 -- ---- a list of devices
 
@@ -164,16 +130,6 @@ module _ (file : List ℕ) (state : ℕ) (devices out : List ℕ) where
   place-all-told {r} p e =
       ap (λ (x : PlaceAllOutcome). all_reply x r) (sym e) ∙ ap (λ (c : PlacedAll). all_reply c.outcome c) p.answers
       ∙ all_placed (place_all_of file state devices out) refl (placed_before file state devices)
-
-  pub place-all-step : {r : PlacedAll} {outAfter : List ℕ} {o : PlaceAllOutcome} → PlaceAllPromise file state devices out r outAfter → r.outcome ≡ o
-      → placed_all_step o ≤ last_step
-  place-all-step {r} p e =
-      subst (λ (x : PlaceAllOutcome). placed_all_step x ≤ last_step) (ap (λ (c : PlacedAll). c.outcome) (sym p.answers) ∙ e)
-      (go (place_all_of file state devices out) (place-all-codes file state devices out) _)
-    where
-      go : (j : Judged (List ℕ)) → Within last_step j → (place : ℕ) → placed_all_step (placed_all_with j place).outcome ≤ last_step
-      go (accept l) h place = omega arith
-      go (refuse n k) h place = h.bound n k refl
 
 -- ---- the reading call
 
@@ -235,14 +191,6 @@ module _ (file order steps : List ℕ) where
     pub read_told : read_reply o r ≡ opened_reply opens
     read_told = ap (λ (x : ReadOutcome). read_reply x r) (sym e) ∙ ap (λ (c : Opened). read_reply c.outcome c) p.answers ∙ (opened opens refl).0
 
-    pub read-step : read_step o ≤ last_step
-    read-step =
-        subst (λ (x : ReadOutcome). read_step x ≤ last_step) (ap (λ (c : Opened). c.outcome) (sym p.answers) ∙ e) (go opens (read-codes file order steps))
-      where
-        go : (j : Judged ReadAnswer) → Within last_step j → read_step (opened_of j).outcome ≤ last_step
-        go (accept a) h = omega arith
-        go (refuse n k) h = h.bound n k refl
-
     pub read-counts : Counted o
     read-counts = subst Counted (ap (λ (c : Opened). c.outcome) (sym p.answers) ∙ e) (opened opens refl).1
 
@@ -287,9 +235,6 @@ module _ (mesh order sizes : List ℕ) (start goal : code.Sharding) where
         go (accept ts) q =
             ap (λ (z : Planned). made_reply plan.Made z.plan) (p.answers ∙ ap planned_of q) ∙ (made ts q).0
         go (refuse n k) q = absurd (made-refused (sym e ∙ ap (λ (z : Planned). z.outcome) (p.answers ∙ ap planned_of q)))
-
-    pub plan-step : (x : Refusal) → r.outcome ≡ plan.Refused x → x.step ≤ last_step
-    plan-step x e = (plan-codes mesh order sizes start goal).bound _ x.step (p.refused x e)
 
     pub plan-count : r.plan.count ≤ 3
     unfolding steps_from

@@ -1,12 +1,12 @@
 -- What the calls for C answer: the numbers that stand for an answer of the library (rules/specs/Calls.antt, records/specs), every field of them.
 -- marshal/specs/Structs.antt has those of a sharding and of a step. Assumes nothing.
-use Rattle.std.specs.Prelude.{ℕ, ◌+◌, ◌*◌, ◌≤◌, min, List, map, length, get_or, replicate}
+use Rattle.std.specs.Prelude.{ℕ, ◌+◌, ◌*◌, List, map, length, get_or, replicate}
 use Rattle.rules.specs.Lists.{tab}
 use Rattle.rules.specs.Limits.{most_axes, most_dims}
 use Rattle.rules.specs.Collectives.{Step}
 use Rattle.rules.specs.PlanFile.{plain}
 use Rattle.rules.specs.Refusals.{Judged, accept, refuse}
-use Rattle.types.specs.Answers.{number_of, refused_with, run_meaning}
+use Rattle.types.specs.Answers.{refused_with}
 use Rattle.types.specs.Types.{four_places, sharding_of}
 use Rattle.rules.specs.Calls.{CheckAnswer, PlaceAnswer, Ran}
 use Rattle.types.specs.declared.Checked.{Checked}
@@ -15,10 +15,8 @@ use Rattle.types.specs.declared.CheckOutcome.TheVariants as check
 use Rattle.types.specs.declared.Placed.{Placed}
 use Rattle.types.specs.declared.PlaceOutcome.{PlaceOutcome}
 use Rattle.types.specs.declared.PlaceOutcome.TheVariants as place
-use Rattle.types.specs.declared.Ran as answered
 use Rattle.records.specs.Forms.{six_places}
 use Rattle.records.specs.Reading.{ReadAnswer}
-use Rattle.records.specs.RoundTrip.{last_step}
 use Rattle.records.specs.declared.Opened.{Opened}
 use Rattle.records.specs.declared.ReadOutcome.{ReadOutcome}
 use Rattle.records.specs.declared.ReadOutcome.TheVariants as read
@@ -43,11 +41,6 @@ abbrev pub refusal_code : {A : Type 0} → Judged A → ℕ
 refusal_code (accept a) = 0
 refusal_code (refuse n k) = n + 256 * k
 
--- 32 bits hold them: of every refusal of the calls (proofs/Codes.antt)
-abbrev pub Coded : {A : Type 0} → Judged A → Type 0
-Coded (accept a) = Unit {0}
-Coded (refuse n k) = k ≤ last_step
-
 -- the check's answer; every field but the refusal is 0 where there is one
 abbrev pub check_reply : Judged CheckAnswer → CheckReply
 check_reply (accept a) = record {
@@ -71,8 +64,8 @@ check_reply (refuse n k) = record {
   moved = 0;
 }
 
--- the answer of a run, on words of any type: the words moved are 0 beside a refusal, as the definition has them
-abbrev pub ran_reply : {W : Type 0} → Ran W → RunReply
+-- the run's answer: the words moved are 0 beside a refusal, as the definition has them
+abbrev pub ran_reply : Ran → RunReply
 ran_reply r = record { refusal = refusal_code r.outcome; moved = r.moved }
 
 -- the placement's answer, in the same way
@@ -131,7 +124,6 @@ planned_reply (refuse n k) = record { refusal = n + 256 * k; count = 0; steps = 
 
 -- ---- the same numbers, from the library's own answers
 
--- A step past the last that 32 bits hold, which a made-up state of the check in pieces may have, counts as the last. Of a file there is none (`check-told`).
 abbrev pub checked_reply : CheckOutcome → Checked → CheckReply
 checked_reply (check.Passed t) c = record {
   refusal = 0;
@@ -143,15 +135,7 @@ checked_reply (check.Passed t) c = record {
   sharding = sharding_reply (sharding_of most_dims c.sharding);
   moved = t.moved;
 }
-checked_reply (check.Refused r) c = check_reply (refuse (number_of r.reason) (min r.step last_step))
-
--- the rank of an answer, 0 beside a refusal
-abbrev pub checked_rank : CheckOutcome → ℕ
-checked_rank (check.Passed t) = t.rank
-checked_rank (check.Refused r) = 0
-
-abbrev pub ran_numbers : answered.Ran → RunReply
-ran_numbers r = record { refusal = refusal_code (run_meaning r.outcome); moved = r.moved }
+checked_reply (check.Refused r) c = check_reply (refused_with r)
 
 abbrev pub placed_reply : PlaceOutcome → Placed → PlaceReply
 placed_reply (place.Found rank) c = record {

@@ -1,4 +1,3 @@
 -- What the contracts of the boundary cite, and worked answers.
 pub mod Boundary
-pub mod Pieces
 pub mod Worked

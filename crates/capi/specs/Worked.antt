@@ -2,9 +2,7 @@
 -- three replicated axes before and after a step, the placement of W4, and refusals with and without a step; W1 written of a C sharding and a record, and read
 -- back; a plan of three steps, and one that is refused. Assumes nothing.
 use Rattle.std.specs.Prelude.{ℕ, ◌≡◌, refl, List, [], ◌∷◌, ◌++◌, replicate}
-use Rattle.rules.specs.Spread.{add_words}
-use Rattle.rules.specs.Floats.{plus_zero}
-use Rattle.rules.specs.Calls.{check_of, place_of, groups_of, run_of, run_floats_of, run_of_by}
+use Rattle.rules.specs.Calls.{check_of, place_of, groups_of, run_of}
 use Rattle.rules.specs.Ledger.{file_in, file_of, w1, w4}
 use Rattle.records.specs.Writing.{write_of, write_leaves}
 use Rattle.records.specs.Forms.{dims_given, records_given, steps_given}
@@ -100,18 +98,13 @@ unfolding file_of place_of
 not-placed = refl
 
 not-run : ran_reply (run_of (w4 ((2 ∷ 1 ∷ 1 ∷ []) ∷ [])) [] []) ≡ record { refusal = 280; moved = 0 }
-unfolding file_of run_of_by add_words
+unfolding file_of run_of
 not-run = refl
 
 -- W1, run
 runs : ran_reply (run_of w1 (zeros 32) (zeros 32)) ≡ record { refusal = 0; moved = 16 }
-unfolding run_of_by add_words
+unfolding run_of
 runs = refl
-
--- on floats it moves as many
-floats_run : ran_reply (run_floats_of w1 (replicate 32 plus_zero) (replicate 32 plus_zero)) ≡ record { refusal = 0; moved = 16 }
-unfolding run_of_by
-floats_run = refl
 
 -- a device and a state that are not there, and an output that is too short
 outside : (refusal_code (place_of (w4 []) 0 4) ≡ 32) × (refusal_code (place_of (w4 []) 1 4) ≡ 34) × (refusal_code (groups_of (2 ∷ []) [] []) ≡ 33)

@@ -1,35 +1,31 @@
 // The library's calls for C, Rust and Python; include/ishkrela.h declares them.
 // What they answer is defined in specs/Boundary.antt, from the definitions of the library's calls (rules/specs/Calls.antt, records/specs).
-ghost use Rattle.std.specs.Prelude.{◌≡◌, ◌≤◌, ◌+◌, ◌*◌, min};
+#![tactic(auto)]
+
+ghost use Rattle.std.specs.Prelude.{◌≡◌, ◌≤◌, ◌+◌, ◌*◌};
 ghost use Rattle.rules.specs.Limits.{most_axes, most_dims};
 ghost use Rattle.types.specs.Answers.{number_of, refused_with, run_meaning};
-ghost use Rattle.rules.specs.Calls.{check_of, place_of, groups_of, groups_leave, groups_ordered_of, groups_ordered_leave, run_of, run_floats_of};
+ghost use Rattle.rules.specs.Calls.{check_of, place_of, groups_of, groups_leave, groups_ordered_of, groups_ordered_leave, run_of};
 ghost use Rattle.records.specs.Writing.{write_of, write_leaves};
 ghost use Rattle.records.specs.Forms.{records_given};
-ghost use Rattle.records.specs.RoundTrip.{last_step};
 ghost use Rattle.records.specs.Reading.{read_of, read_leaves_order, read_leaves_steps};
 ghost use Rattle.records.specs.PlanAnswer.{steps_planned};
 ghost use Rattle.placements.specs.PlaceAll.{place_all_of, placed_before, place_all_leaves};
 ghost use Rattle.marshal.specs.Structs.{sharding_in};
-ghost use Rattle.capi.specs.Boundary.{refusal_code, Coded, check_reply, ran_reply, place_reply, checked_reply, checked_rank, ran_numbers, placed_reply, written_reply, opened_reply, planned_reply, read_reply, made_reply, placed_all_reply};
-ghost use Rattle.checking.specs.Promises.{BeginPromise, PushPromise, EndPromise};
-ghost use Rattle.mirror.specs.Mirror.{checking_reply, checking_in, Mirrored};
-ghost use Rattle.capi.specs.Pieces.{ended_reply};
+ghost use Rattle.capi.specs.Boundary.{refusal_code, check_reply, ran_reply, place_reply, checked_reply, placed_reply, written_reply, opened_reply, planned_reply, read_reply, made_reply, placed_all_reply};
 
 use ishkrela::{
     Axis, CheckOutcome, Checked, Device, Dim, GroupsOutcome, Opened, PlaceAllOutcome, PlaceOutcome,
-    Placed, PlanOutcome, Ran, ReadCounts, ReadOutcome, Refusal, RunOutcome, Steps, Totals,
-    WriteOutcome,
+    Placed, PlanOutcome, ReadCounts, ReadOutcome, Refusal, RunOutcome, Steps, Totals, WriteOutcome,
 };
 use marshal::{
     ShardingReply, StepReply, no_sharding, no_step, sharding_in, sharding_reply, step_reply,
 };
-use mirror::{CheckingReply, checking_in, checking_reply};
 use reasons::number_of;
 
 // C's ishkrela_checked: the numbers that stand for the check's answer.
 #[repr(C)]
-#[derive(Drop)]
+#[derive(Clone, Copy)]
 pub struct CheckReply {
     pub refusal: u32,
     pub room: u32,
@@ -41,17 +37,9 @@ pub struct CheckReply {
     pub moved: u64,
 }
 
-// C's ishkrela_ended: the state of a check in pieces after its end, and the check's answer.
-#[repr(C)]
-#[derive(Drop)]
-pub struct EndReply {
-    pub state: CheckingReply,
-    pub answer: CheckReply,
-}
-
 // C's ishkrela_ran: the refusal, and the words that the run moved between devices.
 #[repr(C)]
-#[derive(Drop)]
+#[derive(Clone, Copy)]
 pub struct RunReply {
     pub refusal: u32,
     pub moved: u64,
@@ -59,7 +47,7 @@ pub struct RunReply {
 
 // C's ishkrela_placed: the numbers that stand for the placement's answer.
 #[repr(C)]
-#[derive(Drop)]
+#[derive(Clone, Copy)]
 pub struct PlaceReply {
     pub refusal: u32,
     pub rank: u16,
@@ -70,7 +58,7 @@ pub struct PlaceReply {
 
 // C's ishkrela_placed_all: the numbers that stand for the answer of the placement of a list of devices.
 #[repr(C)]
-#[derive(Drop)]
+#[derive(Clone, Copy)]
 pub struct PlaceAllReply {
     pub refusal: u32,
     pub place: usize,
@@ -78,7 +66,7 @@ pub struct PlaceAllReply {
 
 // C's ishkrela_written: the numbers that stand for the writer's answer.
 #[repr(C)]
-#[derive(Drop)]
+#[derive(Clone, Copy)]
 pub struct WriteReply {
     pub refusal: u32,
     pub bytes: usize,
@@ -86,7 +74,7 @@ pub struct WriteReply {
 
 // C's ishkrela_opened: the numbers that stand for the reading call's answer.
 #[repr(C)]
-#[derive(Drop)]
+#[derive(Clone, Copy)]
 pub struct ReadReply {
     pub refusal: u32,
     pub n: u16,
@@ -100,7 +88,7 @@ pub struct ReadReply {
 
 // C's ishkrela_planned: the numbers that stand for the planner's answer.
 #[repr(C)]
-#[derive(Drop)]
+#[derive(Clone, Copy)]
 pub struct PlanReply {
     pub refusal: u32,
     pub count: u32,
@@ -109,7 +97,6 @@ pub struct PlanReply {
 
 // The refusal as one number.
 fn code_of(refusal: Refusal) -> u32
-    requires { refusal.step ≤ last_step }
     ensures { result ≡ number_of refusal.reason + 256 * refusal.step }
 {
     let reason = refusal.reason;
@@ -118,7 +105,6 @@ fn code_of(refusal: Refusal) -> u32
 }
 
 fn check_refused(refusal: Refusal) -> CheckReply
-    requires { refusal.step ≤ last_step }
     ensures { result ≡ check_reply (refused_with refusal) }
 {
     let sharding = no_sharding();
@@ -152,76 +138,20 @@ fn check_passed(totals: Totals, checked: Checked) -> CheckReply
     }
 }
 
-// The last step that stands beside a refusal number in 32 bits.
-const LAST_STEP: usize = 16777215;
-
-// A step past the last counts as the last.
-fn step_held(step: usize) -> usize
-    ensures { result ≡ min step last_step }
-{
-    if LAST_STEP < step { LAST_STEP } else { step }
-}
-
-// The check's answer in numbers.
-fn check_reply(checked: Checked) -> CheckReply
-    requires { checked_rank checked.outcome ≤ most_dims }
-    ensures { result ≡ checked_reply checked.outcome checked }
-{
-    let outcome = checked.outcome;
-    match outcome {
-        CheckOutcome::Passed(totals) => check_passed(totals, checked),
-        CheckOutcome::Refused(refusal) => {
-            let reason = refusal.reason;
-            let step = step_held(refusal.step);
-            check_refused(Refusal { reason, step })
-        }
-    }
-}
-
 // The check of a plan file.
 #[unsafe(no_mangle)]
 pub extern "C" fn ishkrela_check(file: &[u8]) -> CheckReply
     ensures { result ≡ check_reply (check_of file.now) }
 {
     let checked = ishkrela::check(file);
-    check_reply(checked)
-}
-
-// The check of a file that comes in pieces: the state before the first byte.
-#[unsafe(no_mangle)]
-pub extern "C" fn ishkrela_check_begin() -> CheckingReply
-    ensures { Mirrored BeginPromise checking_reply result }
-{
-    let state = ishkrela::check_begin();
-    checking_reply(state)
-}
-
-// The state with one piece more.
-#[unsafe(no_mangle)]
-pub extern "C" fn ishkrela_check_push(state: CheckingReply, piece: &[u8]) -> CheckingReply
-    ensures { Mirrored (PushPromise (checking_in state) piece.now) checking_reply result }
-{
-    let held = checking_in(state);
-    let next = ishkrela::check_push(held, piece);
-    checking_reply(next)
-}
-
-// The check's answer, and the state after the end.
-#[unsafe(no_mangle)]
-pub extern "C" fn ishkrela_check_end(state: CheckingReply) -> EndReply
-    ensures { Mirrored (EndPromise (checking_in state)) ended_reply result }
-{
-    let held = checking_in(state);
-    let ended = ishkrela::check_end(held);
-    let after = ended.state;
-    let checked = ended.answer;
-    let state = checking_reply(after);
-    let answer = check_reply(checked);
-    EndReply { state, answer }
+    let outcome = checked.outcome;
+    match outcome {
+        CheckOutcome::Passed(totals) => check_passed(totals, checked),
+        CheckOutcome::Refused(refusal) => check_refused(refusal),
+    }
 }
 
 fn place_refused(refusal: Refusal) -> PlaceReply
-    requires { refusal.step ≤ last_step }
     ensures { result ≡ place_reply (refused_with refusal) }
 {
     let sharding = no_sharding();
@@ -317,19 +247,13 @@ pub extern "C" fn ishkrela_groups_ordered(
     }
 }
 
-// A run's answer in numbers.
-fn run_reply(ran: Ran) -> RunReply
-    requires { Coded (run_meaning ran.outcome) }
-    ensures { result ≡ ran_numbers ran }
+// The outcome of a run as one number, 0 where it finished.
+fn run_code(outcome: RunOutcome) -> u32
+    ensures { result ≡ refusal_code (run_meaning outcome) }
 {
-    let outcome = ran.outcome;
-    let moved = ran.moved;
     match outcome {
-        RunOutcome::Finished => RunReply { refusal: 0, moved },
-        RunOutcome::Refused(refusal) => RunReply {
-            refusal: code_of(refusal),
-            moved,
-        },
+        RunOutcome::Finished => 0,
+        RunOutcome::Refused(refusal) => code_of(refusal),
     }
 }
 
@@ -341,18 +265,11 @@ pub extern "C" fn ishkrela_run(file: &[u8], work: &mut [u32], spare: &mut [u32])
     ensures clears { spare.new ≡ (run_of file.now work.old spare.old).spare }
 {
     let ran = ishkrela::run(file, work, spare);
-    run_reply(ran)
-}
-
-// The run of a plan on a table of floats.
-#[unsafe(no_mangle)]
-pub extern "C" fn ishkrela_run_f32(file: &[u8], work: &mut [f32], spare: &mut [f32]) -> RunReply
-    ensures answers { result ≡ ran_reply (run_floats_of file.now work.old spare.old) }
-    ensures leaves { work.new ≡ (run_floats_of file.now work.old spare.old).work }
-    ensures clears { spare.new ≡ (run_floats_of file.now work.old spare.old).spare }
-{
-    let ran = ishkrela::run_f32(file, work, spare);
-    run_reply(ran)
+    let outcome = ran.outcome;
+    RunReply {
+        refusal: run_code(outcome),
+        moved: ran.moved,
+    }
 }
 
 // The write of a plan file from records.
@@ -380,7 +297,6 @@ pub extern "C" fn ishkrela_write<'a>(
 }
 
 fn read_refused(refusal: Refusal) -> ReadReply
-    requires { refusal.step ≤ last_step }
     ensures { result ≡ opened_reply (refused_with refusal) }
 {
     let start = no_sharding();
@@ -431,7 +347,6 @@ pub extern "C" fn ishkrela_read(file: &[u8], order: &mut [u16], steps: &mut [u8]
 }
 
 fn plan_refused(refusal: Refusal) -> PlanReply
-    requires { refusal.step ≤ last_step }
     ensures { result ≡ planned_reply (refused_with refusal) }
 {
     let none = no_step();

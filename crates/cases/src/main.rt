@@ -1,5 +1,7 @@
 // Many cases in one run, for tests: standard input has each as the byte that names its call and what that call takes.
 // Each call's module says what it takes and what is printed of it. tools/pack writes the input and what is expected.
+#![tactic(auto)]
+
 mod check;
 mod input;
 mod listing;

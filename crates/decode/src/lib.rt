@@ -1,5 +1,7 @@
 // The reading call: the records of an accepted file, as the writer takes them. What it answers and leaves is defined in records/specs/Reading.antt, the
 // bytes of a record in records/specs/Forms.antt.
+#![tactic(auto)]
+
 ghost use Rattle.std.specs.Prelude.{◌≡◌, [], ◌∷◌, ◌++◌, map, ◌+◌, ◌*◌, ◌≤◌, length, get_or, take, drop};
 ghost use Rattle.rules.specs.Lists.{tab, pick, flat};
 ghost use Rattle.rules.specs.Limits.{most_axes, most_devices, most_dims};

@@ -1,5 +1,7 @@
 // The set-up of a step's digits: the strides of the devices, and the digits of a group's axes and of all devices.
 // Digits are written from the end of a slice to its front. specs/Digits.antt says what they are.
+#![tactic(auto)]
+
 ghost use Rattle.std.specs.Prelude.{◌≡◌, ◌-◌, ◌*◌, ◌≤◌, ◌++◌, length, take, drop};
 ghost use Rattle.rules.specs.Lists.{product};
 ghost use Rattle.rules.specs.Mesh.{span};

@@ -1,5 +1,7 @@
 // Dimension by dimension: the tests and changes of one axis list for each dimension, and shard sizes. One loop over the dimensions each.
 // At the end, the arrays of an answer, with nothing past the rank and 0 in every place that is not used.
+#![tactic(auto)]
+
 ghost use Rattle.std.specs.Prelude.{◌≡◌, [], ◌++◌, ◌/◌, ◌%◌, ◌≤◌, ◌<◌, eqb, length, get_or, take, drop};
 ghost use Rattle.rules.specs.Lists.{each, both, flat, product, ascending as ascending_of};
 ghost use Rattle.rules.specs.Limits.{most_axes, most_dims};

@@ -24,12 +24,12 @@ use Rattle.laws.proofs.Lists.{T_and, getD-tab, both-length}
 use Rattle.laws.proofs.Judging.{need-inv, then-inv, bind_inv}
 use Rattle.laws.proofs.Accepted.{sizes-facts}
 use Rattle.records.specs.Records.{Given, known, unknown, Records, outermost, steps_bytes}
-use Rattle.records.specs.Writing.{judge_sharding, judge_order, judge_opening, judge_records}
+use Rattle.records.specs.Writing.{judge_sharding, judge_order, judge_opening, step_numbered, judge_records}
 use Rattle.records.specs.Forms.{list_given, dims_given, record_bytes, step_record, given_kind, given_at, record_count, steps_given, records_given}
 use Rattle.records.specs.RoundTrip.{Shorts, Ranked, AllRanked, ShortGiven, AllShort, Proper}
 use Rattle.records.proofs.Places.{from_all}
 use Rattle.records.proofs.Given.{all-given}
-use Rattle.records.proofs.Numbers.{outermost-few}
+use Rattle.records.proofs.Numbers.{numbered-on, outermost-few}
 use Rattle.records.proofs.Readback.{order-passed}
 use Rattle.records.proofs.Short.{counts-short, outermost-short}
 use Rattle.records.proofs.Accepting.{sharding-facts}
@@ -124,8 +124,8 @@ unfolding judge_records
 accepted-encodable mesh order sizes start bytes p e =
     let r : Records = records_given mesh order sizes start bytes in
     let w = then-inv (judge_opening r) _ p e in
-    let ts = bind_inv (outermost_at every_kind mesh sizes (steps_bytes r.steps) 0 (outermost r.steps) 1 0 r.start) _ p w.1 in
-    let taken = ts.1 in
+    let ts = bind_inv (step_numbered (outermost_at every_kind mesh sizes (steps_bytes r.steps) 0 (outermost r.steps) 1 0 r.start)) _ p w.1 in
+    let taken = numbered-on (outermost_at every_kind mesh sizes (steps_bytes r.steps) 0 (outermost r.steps) 1 0 r.start) ts.1 in
     let o : Opened r = opened r w.0.1 in
     let s = sharding-facts mesh sizes r.start o.sharding in
     let others = counts-short (length mesh) (r.start.unreduced ∷ r.start.replicated ∷ []) o.axes s.others in

@@ -108,10 +108,10 @@ module _ (mesh order sizes : List ℕ) (start : code.Sharding) (bytes : List ℕ
   first_is {e} {first} p q =
       omega (arith, q, front_length e mesh order sizes given, ap (λ (k : ℕ). length (sharding_bytes k given)) p)
 
-  pub total-is : {first total : ℕ} → first ≡ steps_start all → total ≡ first + length (steps_bytes (steps_given (length sizes) bytes))
+  pub total_is : {first total : ℕ} → first ≡ steps_start all → total ≡ first + length (steps_bytes (steps_given (length sizes) bytes))
       → total ≡ file_length all
   unfolding file_length
-  total-is p q = omega (arith, p, q)
+  total_is p q = omega (arith, p, q)
 
 -- ---- the header, stored last
 

@@ -6,7 +6,8 @@ use Rattle.rules.specs.Limits.{most_axes, most_devices, most_dims, most_steps, l
 use Rattle.rules.specs.Sharding.{Sharding}
 use Rattle.types.specs.declared.Sharding as code
 use Rattle.records.specs.Records.{u16s_bytes, sharding_bytes, outermost, file_length}
-use Rattle.records.specs.RoundTrip.{ShortSharding, ShortGiven, most_records}
+use Rattle.records.specs.Writing.{most_records}
+use Rattle.records.specs.RoundTrip.{ShortSharding, ShortGiven}
 use Rattle.records.specs.Forms.{sharding_given, record_bytes, record_count, given_at, steps_given, records_given}
 
 -- ---- what is left

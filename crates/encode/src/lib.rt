@@ -1,11 +1,14 @@
 // The bytes of a plan file, written from the arguments of the writer's call. A byte past the end of the buffer is left out, so that a buffer with no
 // place measures. What is written is defined in records/specs/Records.antt, what the arguments stand for in records/specs/Forms.antt.
+#![tactic(auto)]
+
 ghost use Rattle.std.specs.Prelude.{◌≡◌, [], ◌∷◌, ◌++◌, ℕ, ◌+◌, ◌*◌, ◌≤◌, ◌<◌, length, drop};
 ghost use Rattle.rules.specs.Lists.{pick};
 ghost use Rattle.rules.specs.Limits.{most_axes, most_devices, most_dims, most_steps, least_bytes, most_bytes};
 ghost use Rattle.rules.specs.PlanFile.{some};
 ghost use Rattle.types.specs.Types.{axes_of};
 ghost use Rattle.records.specs.Records.{u16_bytes, u16s_bytes, list_bytes, lists_bytes, replicated_bytes, sharding_bytes, inner_of, outermost, given_bytes, steps_bytes, file_length, file_of};
+ghost use Rattle.records.specs.Writing.{most_records};
 ghost use Rattle.records.specs.RoundTrip.{ShortLists, ShortSharding, ShortGiven};
 ghost use Rattle.records.specs.Forms.{list_given, dims_given, sharding_given, record_bytes, axis_at, list_record, step_record, given_kind, given_at, record_count, steps_given, records_given};
 ghost use Rattle.encode.specs.Putting.{Put, farthest, ShortSteps, front_bytes, header_of, Encodable, Writable, outermost_one, still_after};
@@ -14,7 +17,7 @@ use reader::kind_of;
 use types::{Axis, AxisList, Dim, DimLists, Kind, PlanFile, Sharding, Step};
 
 // A step record, by where it begins in the bytes of the records.
-#[derive(Drop)]
+#[derive(Clone, Copy)]
 pub struct StepRecord(pub usize);
 
 impl StepRecord {
@@ -24,6 +27,15 @@ impl StepRecord {
         ensures { result ≡ record_bytes }
     {
         StepRecord::BYTES
+    }
+
+    // The most records that have a number: a step number has 16 bits.
+    pub const MOST: usize = 65535;
+
+    pub fn most() -> usize
+        ensures { result ≡ most_records }
+    {
+        StepRecord::MOST
     }
 }
 

@@ -2,7 +2,7 @@
 use Prim.Native.Nat.{ℕ, zero, suc, ◌+◌, ◌≤◌, ◌<◌, min}
 use mathlib.Core.Path.{◌≡◌, refl, sym, ap, ap₂, ◌∙◌}
 use mathlib.Core.Logic.{⊎_elim}
-use mathlib.Core.Bool.{Bool}
+use mathlib.Core.Bool.{Bool, true, false}
 use mathlib.Core.List.{List, [], ◌∷◌, map}
 use native.Mathlib.Omega.{arith}
 use borrow.Author.Tests.{le-leb, lt-leb}
@@ -26,7 +26,7 @@ use Rattle.start.specs.Start.{meaning}
 use Rattle.start.specs.declared.Verdict.{Verdict}
 use Rattle.start.specs.declared.Verdict.TheVariants as verdict
 use Rattle.start.proofs.Verdicts.{stops, goes_on}
-use Rattle.records.specs.Writing.{judge_counts, judge_sharding}
+use Rattle.records.specs.Writing.{judge_counts, judge_sharding, step_numbered}
 use Rattle.records.specs.Forms.{list_given, dims_given, sharding_given}
 
 -- ---- one list
@@ -65,6 +65,16 @@ counts-one n l = go (need (leb (length l) n) 8)
     go : (j : Judged (Unit {0})) → ◌>>◌ j (accept tt) ≡ j
     go (accept u) = refl
     go (refuse a b) = refl
+
+-- 8 has no step number
+pub counts-numbered : (n : ℕ) (ls : List (List ℕ)) → step_numbered (judge_counts n ls) ≡ judge_counts n ls
+unfolding judge_counts
+counts-numbered n [] = refl
+counts-numbered n (l ∷ ls) = go (leb (length l) n) (counts-numbered n ls)
+  where
+    go : (b : Bool) {j : Judged (Unit {0})} → step_numbered j ≡ j → step_numbered (◌>>◌ (need b 8) j) ≡ ◌>>◌ (need b 8) j
+    go true e = e
+    go false e = refl
 
 pub counts-two : (n : ℕ) (l m : List ℕ) → judge_counts n (l ∷ m ∷ []) ≡ ◌>>◌ (need (leb (length l) n) 8) (need (leb (length m) n) 8)
 unfolding judge_counts

@@ -13,7 +13,7 @@ use Rattle.rules.specs.PlanFile.{positive_at, is_repeat}
 use Rattle.blocks.specs.Blocks.{head_at}
 use Rattle.blocks.specs.declared.RepeatRead.{RepeatRead}
 use Rattle.blocks.specs.declared.RepeatRead.TheVariants as read
-use Rattle.blocks.proofs.Heads.{count-stops, number-stops, too-deep, head_is}
+use Rattle.blocks.proofs.Heads.{count-stops, number-stops, too-deep, head-is}
 use Rattle.records.specs.Records.{Given, steps_bytes}
 use Rattle.records.specs.Forms.{record_bytes, steps_given}
 use Rattle.records.proofs.Records.{read-repeat}
@@ -65,4 +65,4 @@ module _ (steps : List ℕ) (i : ℕ) (e : repeatHere steps i ≡ true) (rank de
     nests-too-deep n z = too-deep depth (i + 1) (steps_bytes gs) (place_of gs i + 1) (first.1 c) (second.1 n) z
 
     pub head-given : number ≢ 0 → depth ≢ 0 → head_at depth (i + 1) (steps_bytes gs) (place_of gs i + 1) ≡ accept (record { count = count; number = number })
-    head-given n z = head_is depth (i + 1) (steps_bytes gs) (place_of gs i + 1) (first.1 c) (second.1 n) z
+    head-given n z = head-is depth (i + 1) (steps_bytes gs) (place_of gs i + 1) (first.1 c) (second.1 n) z

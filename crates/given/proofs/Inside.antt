@@ -24,6 +24,7 @@ use Rattle.blocks.proofs.Plain as blocks-plain
 use Rattle.blocks.proofs.Inner.{Inner, inner_start, inner-stops, inner-done, inner-step, runs_few}
 use Rattle.blocks.proofs.Items.{inner_steps, by-inner, head-halts, inner-halts}
 use Rattle.records.specs.Records.{Given, steps_bytes}
+use Rattle.records.specs.Writing.{step_numbered}
 use Rattle.records.specs.RoundTrip.{AllRanked}
 use Rattle.given.specs.Given.{place_of, Summary, summaryOf, summarized, RecordsTell, Closing, closed}
 use Rattle.given.specs.declared.RecordsJudged.{RecordsJudged}
@@ -51,17 +52,20 @@ goes_on : {A : Type 0} {none value : A} {x : Next} {k : ℕ} {j : Judged (Read A
 goes_on {none} {value} e r = record { reads = r; beside = subst (λ (y : Next). IfRefused y (value ≡ none)) (sym e) tt }
 
 module _ (k count rank : ℕ) (before : code.Sharding) (block : RecordsJudged) where
-  pub changed : same_sharding (sharding_of rank block.sharding) (sharding_of rank before) ≡ false → closed k count rank before block ≡ refuse 41 k
+  pub changed : same_sharding (sharding_of rank block.sharding) (sharding_of rank before) ≡ false → closed k count rank before block ≡ step_numbered (refuse 41 k)
   changed e = rw e refl
 
   module _ (e : same_sharding (sharding_of rank block.sharding) (sharding_of rank before) ≡ true) where
-    pub too_many : leb (count * block.runs) most_run ≡ false → closed k count rank before block ≡ refuse 43 k
+    pub too_many : leb (count * block.runs) most_run ≡ false → closed k count rank before block ≡ step_numbered (refuse 43 k)
     too_many f = rw (e, f) refl
 
     pub is-closed : Closing block rank → leb (count * block.runs) most_run ≡ true
         → RecordsTell rank (sharding_of rank before) (closed k count rank before block)
         (record { next = block.next; runs = count * block.runs; sharding = block.sharding })
-    is-closed c f = goes_on c.goes_on.1 (sym (rw (e, f) refl))
+    is-closed c f =
+        let after : Summary = record { runs = count * block.runs; sharding = sharding_of rank block.sharding } in
+        let q = c.goes_on.1 in
+        goes_on q (sym (rw (e, f) (ap (λ (x : Next). step_numbered (reading x after)) q ∙ sym (ap (λ (x : Next). reading x after) q))))
 
 -- ---- the loop
 

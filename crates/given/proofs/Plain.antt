@@ -18,14 +18,23 @@ use Rattle.types.specs.Types.{of_kind, step_of, kind_from}
 use Rattle.types.specs.declared.Kind.{Kind}
 use Rattle.types.specs.declared.Kind.TheVariants.{AllSlice, AllGather, AllReduce, AllToAll, ReduceScatter, Unknown}
 use Rattle.types.specs.declared.Step.{Step}
+use Rattle.types.specs.Answers.{refused_with}
+use Rattle.types.specs.declared.Refusal.{Refusal}
 use Rattle.laws.proofs.Lists.{T_and}
 use Rattle.records.specs.Records.{Given, known, steps_bytes}
+use Rattle.records.specs.Writing.{step_numbered}
 use Rattle.records.specs.Forms.{list_given, dims_given, record_bytes, record_count, step_record, given_kind, given_at, steps_given}
 use Rattle.records.specs.RoundTrip.{Ranked, AllRanked}
 use Rattle.records.proofs.Records.{read_none, read_plain, read-unknown}
+use Rattle.records.proofs.Numbers.{of-any, numbered-stops, renumbered, step-renumbered}
 use Rattle.given.specs.Given.{judgeForm, repeatHere, place_of, summarized}
 use Rattle.given.proofs.Counts.{list-fits, lists-fit, counts-inv, dims-length}
 use Rattle.encode.proofs.Counting.{record-here, record-none}
+
+-- ---- the refusal of a record
+
+pub at-record : {A : Type 0} (x : Refusal) (n k : ℕ) → refused_with {A = Unit {0}} x ≡ step_numbered (refuse n k) → step_numbered {A = A} (refuse n k) ≡ refused_with x
+at-record x n k e = numbered-stops {A = Unit {0}} (refuse n k) (refuse n k) (λ m i q. of-any q) (sym e)
 
 -- ---- what a record gives
 
@@ -207,6 +216,10 @@ module _ (mesh sizes : List ℕ) (rank : ℕ) (rank_is : length sizes ≡ rank) 
             (step_fits n (i + 1) rank (kind_from (kind_of byte)) t n-few (sym (ap (λ (m : ℕ). judgeForm m (i + 1) (given_kind (kind_from (kind_of byte)) rank t)) n_is) ∙ form-is q)
             ∙ sym (ap (λ (z : Step). step_of rank z) u-is)) ∙ o
 
+        -- judged under no number
+        as-numbered : {j : Judged Sharding} → judge_step mesh sizes 0 (step_of rank u) s ≡ j → judge_step mesh sizes (i + 1) (step_of rank u) s ≡ renumbered (i + 1) j
+        as-numbered o = step-renumbered mesh sizes (i + 1) (step_of rank u) s ∙ ap (renumbered (i + 1)) o
+
         then-taken : {j : Judged Sharding} → judge_step mesh sizes (i + 1) (step_of rank u) s ≡ j
             → plain_at mesh sizes (steps_bytes gs) (i + 1) (place_of gs i) s
             ≡ ◌>>=◌ j (λ after. accept (record {
@@ -224,11 +237,11 @@ module _ (mesh sizes : List ℕ) (rank : ℕ) (rank_is : length sizes ≡ rank) 
               next = place_of gs (i + 1);
             }))) (judged-as o)
 
-        pub step-stops : {a b : ℕ} → judge_step mesh sizes (i + 1) (step_of rank u) s ≡ refuse a b
-            → summarized i (plain_at mesh sizes (steps_bytes gs) (i + 1) (place_of gs i) s) ≡ refuse a b
-        step-stops o = ap (summarized i) (then-taken o)
+        pub step-stops : {a b : ℕ} → judge_step mesh sizes 0 (step_of rank u) s ≡ refuse a b
+            → summarized i (plain_at mesh sizes (steps_bytes gs) (i + 1) (place_of gs i) s) ≡ refuse a (i + 1)
+        step-stops o = ap (summarized i) (then-taken (as-numbered o))
 
-        pub plain-is : {r : Sharding} → judge_step mesh sizes (i + 1) (step_of rank u) s ≡ accept r
+        pub plain-is : {r : Sharding} → judge_step mesh sizes 0 (step_of rank u) s ≡ accept r
             → summarized i (plain_at mesh sizes (steps_bytes gs) (i + 1) (place_of gs i) s)
             ≡ accept (record { value = record { runs = 1; sharding = r }; next = i + 1 })
-        plain-is o = ap (summarized i) (then-taken o)
+        plain-is o = ap (summarized i) (then-taken (as-numbered o))

@@ -1,10 +1,12 @@
 -- The whole judgement in its parts (`in_parts`), and what the parts that passed give to the later ones. Assumes nothing.
 use Prim.Native.Nat.{ℕ, ◌≤◌}
 use mathlib.Core.Path.{◌≡◌, refl, sym, ap, ◌∙◌, subst}
+use mathlib.Core.Bool.{Bool, true, false}
 use mathlib.Core.List.{List, [], ◌∷◌}
 use native.Mathlib.Omega.{arith}
 use lib.ListN.{length}
 use lib.Dec.{leb, leb→le}
+use Rattle.rules.specs.Lists.{pick}
 use Rattle.rules.specs.Limits.{most_axes, most_dims, most_devices, most_words, most_steps, every_kind}
 use Rattle.rules.specs.Mesh.{devices, OnMesh}
 use Rattle.rules.specs.Refusals.{Judged, accept, refuse, ◌>>=◌, ◌>>◌, need}
@@ -18,7 +20,7 @@ use Rattle.laws.proofs.Lists.{T_and}
 use Rattle.laws.proofs.Judging.{need-inv, then-inv}
 use Rattle.laws.proofs.Accepted.{SizesFacts, sizes-facts, start-sharding}
 use Rattle.records.specs.Records.{outermost, steps_bytes}
-use Rattle.records.specs.Writing.{judge_counts, judge_sharding, judge_order, judge_opening, judge_records}
+use Rattle.records.specs.Writing.{judge_counts, judge_sharding, judge_order, judge_opening, most_records, step_numbered, judge_records}
 use Rattle.records.specs.Forms.{list_given, dims_given, sharding_given, steps_given, records_given}
 use Rattle.given.specs.Given.{judgeLimits, meshFrom, tableFrom, Shaped, verdictOf, judgeShape, outermostGiven, judgeRest}
 use Rattle.given.proofs.Sizes.{mesh_is, table_is}
@@ -94,12 +96,20 @@ module _ (mesh sizes : List ℕ) (n rank : ℕ) (s : code.Sharding) (n_is : leng
 
   -- then the records
   module _ (steps : List ℕ) (count : ℕ) where
-    pub records-decide : judgeRest mesh sizes rank s steps count ≡ outermostGiven mesh sizes rank steps count (sharding_of rank s)
+    pub records-decide : judgeRest mesh sizes rank s steps count ≡ step_numbered (outermostGiven mesh sizes rank steps count (sharding_of rank s))
     records-decide =
-        ap (λ (j : Judged (Unit {0})). ◌>>◌ j (outermostGiven mesh sizes rank steps count (sharding_given rank s))) e
-        ∙ ap (λ (s : Sharding). outermostGiven mesh sizes rank steps count s) is-sharding.0
+        ap (λ (j : Judged (Unit {0})). ◌>>◌ j (step_numbered (outermostGiven mesh sizes rank steps count (sharding_given rank s)))) e
+        ∙ ap (λ (s : Sharding). step_numbered (outermostGiven mesh sizes rank steps count s)) is-sharding.0
 
 -- ---- the parts
+
+numbered-verdict : {A : Type 0} (x : Judged A) → verdictOf (step_numbered x) ≡ step_numbered (verdictOf x)
+numbered-verdict (accept a) = refl
+numbered-verdict {A} (refuse n k) = go (leb k most_records)
+  where
+    go : (b : Bool) → verdictOf {A = A} (pick b (refuse n k) (refuse 2 0)) ≡ pick b (refuse n k) (refuse 2 0)
+    go true = refl
+    go false = refl
 
 regrouped : {A B : Type 0} (a b c d e f g : Judged (Unit {0})) (x : Judged A) (k : A → B)
     → verdictOf (◌>>◌ (◌>>◌ a (◌>>◌ b (◌>>◌ c (◌>>◌ d (◌>>◌ e (◌>>◌ f g)))))) (◌>>=◌ x (λ o. accept (k o))))
@@ -123,9 +133,11 @@ module _ (mesh order sizes : List ℕ) (start : code.Sharding) (steps : List ℕ
       outermost_at every_kind mesh sizes (steps_bytes (steps_given (length sizes) steps)) 0 (outermost (steps_given (length sizes) steps)) 1 0 (sharding_given (length sizes) start) in
       regrouped (need (axes_allowed (length mesh)) 5) (need (rank_allowed (length sizes)) 5) (need (leb (outermost (steps_given (length sizes) steps)) most_steps) 5)
       (judge_sizes most_devices 10 11 1 mesh) (judge_order (devices mesh) order) (judge_sizes most_words 12 13 1 sizes)
-      (judge_sharding mesh sizes (sharding_given (length sizes) start)) read _
+      (judge_sharding mesh sizes (sharding_given (length sizes) start)) (step_numbered read) _
+      ∙ (λ i. ◌>>◌ (judgeShape mesh order sizes (outermost (steps_given (length sizes) steps)))
+      (◌>>◌ (judge_sharding mesh sizes (sharding_given (length sizes) start)) (numbered-verdict read i)))
       ∙ (λ i. ◌>>◌ (judgeShape mesh order sizes (sym c i)) (◌>>◌ (judge_sharding mesh sizes (sharding_given (length sizes) start))
-      (outermostGiven mesh sizes (length sizes) steps (sym c i) (sharding_given (length sizes) start))))
+      (step_numbered (outermostGiven mesh sizes (length sizes) steps (sym c i) (sharding_given (length sizes) start)))))
 
   -- the rest, of the code's mesh and table
   pub rest_of : judgeShape mesh order sizes count ≡ accept tt → (m : Mesh) (t : Table) → m ≡ meshFrom mesh → t ≡ tableFrom sizes

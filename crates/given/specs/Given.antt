@@ -17,7 +17,7 @@ use Rattle.blocks.specs.Blocks.{inner_at}
 use Rattle.blocks.specs.declared.RepeatRead.{RepeatRead}
 use Rattle.blocks.specs.declared.RepeatRead.TheVariants as read
 use Rattle.records.specs.Records.{Given, known, unknown, steps_bytes}
-use Rattle.records.specs.Writing.{judge_counts, judge_sharding, judge_order}
+use Rattle.records.specs.Writing.{judge_counts, judge_sharding, judge_order, step_numbered}
 use Rattle.records.specs.Forms.{sharding_given, record_bytes, record_count, steps_given}
 use Rattle.given.specs.declared.RecordsJudged.{RecordsJudged}
 
@@ -95,14 +95,15 @@ summarized i (refuse a b) = refuse a b
 
 -- record i by itself: of a plain step, of a repeat with all steps inside it, and of whichever it is
 abbrev pub plainGiven : (mesh sizes : List ℕ) → (rank : ℕ) → List ℕ → ℕ → Sharding → Judged (Read Summary)
-plainGiven mesh sizes rank steps i s = summarized i (plain_at mesh sizes (bytesGiven rank steps) (i + 1) (placeGiven rank steps i) s)
+plainGiven mesh sizes rank steps i s = step_numbered (summarized i (plain_at mesh sizes (bytesGiven rank steps) (i + 1) (placeGiven rank steps i) s))
 
 abbrev pub repeatGiven : (mesh sizes : List ℕ) → (rank : ℕ) → List ℕ → (depth i : ℕ) → Sharding → Judged (Read Summary)
 repeatGiven mesh sizes rank steps depth i s =
-    summarized i (repeat_at (inner_at mesh sizes (bytesGiven rank steps) depth (i + 1)) (bytesGiven rank steps) (i + 1) (placeGiven rank steps i + 1) s)
+    step_numbered (summarized i (repeat_at (inner_at mesh sizes (bytesGiven rank steps) depth (i + 1)) (bytesGiven rank steps) (i + 1) (placeGiven rank steps i + 1) s))
 
 abbrev pub itemGiven : (mesh sizes : List ℕ) → (rank : ℕ) → List ℕ → (depth i : ℕ) → Sharding → Judged (Read Summary)
-itemGiven mesh sizes rank steps depth i s = summarized i (item_at every_kind mesh sizes (bytesGiven rank steps) depth (i + 1) (placeGiven rank steps i) s)
+itemGiven mesh sizes rank steps depth i s =
+    step_numbered (summarized i (item_at every_kind mesh sizes (bytesGiven rank steps) depth (i + 1) (placeGiven rank steps i) s))
 
 abbrev pub summary_in : ℕ → RecordsJudged → Summary
 summary_in rank r = record { runs = r.runs; sharding = sharding_of rank r.sharding }
@@ -127,10 +128,10 @@ pub record Closing (block : RecordsJudged) (rank : ℕ) : Type 0 where
 
 -- 41, then 43 for the repeat alone
 abbrev pub closed : (k count rank : ℕ) → code.Sharding → RecordsJudged → Judged (Read Summary)
-closed k count rank before block = do
+closed k count rank before block = step_numbered (do
   need_at k (same_sharding (sharding_of rank block.sharding) (sharding_of rank before)) 41
   need_at k (leb (count * block.runs) most_run) 43
-  reading block.next (record { runs = count * block.runs; sharding = sharding_of rank block.sharding })
+  reading block.next (record { runs = count * block.runs; sharding = sharding_of rank block.sharding }))
 
 -- ---- the whole
 
@@ -155,4 +156,4 @@ outermostGiven mesh sizes rank steps count s = verdictOf (outermost_at every_kin
 abbrev pub judgeRest : (mesh sizes : List ℕ) → (rank : ℕ) → code.Sharding → List ℕ → (count : ℕ) → Judged (Unit {0})
 judgeRest mesh sizes rank start steps count = do
   judge_sharding mesh sizes (sharding_given rank start)
-  outermostGiven mesh sizes rank steps count (sharding_given rank start)
+  step_numbered (outermostGiven mesh sizes rank steps count (sharding_given rank start))

@@ -1,15 +1,17 @@
 // The arguments of the writer's and the planner's calls, judged: mesh, order, table and sharding, and step records of 38 bytes each.
 // records/specs/Writing.antt is the judgement and records/specs/Forms.antt what the arguments stand for; specs/Given.antt is what the parts ask and answer.
+#![tactic(auto)]
+
 ghost use Rattle.std.specs.Prelude.{◌≡◌, true, false, [], ◌∷◌, ℕ, ◌+◌, ◌*◌, ◌≤◌, ◌<◌, length, get_or, leb, eqb};
 ghost use Rattle.rules.specs.Limits.{most_axes, most_dims, most_words};
 ghost use Rattle.rules.specs.Mesh.{devices as devices_of, OnMesh};
-ghost use Rattle.rules.specs.Refusals.{need};
+ghost use Rattle.rules.specs.Refusals.{refuse, need};
 ghost use Rattle.types.specs.Answers.{number_of, refused_with};
 ghost use Rattle.rules.specs.PlanFile.{judge_sizes};
 ghost use Rattle.types.specs.Types.{sharding_of, mesh_of, sizes_of};
 ghost use Rattle.start.specs.Start.{meaning};
 ghost use Rattle.blocks.specs.Blocks.{head_at, repeat_read};
-ghost use Rattle.records.specs.Writing.{judge_counts, judge_sharding, judge_order, judge_records};
+ghost use Rattle.records.specs.Writing.{judge_counts, judge_sharding, judge_order, step_numbered, judge_records};
 ghost use Rattle.records.specs.Forms.{list_given, dims_given, sharding_given, given_kind, records_given};
 ghost use Rattle.given.specs.Given.{judgeLimits, meshFrom, tableFrom, Shaped, judgeForm, repeatHere, FewInner, bytesGiven, placeGiven};
 ghost use Rattle.given.specs.Given.{plainGiven, repeatGiven, itemGiven, RecordsTell, Judging, Closing, closed};
@@ -191,10 +193,24 @@ pub fn is_repeat(steps: &[u8], i: usize) -> bool
     steps[StepRecord::BYTES * i] == 9
 }
 
-// The record of a plain step with number k before its step is judged: 20, then 8 over its lists.
-fn judge_form(step: Step, k: usize, rank: usize, n: usize) -> Verdict
+// The refusal of record i for this reason. A step number has 16 bits: past them 2.
+fn refusal_at(reason: Reason, i: usize) -> Refusal
+    ensures { refused_with {A = Unit {0}} result ≡ step_numbered (refuse (number_of reason) (i + 1)) }
+{
+    if StepRecord::MOST <= i {
+        return Refusal {
+            reason: Reason::FileTooLong,
+            step: 0,
+        };
+    }
+    let step = (i + 1) as u16;
+    Refusal { reason, step }
+}
+
+// Record i of a plain step before its step is judged: 20, then 8 over its lists.
+fn judge_form(step: Step, i: usize, rank: usize, n: usize) -> Verdict
     requires { (rank ≤ most_dims) × (n ≤ most_axes) }
-    ensures { meaning result ≡ judgeForm n k (given_kind step.kind rank step) }
+    ensures { meaning result ≡ step_numbered (judgeForm n (i + 1) (given_kind step.kind rank step)) }
 {
     let kind = step.kind;
     match kind {
@@ -203,12 +219,12 @@ fn judge_form(step: Step, k: usize, rank: usize, n: usize) -> Verdict
         Kind::AllReduce => judge_count(step.list, n),
         Kind::AllToAll => judge_count(step.list, n),
         Kind::ReduceScatter => judge_counts(step.lists, rank, n),
-        Kind::Unknown => refused(Reason::UnknownKind, k),
+        Kind::Unknown => Verdict::Refused(refusal_at(Reason::UnknownKind, i)),
     }
 }
 
 // Records that were judged: the next one, how many plain steps are run, and the sharding after them.
-#[derive(Drop)]
+#[derive(Clone, Copy)]
 pub struct RecordsJudged {
     pub next: Next,
     pub runs: usize,
@@ -247,20 +263,21 @@ fn judge_plain(
         };
         return RecordsJudged::refused(past, sharding);
     }
-    let k = i + 1;
     let step = step_record(steps, StepRecord::BYTES * i);
-    let form = judge_form(step, k, table.rank, mesh.n);
+    let form = judge_form(step, i, table.rank, mesh.n);
     let Verdict::Fine = form else {
         return RecordsJudged::refused(refusal_of(form), sharding);
     };
-    let after = judge_step(step, k, sharding, mesh, table);
+    // A step is judged alike under every number; the refusal gets its own.
+    let after = judge_step(step, 0, sharding, mesh, table);
     let verdict = after.verdict;
     let Verdict::Fine = verdict else {
-        return RecordsJudged::refused(refusal_of(verdict), sharding);
+        let reason = refusal_of(verdict).reason;
+        return RecordsJudged::refused(refusal_at(reason, i), sharding);
     };
     let left = after.sharding;
     RecordsJudged {
-        next: Next::At(k),
+        next: Next::At(i + 1),
         runs: 1,
         sharding: left,
     }
@@ -270,65 +287,43 @@ fn judge_plain(
 fn read_head(steps: &[u8], i: usize, depth: usize) -> RepeatRead
     requires { repeatHere steps.now i ≡ true }
     ensures by_index { (rank : ℕ) → repeat_read result
-        ≡ head_at depth (i + 1) (bytesGiven rank steps.now) (placeGiven rank steps.now i + 1) }
+        ≡ step_numbered (head_at depth (i + 1) (bytesGiven rank steps.now) (placeGiven rank steps.now i + 1)) }
     ensures few_inner { FewInner result }
 {
     let at = StepRecord::BYTES * i;
     let count = steps[at + 1];
     let number = steps[at + 2];
-    let k = i + 1;
     if count == 0 {
-        return RepeatRead::Refused(Refusal {
-            reason: Reason::RepeatOfNothing,
-            step: k,
-        });
+        return RepeatRead::Refused(refusal_at(Reason::RepeatOfNothing, i));
     }
     if number == 0 {
-        return RepeatRead::Refused(Refusal {
-            reason: Reason::RepeatOfNothing,
-            step: k,
-        });
+        return RepeatRead::Refused(refusal_at(Reason::RepeatOfNothing, i));
     }
     if depth == 0 {
-        return RepeatRead::Refused(Refusal {
-            reason: Reason::TooDeep,
-            step: k,
-        });
+        return RepeatRead::Refused(refusal_at(Reason::TooDeep, i));
     }
     RepeatRead::Of(count, number)
 }
 
-// The end of the block with number k: the sharding is the one before it, and so many rounds are not too many steps.
+// The end of the block of record i: the sharding is the one before it, and so many rounds are not too many steps.
 fn close_repeat(
-    k: usize,
+    i: usize,
     count: u8,
     block: RecordsJudged,
     before: Sharding,
     rank: usize,
 ) -> RecordsJudged
     requires { Closing block rank }
-    ensures { RecordsTell rank (sharding_of rank before) (closed k count rank before block) result }
+    ensures { RecordsTell rank (sharding_of rank before) (closed (i + 1) count rank before block) result }
 {
     let after = block.sharding;
     if !same_sharding(after, before, rank) {
-        return RecordsJudged::refused(
-            Refusal {
-                reason: Reason::ShardingChanged,
-                step: k,
-            },
-            before,
-        );
+        return RecordsJudged::refused(refusal_at(Reason::ShardingChanged, i), before);
     }
     let rounds = count as usize;
     let runs = rounds * block.runs;
     if Step::MOST_RUN < runs {
-        return RecordsJudged::refused(
-            Refusal {
-                reason: Reason::TooManyRun,
-                step: k,
-            },
-            before,
-        );
+        return RecordsJudged::refused(refusal_at(Reason::TooManyRun, i), before);
     }
     let next = block.next;
     RecordsJudged {
@@ -358,8 +353,7 @@ pub fn judge_repeat(
     };
     let number = inner as usize;
     let below = depth - 1;
-    let k = i + 1;
-    let mut place = k;
+    let mut place = i + 1;
     let mut runs: usize = 0;
     let mut after = sharding;
     let mut done: usize = 0;
@@ -379,7 +373,7 @@ pub fn judge_repeat(
         runs,
         sharding: after,
     };
-    close_repeat(k, count, block, sharding, table.rank)
+    close_repeat(i, count, block, sharding, table.rank)
 }
 
 // Record i, with all steps inside it if it is a repeat, where repeats may nest so deep.
@@ -406,7 +400,7 @@ pub fn judge_record(
 // So many outermost steps, from the first record on; 43 "after each outermost step for the plan so far".
 fn judge_outermost(steps: &[u8], count: usize, mesh: Mesh, table: Table, start: Sharding) -> Verdict
     requires { Judging steps.now 0 mesh table start }
-    ensures { meaning result ≡ outermostGiven (mesh_of mesh) (sizes_of table) table.rank steps.now count (sharding_of table.rank start) }
+    ensures { meaning result ≡ step_numbered (outermostGiven (mesh_of mesh) (sizes_of table) table.rank steps.now count (sharding_of table.rank start)) }
 {
     let depth = Step::MOST_DEPTH;
     let mut after = start;
@@ -421,7 +415,7 @@ fn judge_outermost(steps: &[u8], count: usize, mesh: Mesh, table: Table, start: 
         };
         ran = ran + item.runs;
         if Step::MOST_RUN < ran {
-            return refused(Reason::TooManyRun, place + 1);
+            return Verdict::Refused(refusal_at(Reason::TooManyRun, place));
         }
         place = end;
         after = item.sharding;

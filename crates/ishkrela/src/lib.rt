@@ -1,12 +1,11 @@
 // The library as its users see it: the calls, and the types of what they take and answer.
-// No call asks anything of its input; what each promises is in types/specs/Promises.antt, of the calls on records in
-// records/specs/Promises.antt, and of the check in pieces in checking/specs/Promises.antt.
-ghost use Rattle.types.specs.Promises.{CheckPromise, PlacePromise, GroupsPromise, GroupsOrderedPromise, RunPromise, RunFloatsPromise};
+// No call asks anything of its input; what each promises is in types/specs/Promises.antt, and of the calls on records in records/specs/Promises.antt.
+#![tactic(auto)]
+
+ghost use Rattle.types.specs.Promises.{CheckPromise, PlacePromise, GroupsPromise, GroupsOrderedPromise, RunPromise};
 ghost use Rattle.placements.specs.PlaceAll.{PlaceAllPromise};
 ghost use Rattle.records.specs.Promises.{WritePromise, ReadPromise, PlanPromise};
-ghost use Rattle.checking.specs.Promises.{BeginPromise, PushPromise, EndPromise};
 
-pub use checking::{Checking, Ended};
 pub use placements::{PlaceAllOutcome, PlacedAll};
 pub use records::{Opened, PlanOutcome, Planned, ReadCounts, ReadOutcome, Steps, WriteOutcome};
 pub use types::{
@@ -20,28 +19,6 @@ pub fn check(file: &[u8]) -> Checked
     ensures { CheckPromise file.now result }
 {
     plan::check(file)
-}
-
-// Begins a check of a file that comes in pieces: the state before its first byte.
-pub fn check_begin() -> Checking
-    ensures { BeginPromise result }
-{
-    Checking::begin()
-}
-
-// Hands the check one piece more, which may have no bytes. After the end nothing changes.
-pub fn check_push(state: Checking, piece: &[u8]) -> Checking
-    ensures { PushPromise state piece.now result }
-{
-    state.push(piece)
-}
-
-// Ends it: what the check of all bytes answers. It may be asked for again. From a state that no calls lead to the answer is free: it is refusal 1 where the
-// state is not sound, and else that of the definition byte by byte.
-pub fn check_end(state: Checking) -> Ended
-    ensures { EndPromise state result }
-{
-    state.end()
 }
 
 // Where a device's shard lies in a state: the state's sharding, its shard sizes and the device's first indexes, or the refusal.
@@ -79,13 +56,6 @@ pub fn run(file: &[u8], work: &mut [u32], spare: &mut [u32]) -> Ran
     ensures { RunPromise file.now work.old spare.old result work.new spare.new }
 {
     run::run(file, work, spare)
-}
-
-// The same for a table of floats: sums are taken in halves of each group's list, and plus zero is left in the rest of work and in all of spare.
-pub fn run_f32(file: &[u8], work: &mut [f32], spare: &mut [f32]) -> Ran
-    ensures { RunFloatsPromise file.now work.old spare.old result work.new spare.new }
-{
-    frun::run_f32(file, work, spare)
 }
 
 // Writes the file of a plan that is given as records: mesh, order of the devices (none where it has no numbers), table, start, and step records of 38 bytes

@@ -1,5 +1,7 @@
 // The judgement of a step, and the sharding after it. Order and numbers are those of Rattle.rules.specs.PlanFile; gather_off, slice_on and
 // judge_step stand for the definitions of the same names.
+#![tactic(auto)]
+
 ghost use Rattle.std.specs.Prelude.{◌≡◌, List, ℕ, ◌≤◌, take, T};
 ghost use Rattle.rules.specs.Lists.{flat};
 ghost use Rattle.rules.specs.Limits.{most_axes, most_dims};
@@ -23,13 +25,13 @@ use start::{Verdict, judge_dims, judge_list, refused};
 use types::{Axis, AxisList, Dim, DimLists, Kind, Mesh, Reason, Refusal, Sharding, Step, Table};
 
 // A verdict, and the sharding after the step where it is fine. Its lists past the rank are free, and so are the places of a list past its count.
-#[derive(Drop)]
+#[derive(Clone, Copy)]
 pub struct After {
     pub verdict: Verdict,
     pub sharding: Sharding,
 }
 
-fn refused_step(reason: Reason, k: usize, sharding: Sharding) -> After
+fn refused_step(reason: Reason, k: u16, sharding: Sharding) -> After
     ensures { (rank : ℕ) → meaning_after rank result ≡ refuse (number_of reason) k }
 {
     After {
@@ -39,7 +41,7 @@ fn refused_step(reason: Reason, k: usize, sharding: Sharding) -> After
 }
 
 // The axes of a step's one list: 21, then 22.
-fn named_list(list: AxisList, k: usize, n: usize) -> Verdict
+fn named_list(list: AxisList, k: u16, n: usize) -> Verdict
     ensures { meaning result ≡ judge_named n k (axes_of list) }
 {
     if list.len() == 0 {
@@ -52,7 +54,7 @@ fn named_list(list: AxisList, k: usize, n: usize) -> Verdict
 }
 
 // The axes of a step's lists by dimension: 21, then 22.
-fn named_dims(lists: DimLists, k: usize, rank: usize, n: usize) -> Verdict
+fn named_dims(lists: DimLists, k: u16, rank: usize, n: usize) -> Verdict
     requires { rank ≤ most_dims }
     ensures { meaning result ≡ judge_named n k (flat (take rank (dims_of lists))) }
 {
@@ -66,7 +68,7 @@ fn named_dims(lists: DimLists, k: usize, rank: usize, n: usize) -> Verdict
 }
 
 // The axes that a step names, by its kind.
-fn judge_named(step: Step, k: usize, rank: usize, n: usize) -> Verdict
+fn judge_named(step: Step, k: u16, rank: usize, n: usize) -> Verdict
     requires { rank ≤ most_dims }
     ensures { meaning result ≡ judge_named n k (step_axes (step_of rank step)) }
 {
@@ -82,7 +84,7 @@ fn judge_named(step: Step, k: usize, rank: usize, n: usize) -> Verdict
 }
 
 // An all-gather: 24 by dimension, then the lists are cut off.
-fn gather_off(lists: DimLists, k: usize, sharding: Sharding, rank: usize) -> After
+fn gather_off(lists: DimLists, k: u16, sharding: Sharding, rank: usize) -> After
     requires { rank ≤ most_dims }
     ensures { meaning_after rank result ≡ gather_off k (take rank (dims_of lists)) (sharding_of rank sharding) }
 {
@@ -98,7 +100,7 @@ fn gather_off(lists: DimLists, k: usize, sharding: Sharding, rank: usize) -> Aft
 }
 
 // A slice: 25 by dimension, of the present shard sizes, then the lists are joined.
-fn slice_on(lists: DimLists, k: usize, sharding: Sharding, mesh: Mesh, table: Table) -> After
+fn slice_on(lists: DimLists, k: u16, sharding: Sharding, mesh: Mesh, table: Table) -> After
     requires { WithinPlaces mesh table × Room (take table.rank (dims_of sharding.dims)) (take table.rank (dims_of lists)) }
     ensures { meaning_after table.rank result
         ≡ slice_on (mesh_of mesh) (sizes_of table) k (take table.rank (dims_of lists)) (sharding_of table.rank sharding) }
@@ -126,7 +128,7 @@ fn mark_named(sharding: Sharding, rank: usize, marks: &mut [bool])
 }
 
 // All-slice: 23, then the slice. The axes are below n already, so judge_dims refuses an axis that is named, and nothing else.
-fn judge_slice(lists: DimLists, k: usize, sharding: Sharding, mesh: Mesh, table: Table) -> After
+fn judge_slice(lists: DimLists, k: u16, sharding: Sharding, mesh: Mesh, table: Table) -> After
     requires { Sharded mesh table sharding × T (all_below mesh.n (flat (take table.rank (dims_of lists)))) }
     ensures { meaning_after table.rank result
         ≡ judge_kind (mesh_of mesh) (sizes_of table) k (allSlice (take table.rank (dims_of lists))) (sharding_of table.rank sharding) }
@@ -150,7 +152,7 @@ fn reduced(list: AxisList, sharding: Sharding) -> Sharding
 
 // All-reduce: 26, then 27, then the axes are replicated. The axes are below n already and increase, so judge_list refuses an axis that splits a dimension or
 // is explicitly replicated, and nothing else.
-fn judge_reduce(list: AxisList, k: usize, sharding: Sharding, rank: usize, n: usize) -> After
+fn judge_reduce(list: AxisList, k: u16, sharding: Sharding, rank: usize, n: usize) -> After
     requires { (rank ≤ most_dims) × (n ≤ most_axes) × T (all_below n (axes_of list)) }
     ensures { (mesh sizes : List ℕ) → meaning_after rank result
         ≡ judge_kind mesh sizes k (all_reduce (axes_of list)) (sharding_of rank sharding) }
@@ -192,7 +194,7 @@ fn judge_all_to_all(
     source: Dim,
     target: Dim,
     list: AxisList,
-    k: usize,
+    k: u16,
     sharding: Sharding,
     mesh: Mesh,
     table: Table,
@@ -218,7 +220,7 @@ fn judge_all_to_all(
 
 // Reduce-scatter: 23 over the whole step, then 27, then the slice of the sharding whose axes are reduced. The axes are below n already, so judge_dims
 // refuses an axis that is named twice, and nothing else.
-fn judge_scatter(lists: DimLists, k: usize, from: Sharding, mesh: Mesh, table: Table) -> After
+fn judge_scatter(lists: DimLists, k: u16, from: Sharding, mesh: Mesh, table: Table) -> After
     requires { Sharded mesh table from × T (all_below mesh.n (flat (take table.rank (dims_of lists)))) }
     ensures { meaning_after table.rank result
         ≡ judge_kind (mesh_of mesh) (sizes_of table) k (reduce_scatter (take table.rank (dims_of lists))) (sharding_of table.rank from) }
@@ -237,7 +239,7 @@ fn judge_scatter(lists: DimLists, k: usize, from: Sharding, mesh: Mesh, table: T
 }
 
 // A step whose axes are judged, by its kind.
-fn judge_kind(step: Step, k: usize, sharding: Sharding, mesh: Mesh, table: Table) -> After
+fn judge_kind(step: Step, k: u16, sharding: Sharding, mesh: Mesh, table: Table) -> After
     requires { Sharded mesh table sharding × (judge_named mesh.n k (step_axes (step_of table.rank step)) ≡ accept tt) }
     ensures { meaning_after table.rank result
         ≡ judge_kind (mesh_of mesh) (sizes_of table) k (step_of table.rank step) (sharding_of table.rank sharding) }
@@ -262,7 +264,7 @@ fn judge_kind(step: Step, k: usize, sharding: Sharding, mesh: Mesh, table: Table
 }
 
 // Step k of a plan, after the steps that left a sharding, which a refused step leaves as it was.
-pub fn judge_step(step: Step, k: usize, sharding: Sharding, mesh: Mesh, table: Table) -> After
+pub fn judge_step(step: Step, k: u16, sharding: Sharding, mesh: Mesh, table: Table) -> After
     requires { Sharded mesh table sharding }
     ensures result_value { meaning_after table.rank result
         ≡ judge_step (mesh_of mesh) (sizes_of table) k (step_of table.rank step) (sharding_of table.rank sharding) }

@@ -55,6 +55,7 @@ then-bind (accept x) a f = refl
 then-bind (refuse n k) a f = refl
 
 past : {A : Type 0} (k : ℕ) (b : Bool) (n : ℕ) {m : Judged A} → T b → ◌>>◌ (need_at k b n) m ≡ m
+past {A = A} k false n {m = m} t = elim t [ ]
 past k true n t = refl
 
 bind-at : {A B : Type 0} {m : Judged A} {a : A} (f : A → Judged B) → m ≡ accept a → ◌>>=◌ m f ≡ f a

@@ -55,6 +55,7 @@ module _ (mesh : List ℕ) where
   -- to be at the position of y is to have y's coordinates along the list
   pub member-along : (L : List ℕ) (a : ℕ) {x y : List ℕ} → Distinct L → ((b : ℕ) → In b L → b < length mesh) → Below x mesh → Below y mesh → In a L
       → get_or (member mesh L (position mesh L y) x) a 0 ≡ get_or y a 0
+  member-along [] a {x = x} {y = y} d r bx by i = elim i [ ]
   member-along (b ∷ L) a {x} {y} d r bx by i = go (ℕ_discrete a b) i (member-along L a d.1 (λ c j. r c (inr j)) bx by)
     where
       go : Dec (a ≡ b) → In a (b ∷ L) → (In a L → get_or (member mesh L (position mesh L y) x) a 0 ≡ get_or y a 0)
@@ -101,6 +102,7 @@ groups-by-position mesh L distinct of-axes x b = group_by_position mesh L distin
 module _ (mesh : List ℕ) where
   -- the devices of a group along distinct axes, by those along all but one
   span-left-out : (a : ℕ) (U : List ℕ) → In a U → Distinct U → span mesh (without U (a ∷ [])) * get_or mesh a 1 ≡ span mesh U
+  span-left-out a [] i d = elim i [ ]
   span-left-out a (b ∷ U) i d = go (ℕ_discrete a b) i (λ j. span-left-out a U j d.1)
     where
       go : Dec (a ≡ b) → In a (b ∷ U) → (In a U → span mesh (without U (a ∷ [])) * get_or mesh a 1 ≡ span mesh U)

@@ -57,6 +57,7 @@ named-inv n k L e =
 
 pub all_below-lt : (n : ℕ) (L : List ℕ) → T (all_below n L) → (a : ℕ) → In a L → a < n
 unfolding all_below
+all_below-lt n [] t a x'' = elim x'' [ ]
 all_below-lt n (b ∷ L) t a (inl e) = subst (λ z. z < n) (sym e) (ltb→lt b n (T_and (ltb b n) (all_below n L) t).0)
 all_below-lt n (b ∷ L) t a (inr i) = all_below-lt n L (T_and (ltb b n) (all_below n L) t).1 a i
 
@@ -104,6 +105,7 @@ tails-joined (d ∷ ds) (G ∷ Gs) t =
 -- 26
 increasing-low : (low : ℕ) (L : List ℕ) → T (increasing_from low L) → (a : ℕ) → In a L → low ≤ a
 unfolding increasing_from
+increasing-low low [] t a x'' = elim x'' [ ]
 increasing-low low (b ∷ L) t a (inl e) = subst (λ z. low ≤ z) (sym e) (leb→le low b (T_and (leb low b) (increasing_from (b + 1) L) t).0)
 increasing-low low (b ∷ L) t a (inr i) =
     let r : T (leb low b) × T (increasing_from (b + 1) L) = T_and (leb low b) (increasing_from (b + 1) L) t in
@@ -119,11 +121,13 @@ increasing-distinct low (b ∷ L) t =
 -- 27
 pub all_in-in : (L U : List ℕ) → T (all_in L U) → (a : ℕ) → In a L → In a U
 unfolding all_in
+all_in-in [] U t a x'' = elim x'' [ ]
 all_in-in (b ∷ L) U t a (inl e) = subst (λ z. In z U) (sym e) (mem-in b U (T_and (mem b U) (all_in L U) t).0)
 all_in-in (b ∷ L) U t a (inr i) = all_in-in L U (T_and (mem b U) (all_in L U) t).1 a i
 
 pub none_in-off : (L U : List ℕ) → T (none_in L U) → (a : ℕ) → In a L → ¬ In a U
 unfolding none_in
+none_in-off [] U t a x3 i = elim x3 [ ]
 none_in-off (b ∷ L) U t a (inl e) i = not-mem b U (T_and (not (mem b U)) (none_in L U) t).0 (subst (λ z. In z U) e i)
 none_in-off (b ∷ L) U t a (inr k) i = none_in-off L U (T_and (not (mem b U)) (none_in L U) t).1 a k i
 

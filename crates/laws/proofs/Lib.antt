@@ -7,7 +7,6 @@ pub mod Shapes
 pub mod Sizes
 pub mod Fronts
 pub mod Sums
-pub mod Halves
 pub mod Sources
 pub mod Factor
 pub mod Tables
@@ -23,8 +22,6 @@ pub mod Earlier
 pub mod Readers
 pub mod Room
 pub mod Next
-pub mod Runs
-pub mod Outside
 pub mod Whole
 pub mod Apart
 pub mod Routes

@@ -86,6 +86,7 @@ map-all {B = B} f g (a ∷ l) (h & p) = ap₂ (λ (b : B) (m : List B). b ∷ m)
 -- ---- membership
 
 pub in_left : (a : ℕ) (l m : List ℕ) → In a l → In a (l ++ m)
+in_left a [] m x' = elim x' [ ]
 in_left a (b ∷ l) m (inl e) = inl e
 in_left a (b ∷ l) m (inr i) = inr (in_left a l m i)
 
@@ -279,6 +280,7 @@ module _ (p : ℕ → Bool) where
   keep-no b U t = ap (λ (s : Bool). pick s (b ∷ keep p U) (keep p U)) (n_t→false (p b) (T_not (p b) t))
 
   pub in-keep : (c : ℕ) (U : List ℕ) → In c U → T (p c) → In c (keep p U)
+  in-keep c [] i t = elim i [ ]
   in-keep c (b ∷ U) i t =
       ⊎_elim (λ y. rw (keep-yes b U y) (⊎_map (λ e. e) (λ j. in-keep c U j t) i))
       (λ n. rw (keep-no b U n) (⊎_elim (λ e. absurd (T_not (p b) n (subst (λ z. T (p z)) e t))) (λ j. in-keep c U j t) i)) (T? (p b))

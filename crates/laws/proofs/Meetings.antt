@@ -14,7 +14,7 @@ use Rattle.rules.specs.Spread.{add_words, held_by, from}
 use Rattle.rules.specs.Refusals.{accept}
 use Rattle.rules.specs.PlanFile.{Plan, judge, judge_by, announced, announced_shape}
 use Rattle.rules.specs.Factor.{factor_after}
-use Rattle.rules.specs.Calls.{shards_after, run_of, run_of_by, shards_after_by}
+use Rattle.rules.specs.Calls.{shards_after, run_of}
 use Rattle.rules.specs.Ledger.{file_in, file_of}
 use Rattle.rules.specs.WorkedFactors.{one_word, slice_second, gather_second}
 use Rattle.rules.specs.WorkedRepeats.{times, reduce, gather}
@@ -61,7 +61,7 @@ meetable file p q e start table words len extra l =
     )
 
 meeting : Meeting
-unfolding file_in file_of judge_by announced announced_shape factor_after shards_after_by held_by members add_words
+unfolding file_in file_of judge_by announced announced_shape factor_after shards_after held_by members add_words
 meeting = record {
   plan_32 = refl;
   plan_33 = refl;
@@ -90,7 +90,7 @@ meeting = record {
     at (more {x = suc (suc a)} l none) bi = absurd (omega (arith, l))
 
 meeting-owed : MeetingOwed
-unfolding file_in judge_by announced announced_shape factor_after shards_after_by held_by members add_words
+unfolding file_in judge_by announced announced_shape factor_after shards_after held_by members add_words
 meeting-owed = record {
   plan_1 = refl;
   plan_2 = refl;
@@ -132,7 +132,7 @@ meeting-owed = record {
     sums (more {x = suc (suc a)} l none) bi = absurd (omega (arith, l))
 
 meeting-apart : MeetingApart
-unfolding file_in file_of judge_by announced announced_shape factor_after shards_after_by held_by members add_words
+unfolding file_in file_of judge_by announced announced_shape factor_after shards_after held_by members add_words
 meeting-apart = record {
   plan_1 = refl;
   plan_2 = refl;
@@ -168,7 +168,7 @@ meeting-apart = record {
     sums (more {x = suc (suc a)} l (more {x = zero} m none)) (more {x = zero} k none) = absurd (omega (arith, l))
 
 meeting-starts : MeetingStarts
-unfolding file_in judge_by announced announced_shape factor_after shards_after_by held_by members add_words
+unfolding file_in judge_by announced announced_shape factor_after shards_after held_by members add_words
 meeting-starts = record {
   plan = refl;
   one_end = record { one_mesh = refl; one_order = refl; one_size = refl; one_end = refl; one_factor = refl };
@@ -199,27 +199,27 @@ meeting-starts = record {
 
 met : take 2 (run_of (one_word (times 32 (reduce ∷ []) ∷ [])) (7 ∷ 7 ∷ 9 ∷ []) (9 ∷ 9 ∷ [])).work
     ≡ take 2 (run_of (one_word (times 33 (reduce ∷ []) ∷ [])) (7 ∷ 7 ∷ 9 ∷ 9 ∷ []) (9 ∷ 9 ∷ 9 ∷ [])).work
-unfolding file_in file_of run_of_by add_words announced announced_shape
+unfolding file_in file_of run_of announced announced_shape
 met = (routes_meet (doubling 32) (doubling 33) (7 ∷ 7 ∷ 9 ∷ []) (7 ∷ 7 ∷ 9 ∷ 9 ∷ []) meeting.one_end meeting.none_unreduced meeting.one_spread
     (one_word (times 32 (reduce ∷ []) ∷ [])) (one_word (times 33 (reduce ∷ []) ∷ [])) meeting.plan_32 meeting.plan_33
     (9 ∷ 9 ∷ []) (9 ∷ 9 ∷ 9 ∷ []) refl refl).fronts
 
 met-owed : take 4 (run_of (owed_file (reduce ∷ [])) (5 ∷ 6 ∷ 1 ∷ 2 ∷ []) (9 ∷ 9 ∷ 9 ∷ 9 ∷ [])).work
     ≡ take 4 (run_of (owed_file (scatter ∷ gather ∷ [])) (5 ∷ 6 ∷ 1 ∷ 2 ∷ 9 ∷ []) (9 ∷ 9 ∷ 9 ∷ 9 ∷ [])).work
-unfolding file_in run_of_by add_words announced announced_shape
+unfolding file_in run_of announced announced_shape
 met-owed = (routes_meet at_once in_two (5 ∷ 6 ∷ 1 ∷ 2 ∷ []) (5 ∷ 6 ∷ 1 ∷ 2 ∷ 9 ∷ []) meeting-owed.one_end meeting-owed.none_unreduced meeting-owed.one_spread
     (owed_file (reduce ∷ [])) (owed_file (scatter ∷ gather ∷ [])) meeting-owed.plan_1 meeting-owed.plan_2
     (9 ∷ 9 ∷ 9 ∷ 9 ∷ []) (9 ∷ 9 ∷ 9 ∷ 9 ∷ []) refl refl).fronts
 
 met-apart : take 2 (run_of (apart_file []) (3 ∷ 4 ∷ []) (9 ∷ 9 ∷ [])).work
     ≡ take 2 (run_of (apart_file (slice_second ∷ gather_second ∷ [])) (3 ∷ 4 ∷ []) (9 ∷ 9 ∷ [])).work
-unfolding file_in file_of run_of_by add_words announced announced_shape
+unfolding file_in file_of run_of announced announced_shape
 met-apart = (routes_meet_unreduced stays comes_back (3 ∷ 4 ∷ []) (3 ∷ 4 ∷ []) meeting-apart.one_end meeting-apart.one_spread
     (apart_file []) (apart_file (slice_second ∷ gather_second ∷ [])) meeting-apart.plan_1 meeting-apart.plan_2
     (9 ∷ 9 ∷ []) (9 ∷ 9 ∷ []) refl refl).fronts
 
 met-starts : (run_of (owed_file (reduce ∷ [])) (5 ∷ 6 ∷ 1 ∷ 2 ∷ []) (9 ∷ 9 ∷ 9 ∷ 9 ∷ [])).work ≡ (run_of whole_file (6 ∷ 8 ∷ 6 ∷ 8 ∷ []) (9 ∷ 9 ∷ 9 ∷ 9 ∷ [])).work
-unfolding file_in run_of_by add_words announced announced_shape meeting-owed
+unfolding file_in run_of announced announced_shape meeting-owed
 met-starts = (table_decides at_once cabled_whole (5 ∷ 6 ∷ 1 ∷ 2 ∷ []) (6 ∷ 8 ∷ 6 ∷ 8 ∷ []) meeting-starts.one_end meeting-owed.none_unreduced
     meeting-owed.one_spread.words meeting-starts.words meeting-owed.one_spread.table meeting-owed.one_spread.faithful meeting-starts.spread
     (owed_file (reduce ∷ [])) whole_file meeting-owed.plan_1 meeting-starts.plan

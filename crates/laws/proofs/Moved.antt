@@ -38,10 +38,9 @@ use Rattle.rules.specs.Collectives.{
 use Rattle.rules.specs.Limits.{most_axes, most_devices, most_words}
 use Rattle.rules.specs.Refusals.{Judged, accept, refuse}
 use Rattle.rules.specs.PlanFile.{plain, StepsRead, JudgesSteps, steps_at, item_at, Plan, judge, judge_by, announced, announced_shape}
-use Rattle.rules.specs.Calls.{CheckAnswer, check_of, runnable, Ran, run_leaves_by, run_of_by}
+use Rattle.rules.specs.Calls.{CheckAnswer, check_of, runnable, Ran, run_leaves, run_of}
 use Rattle.rules.specs.Moved.{once_each, other_devices, moved_by, added_on, moved_from, words_moved, charge_of, charge_from, most_moved}
 use Rattle.rules.specs.Ledger.{file_of}
-use Rattle.laws.specs.Demands.{Moving}
 use Rattle.laws.specs.Moved.{DividesExactly, PlansCharged, BlocksCharged, OneNumber}
 use Rattle.laws.proofs.Lists.{
   length-tab,
@@ -75,13 +74,14 @@ use Rattle.laws.proofs.Repeats.{IsRepeat, repeat-inv, positive-inv, steps-tell, 
 use Rattle.laws.proofs.Accepted.{Within, AcceptedPlan, accepted}
 use Rattle.laws.proofs.Room.{shard-words, state}
 use Rattle.laws.proofs.Next.{step-ready, step-accepted}
-use Rattle.laws.proofs.Runs.{run_fits, run_ends}
+use Rattle.laws.proofs.Whole.{run_fits, run_ends}
 use Rattle.laws.proofs.Moves.{
   Off,
   off,
   off-left,
   off-right,
   Reshapes,
+  Moving,
   gathers,
   slices,
   step-reshapes,
@@ -206,7 +206,7 @@ module _ (mesh : List ℕ) where
       (λ t u. subst (λ (y : List ℕ). T (both eqb y x)) (sym (ap₂ (λ (p : ℕ) (y : List ℕ). member mesh G p y) (eqb→eq q (position mesh G x) u) (both-eq z x t)
       ∙ ((group_by_position mesh G d r bx).has x bx (λ a o. refl)).1)) (both_refl x))
 
-  near-count : {Gs : List (List ℕ)} {ns os ks : List ℕ} (x : List ℕ) → Tiles mesh x Gs ns os ks → Distinct (flat Gs)
+  near-count : (x : List ℕ) {Gs : List (List ℕ)} {ns os ks : List ℕ} → Tiles mesh x Gs ns os ks → Distinct (flat Gs)
       → ((a : ℕ) → In a (flat Gs) → a < length mesh) → Below x mesh
       → sum_all ks (λ i. near (owner mesh Gs ns (from os i) x) x) * span mesh (flat Gs) ≡ product ks
   near-count x last d r bx = ap (λ (z : ℕ). z * 1) (near-self x)
@@ -510,19 +510,18 @@ blocks_charged known mesh sizes file depth k at s w block e b =
     ∙ ap₂ (λ (n : ℕ) (z : StepsRead). n * added_on (moved_from mesh sizes) s z.steps) (sym count) same
 
 pub one_number : OneNumber
-unfolding check_of run_of_by
+unfolding check_of run_of
 one_number = record {
-  finished = λ W addAll z o file work spare c e h.
+  finished = λ file work spare c e o.
       let j = bind_inv (judge file) _ c e in
-      ap (λ (r : Ran W). r.moved) (run_fits addAll z o file j.0 j.1 work spare ((run_ends addAll z o file j.0 j.1 work spare).0 h))
+      ap (λ (r : Ran). r.moved) (run_fits file j.0 j.1 work spare ((run_ends file j.0 j.1 work spare).0 o))
       ∙ ap (λ (x : CheckAnswer). x.moved) (accept-inj j.2);
-  refused = λ W addAll z o file work spare n k e. none addAll z o (runnable file (length work) (length spare)) work spare n k e;
+  refused = λ file work spare n k e. none (runnable file work spare) work spare n k e;
 }
   where
-    none : {W : Type 0} (addAll : List W → W) (z o : W) (j : Judged Plan) (work spare : List W) (n k : ℕ)
-        → (run_leaves_by addAll z o j work spare).outcome ≡ refuse n k → (run_leaves_by addAll z o j work spare).moved ≡ 0
-    none addAll z o (accept p) work spare n k e = absurd (never (sym e))
-    none addAll z o (refuse m l) work spare n k e = refl
+    none : (j : Judged Plan) (work spare : List ℕ) (n k : ℕ) → (run_leaves j work spare).outcome ≡ refuse n k → (run_leaves j work spare).moved ≡ 0
+    none (accept p) work spare n k e = absurd (never (sym e))
+    none (refuse m l) work spare n k e = refl
 
 -- the bound of a step is reached, and is past 2 ^ 32
 abbrev widest : List ℕ

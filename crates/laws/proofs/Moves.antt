@@ -33,7 +33,6 @@ use Rattle.rules.specs.Collectives.{
   made,
   moved,
 }
-use Rattle.laws.specs.Demands.{Moving}
 use Rattle.laws.proofs.Positions.{pos_of_lt, position-lt}
 use Rattle.laws.proofs.Buffers.{tabulate-same}
 use Rattle.laws.proofs.Shapes.{Cut, cut, uncut, cut-lengths, piece-below}
@@ -164,6 +163,13 @@ within_same none = refl
 within_same (more l b) = ap₂ (λ (k : ℕ) (t : List ℕ). k ∷ t) (mod-eq_of_lt l) (within_same b)
 
 -- ---- the steps that only move words
+
+abbrev pub Moving : Step → Type 0
+Moving (allSlice Ss) = Unit {0}
+Moving (allGather Gs) = Unit {0}
+Moving (all_reduce L) = ⊥
+Moving (all_to_all source target L) = Unit {0}
+Moving (reduce_scatter Ss) = ⊥
 
 -- the lists that a step gathers along, and those that it slices along, one per dimension
 abbrev pub gathers : Step → ℕ → List (List ℕ)

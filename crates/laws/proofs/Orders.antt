@@ -24,10 +24,12 @@ use Rattle.laws.proofs.Judging.{accept-inj, need-inv, all_below-lt, fresh-distin
 -- ---- places of a list
 
 in-at : (d : ℕ) (l : List ℕ) → In d l → (p : ℕ) × (p < length l) × (get_or l p 0 ≡ d)
+in-at d [] x' = elim x' [ ]
 in-at d (a ∷ l) (inl e) = (zero, omega arith, sym e)
 in-at d (a ∷ l) (inr i) = let r = in-at d l i in (suc r.0, omega (arith, r.1), r.2)
 
 distinct-once : (l : List ℕ) → Distinct l → (p q : ℕ) → p < length l → q < length l → get_or l p 0 ≡ get_or l q 0 → p ≡ q
+distinct-once [] d p q lp lq e = elim lp [ ]
 distinct-once (a ∷ l) d zero zero lp lq e = refl
 distinct-once (a ∷ l) d zero (suc q) lp lq e = absurd (d.0 (subst (λ z. In z l) (sym e) (at_in l q (omega arith))))
 distinct-once (a ∷ l) d (suc p) zero lp lq e = absurd (d.0 (subst (λ z. In z l) e (at_in l p (omega arith))))
@@ -81,6 +83,7 @@ pick_yes : {A : Type 0} (d e : ℕ) (a b : A) → d ≡ e → pick (eqb d e) a b
 pick_yes d e a b h = ap (λ (t : Bool). pick t a b) (T→true (eqb d e) (subst (λ z. T (eqb d z)) h (eqb_refl d)))
 
 pub place-lt : (d : ℕ) (l : List ℕ) → In d l → place_in d l < length l
+place-lt d [] i = elim i [ ]
 place-lt d (e ∷ l) i = go (ℕ_discrete d e) i (place-lt d l)
   where
     go : Dec (d ≡ e) → In d (e ∷ l) → (In d l → place_in d l < length l) → place_in d (e ∷ l) < suc (length l)
@@ -89,6 +92,7 @@ place-lt d (e ∷ l) i = go (ℕ_discrete d e) i (place-lt d l)
     go (no q) (inr j) ih = rw (pick_no d e 0 (place_in d l + 1) q) (omega (arith, ih j))
 
 pub at_place : (d : ℕ) (l : List ℕ) → In d l → get_or l (place_in d l) 0 ≡ d
+at_place d [] i = elim i [ ]
 at_place d (e ∷ l) i = go (ℕ_discrete d e) i (at_place d l)
   where
     go : Dec (d ≡ e) → In d (e ∷ l) → (In d l → get_or l (place_in d l) 0 ≡ d) → get_or (e ∷ l) (place_in d (e ∷ l)) 0 ≡ d

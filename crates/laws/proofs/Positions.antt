@@ -73,6 +73,7 @@ module _ (mesh : List ℕ) where
 
   pub agree-member : (L : List ℕ) (q : ℕ) {x y : List ℕ} (a : ℕ) → q < span mesh L → Below x mesh → Below y mesh → In a L ⊎ (get_or x a 0 ≡ get_or y a 0)
       → get_or (member mesh L q x) a 0 ≡ get_or (member mesh L q y) a 0
+  agree-member [] q {x = x} {y = y} a h bx by (inl x7) = elim x7 [ ]
   agree-member [] q a h bx by (inr e) = e
   agree-member (b ∷ L) q {x} {y} a h bx by e =
       let r : ℕ = q % span mesh L in

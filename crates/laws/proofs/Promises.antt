@@ -10,11 +10,8 @@ use Rattle.rules.specs.WorkedScatters as scattered
 use Rattle.rules.specs.WorkedFactors as factored
 use Rattle.rules.specs.WorkedRoutes as routed
 use Rattle.rules.specs.WorkedMoves as moves
-use Rattle.rules.specs.Floats as halved
-use Rattle.rules.specs.WorkedFloats as floats
 use Rattle.laws.specs.Promises.{RulesPromise}
 use Rattle.laws.proofs.Whole as whole
-use Rattle.laws.proofs.Outside as outside
 use Rattle.laws.proofs.Judging as judging
 use Rattle.laws.proofs.Routes as routes
 use Rattle.laws.proofs.Meetings as meetings
@@ -26,18 +23,14 @@ use Rattle.laws.proofs.Locality as local
 use Rattle.laws.proofs.Moved as charges
 use Rattle.laws.proofs.Groups as group
 use Rattle.laws.proofs.Sums as sums
-use Rattle.laws.proofs.Halves as halves
 
 pub rules-promise : RulesPromise
 rules-promise = record {
   whole_plan = whole.whole_plan;
-  whole_plan_moves = whole.whole_plan_moves;
-  nothing_outside = outside.nothing_outside;
   factor_one = whole.factor_one;
   times_one = whole.times_one;
   spreadable = whole.spreadable;
   startable = whole.startable;
-  spreadable_moves = whole.spreadable_moves;
   routes_meet = routes.routes_meet;
   routes_meet_unreduced = routes.routes_meet_unreduced;
   table_decides = routes.table_decides;
@@ -62,7 +55,6 @@ rules-promise = record {
   one_number = charges.one_number;
   group_by_position = group.groups-by-position;
   sum_of_words = sums.add_words-total;
-  sum_in_halves = halves.sum_in_halves;
   worked = table.worked;
   beside = table.worked_beside;
   refused = files.refused;
@@ -84,7 +76,4 @@ rules-promise = record {
   routed = routed.routed;
   routes_compared = routed.routes_compared;
   moves_counted = moves.moves_counted;
-  trees = λ W plus z a b c d e f g. halved.trees plus z a b c d e f g;
-  float_sums = halved.sums_of_floats;
-  floats_run = floats.floats_run;
 }

@@ -70,6 +70,7 @@ abbrev Tests : {A : Type 0} → (j : Judged A) → Judged (Unit {0}) → A → T
 Tests j t a = j ≡ ◌>>◌ t (accept a)
 
 passes : {A : Type 0} (b : Bool) (n : ℕ) (m : Judged A) → T b → ◌>>◌ (need b n) m ≡ m
+passes {A = A} false n m t = elim t [ ]
 passes true n m t = refl
 
 -- a test that is the last to be made
@@ -103,6 +104,8 @@ tests-none {A} t a f b j e g = ap (λ (i : Judged A). ◌>>=◌ i f) e ∙ go t
     go (refuse n k) = refl
 
 both_hold : (a b : Bool) → T a → T b → T (a && b)
+both_hold false b s t = elim s [ ]
+both_hold true false s t = elim t [ ]
 both_hold true true s t = tt
 
 pos-right : (a b : ℕ) → 0 < a * b → 0 < b
@@ -149,6 +152,7 @@ module _ (few most z o : ℕ) where
   sizes-meet running [] p l e = sym (holds (leb (running * 1) few) (le→leb (running * 1) few (omega arith)))
     where
       holds : (b : Bool) → T b → need b o ≡ accept tt
+      holds false t = elim t [ ]
       holds true t = refl
   sizes-meet running (n ∷ sizes) p l e =
       let q = need-inv 0 (ltb 0 n) z _ tt e in
@@ -414,6 +418,12 @@ reading-less latest kinds l = record {
 tests_left : {A : Type 0} (bytes first known devices words : Bool) (kinds : Judged (Unit {0})) (m : Judged A) → T bytes → T first → T devices → T words
     → ◌>>◌ (◌>>◌ (need bytes 2) (◌>>◌ (need (first && known) 3) (◌>>◌ (need devices 11) (◌>>◌ (need words 13) kinds)))) m
     ≡ ◌>>◌ (◌>>◌ (need known 3) kinds) m
+tests_left {A = A} false first known _ words kinds m b f d w = elim b [ ]
+tests_left {A = A} true false known _ words kinds m b f d w = elim f [ ]
+tests_left {A = A} true true false false words kinds m b f d w = elim d [ ]
+tests_left {A = A} true true false true false kinds m b f d w = elim w [ ]
+tests_left {A = A} true true true false words kinds m b f d w = elim d [ ]
+tests_left {A = A} true true true true false kinds m b f d w = elim w [ ]
 tests_left true true true true true kinds m b f d w = refl
 tests_left true true false true true kinds m b f d w = refl
 

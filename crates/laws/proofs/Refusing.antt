@@ -89,7 +89,7 @@ use Rattle.rules.specs.PlanFile.{
   ReduceScatter,
   Unknown,
 }
-use Rattle.rules.specs.Calls.{check_of, place_of, groups_by, groups_of, groups_ordered_of, runnable, run_leaves_by, run_of_by}
+use Rattle.rules.specs.Calls.{check_of, place_of, groups_by, groups_of, groups_ordered_of, runnable, run_leaves, run_of}
 use Rattle.laws.specs.Demands.{file_numbers, step_numbers, Numbered, RefusalNumbers}
 use Rattle.laws.proofs.Lists.{mem-in, in_mem}
 use Rattle.laws.proofs.Judging.{never}
@@ -395,10 +395,9 @@ unnumbered = (
 )
 
 -- what a run answers is refused where it may not run
-run-refuses : {W : Type 0} (addAll : List W → W) (z o : W) (P : ℕ → ℕ → Type 0) (work spare : List W) (j : Judged Plan) → Refuses P j
-    → Refuses P (run_leaves_by addAll z o j work spare).outcome
-run-refuses addAll z o P work spare (accept p) h = accepts P tt
-run-refuses addAll z o P work spare (refuse n k) h = refuses P n k (h n k refl)
+run-refuses : (P : ℕ → ℕ → Type 0) (work spare : List ℕ) (j : Judged Plan) → Refuses P j → Refuses P (run_leaves j work spare).outcome
+run-refuses P work spare (accept p) h = accepts P tt
+run-refuses P work spare (refuse n k) h = refuses P n k (h n k refl)
 
 -- both group listings
 groups-refuse : (P : ℕ → ℕ → Type 0) → P 5 0 → P 10 0 → P 11 0 → P 14 0 → P 15 0 → P 33 0
@@ -412,7 +411,7 @@ groups-refuse P p5 p10 p11 p14 p15 p33 ordered mesh axes out o =
     (tests P 0 (leb (devices mesh) (length out)) 33 _ p33 (accepts P _)))))
 
 pub refusal_numbers : RefusalNumbers
-unfolding check_of state_of place_of groups_of groups_ordered_of run_of_by runnable mem
+unfolding check_of state_of place_of groups_of groups_ordered_of run_of runnable mem
 refusal_numbers = record {
   check = λ file. bind (Numbered file_numbers (length file)) _ _ (judge-refuses file_numbers (λ n i. i) file) (λ p. accepts _ _);
   place = λ file state device.
@@ -433,11 +432,11 @@ refusal_numbers = record {
       let own : (n : ℕ) → T (mem n numbers) → P n 0 = listed numbers 0 in
       groups-refuse P (own 5 tt) (own 10 tt) (own 11 tt) (own 14 tt) (own 15 tt) (own 33 tt) _ mesh axes out
       (test P 0 (order_allowed (devices mesh) order) 19 (own 19 tt));
-  run = λ W addAll z o file work spare.
+  run = λ file work spare.
       let numbers : List ℕ = 30 ∷ 31 ∷ file_numbers in
       let steps : ℕ = length file in
       let P : ℕ → ℕ → Type 0 = Numbered numbers steps in
-      run-refuses addAll z o P work spare (runnable file (length work) (length spare)) (bind P _ _ (judge-refuses numbers (λ n i. inr (inr i)) file)
+      run-refuses P work spare (runnable file work spare) (bind P _ _ (judge-refuses numbers (λ n i. inr (inr i)) file)
       (λ p. tests P 0 (leb (room p) (length work)) 30 _ (listed numbers steps 30 tt)
       (tests P 0 (leb (room p) (length spare)) 31 _ (listed numbers steps 31 tt) (accepts P _))));
 }

@@ -15,7 +15,7 @@ use Rattle.rules.specs.Spread.{StateOf, add_words, from, tabulate_by, held_by}
 use Rattle.rules.specs.Collectives.{Step, allSlice, allGather, sliced, gathered, cut_tail, owner, within, after, slice_place, gather_place, single, sources, made, Shards, stepped}
 use Rattle.rules.specs.PlanFile.{Plan, announced, announced_shape}
 use Rattle.rules.specs.Factor.{scaled, factor_after}
-use Rattle.rules.specs.Calls.{shards_after, last_state, shards_after_by}
+use Rattle.rules.specs.Calls.{shards_after, last_state}
 use Rattle.laws.specs.Demands.{Words, Fits, SpreadAt, start_words}
 use Rattle.laws.specs.Routes.{last_sharding, end_words, whole_factor, NoneUnreduced, LeaveEqual, RoutesMeet, RoutesMeetUnreduced, TableDecides, EqualShardsSpread, GatherUndoesSlice, ThereAndBack}
 use Rattle.laws.proofs.Lists.{in_left, below_length}
@@ -29,8 +29,7 @@ use Rattle.laws.proofs.Steps.{AcceptedStep, Varies, varies, sharding-cut, Sliced
 use Rattle.laws.proofs.Accepted.{AcceptedPlan, accepted}
 use Rattle.laws.proofs.Room.{fine-take, state}
 use Rattle.laws.proofs.Next.{in-turn-next, step-accepted}
-use Rattle.laws.proofs.Runs.{run_ends, last_shape, plan-shapes, last-buffer, last-length, in_order, work-left}
-use Rattle.laws.proofs.Whole.{last_words, plan-spreads}
+use Rattle.laws.proofs.Whole.{run_ends, last_shape, last_words, plan-shapes, plan-spreads, last-buffer, last-length, in_order, work-left}
 use Rattle.laws.proofs.Apart.{masked, steps-local, steps-word}
 
 -- ---- what two routes have in common
@@ -51,9 +50,9 @@ module _ {p : Plan} (a : AcceptedPlan p) where
   -- THE LAST STATE IS MADE OF THESE
   last_is : (work : List ℕ) → Words work → Alike p.mesh p.start (announced_shape p 0) (held_by 0 p.order p.mesh (announced_shape p 0) work)
       → last_state p work ≡ end_of p.mesh p.order p.sizes p.start (last_sharding p) (whole_factor p % 2 ^ 32) work
-  unfolding shards_after_by announced_shape announced held_by factor_after
+  unfolding shards_after announced_shape announced held_by factor_after
   last_is work ws alike =
-      last-buffer a add_words 0 work
+      last-buffer a work
       ∙ tabulate-same-by p.mesh p.order a.ordered (last_shape p) (last_words p work) _ (λ x i bx bi.
       steps-word p.mesh p.sizes a.within.sizes_pos ran-steps p.start a.start_is
       (fine-take p.mesh p.sizes (length p.steps) p.start p.steps a.fine) _ (λ y j by bj. ws _) x bx i bi alike
@@ -61,14 +60,14 @@ module _ {p : Plan} (a : AcceptedPlan p) where
 
   -- buffers with one front lead to one state
   last-front : (work work' : List ℕ) → take (start_words p) work ≡ take (start_words p) work' → last_state p work ≡ last_state p work'
-  unfolding shards_after_by announced_shape announced
+  unfolding shards_after announced_shape announced
   last-front work work' e =
-      last-buffer a add_words 0 work
+      last-buffer a work
       ∙ tabulate-same-by p.mesh p.order a.ordered (last_shape p) (last_words p work) (last_words p work') (λ x i bx bi.
       steps-local p.mesh p.sizes a.within.sizes_pos ran-steps p.start [] (announced_shape p 0) _ _ a.start_is
       (fine-take p.mesh p.sizes (length p.steps) p.start p.steps a.fine) refl (λ b u. absurd u) x bx
       (λ y j by bj g. held-front p.mesh p.order a.ordered (announced_shape p 0) 0 work work' e by bj) i bi)
-      ∙ sym (last-buffer a add_words 0 work')
+      ∙ sym (last-buffer a work')
 
 -- ---- two routes
 
@@ -92,13 +91,13 @@ leave-equal p q work work' meet f g ef eg spare spare' ends ends' =
     let a : AcceptedPlan p = accepted f p ef in
     let b : AcceptedPlan q = accepted g q eg in
     let same : last_state p work ≡ last_state q work' = meet a b in
-    let one = work-left a add_words 0 0 f ef work spare ((run_ends add_words 0 0 f p ef work spare).0 ends) in
-    let two = work-left b add_words 0 0 g eg work' spare' ((run_ends add_words 0 0 g q eg work' spare').0 ends') in
+    let one = work-left a f ef work spare ((run_ends f p ef work spare).0 ends) in
+    let two = work-left b g eg work' spare' ((run_ends g q eg work' spare').0 ends') in
     record {
       states = same;
       fronts =
-          ap (take (end_words p)) one ∙ take_at (last_state p work) _ (end_words p) (last-length a add_words 0 work) ∙ same
-          ∙ sym (ap (take (end_words p)) two ∙ take_at (last_state q work') _ (end_words p) (ap length (sym same) ∙ last-length a add_words 0 work));
+          ap (take (end_words p)) one ∙ take_at (last_state p work) _ (end_words p) (last-length a work) ∙ same
+          ∙ sym (ap (take (end_words p)) two ∙ take_at (last_state q work') _ (end_words p) (ap length (sym same) ∙ last-length a work));
       buffers = λ l.
           one
           ∙ zeros-behind (last_state p work) (last_state q work') (length work - length (last_state p work)) (length work' - length (last_state q work')) same
@@ -120,7 +119,7 @@ abbrev start_shape : Front → List ℕ
 start_shape t = shard_sizes t.mesh t.sizes t.start.dims
 
 pub routes_meet_unreduced : RoutesMeetUnreduced
-unfolding shards_after_by announced_shape announced
+unfolding shards_after announced_shape announced
 routes_meet_unreduced p q work work' r s = leave-equal p q work work' (λ a b.
     let same : front_for p ≡ front_for q = λ k. record { mesh = r.one_mesh k; order = r.one_order k; sizes = r.one_size k; start = s.one_start k } in
     let alike : Alike q.mesh q.start (announced_shape q 0) (held_by 0 q.order q.mesh (announced_shape q 0) work) =
@@ -148,7 +147,7 @@ last-blocks : {p : Plan} → AcceptedPlan p → NoneUnreduced p → (work : List
     → SpreadAt p table 0 (shards_after p work 0).words → last_state p work ≡ blocks_of p.mesh p.order p.sizes (last_sharding p) (whole_factor p % 2 ^ 32) table
 unfolding announced_shape members add_words
 last-blocks {p} a none work ws table F =
-    last-buffer a add_words 0 work
+    last-buffer a work
     ∙ tabulate-same-by p.mesh p.order a.ordered (last_shape p) (last_words p work) _ (λ x i bx bi.
     sym (ap (λ (U : List ℕ). add_words (map (λ y. last_words p work y i) (members p.mesh U x))) none)
     ∙ (plan-spreads a table work ws F (length p.steps)).sums x i bx bi ∙ sym (scaled-mod (whole_factor p) table _))
@@ -231,12 +230,12 @@ module _ {p : Plan} (a : AcceptedPlan p) (k : ℕ) (Ss : List (List ℕ)) (rest 
   unfolding announced_shape
   words_back work table F x i bx bi =
       ap (λ (v : Shards ℕ). v.words x i)
-      (ap (shards_after p work) two ∙ in_order a add_words 0 work (k + 1) (allGather Ss) rest next
-      ∙ ap (stepped add_words p.mesh (allGather Ss)) (in_order a add_words 0 work k (allSlice Ss) _ d))
+      (ap (shards_after p work) two ∙ in_order a work (k + 1) (allGather Ss) rest next
+      ∙ ap (stepped add_words p.mesh (allGather Ss)) (in_order a work k (allSlice Ss) _ d))
       ∙ ap (λ (shape : List ℕ). (stepped add_words p.mesh (allGather Ss) (stepped add_words p.mesh (allSlice Ss) (record {
         shape = shape;
         words = (shards_after p work k).words;
-      }))).words x i) (plan-shapes a add_words 0 work k)
+      }))).words x i) (plan-shapes a work k)
       ∙ back-word p.mesh p.sizes a.within.sizes_pos Ss (announced p k) (state a k).sharding slice-accepted (shards_after p work k).words F.same x i bx bi
 
   shape-back : announced_shape p (k + 2) ≡ announced_shape p k
@@ -248,26 +247,26 @@ gather_undoes_slice file p e k Ss rest d work =
     let a : AcceptedPlan p = accepted file p e in
     record {
       sharding = sharding-back a k Ss rest d;
-      shape = plan-shapes a add_words 0 work (k + 2) ∙ shape-back a k Ss rest d ∙ sym (plan-shapes a add_words 0 work k);
+      shape = plan-shapes a work (k + 2) ∙ shape-back a k Ss rest d ∙ sym (plan-shapes a work k);
       words = words_back a k Ss rest d work;
       from_start = λ ws table F. words_back a k Ss rest d work _ (plan-spreads a table work ws F k);
     }
 
 pub there_and_back : ThereAndBack
-unfolding announced shards_after_by
+unfolding announced shards_after
 there_and_back file p e Ss only_two work spare ends =
     let a : AcceptedPlan p = accepted file p e in
-    let f : Fits p work spare = (run_ends add_words 0 0 file p e work spare).0 ends in
+    let f : Fits p work spare = (run_ends file p e work spare).0 ends in
     let n : length p.steps ≡ 2 = ap length only_two in
     let l : start_words p ≤ length work = omega (arith, (state a 0).fits (omega arith), f.0) in
     let last : (table : List ℕ → ℕ) → SpreadAt p table 0 (shards_after p work 0).words → last_state p work ≡ take (start_words p) work =
-    λ table F. last-buffer a add_words 0 work
+    λ table F. last-buffer a work
     ∙ ap₂ (tabulate_by p.order p.mesh) (ap (announced_shape p) n ∙ shape-back a 0 Ss [] only_two) (ap (λ (k : ℕ). (shards_after p work k).words) n)
     ∙ tabulate-same-by p.mesh p.order a.ordered (announced_shape p 0) _ _ (words_back a 0 Ss [] only_two work table F)
     ∙ tabulate-held-by p.mesh p.order a.ordered (announced_shape p 0) 0 work l in
     record {
       sharding = ap (announced p) n ∙ sharding-back a 0 Ss [] only_two;
       words = λ table F.
-          ap (take (start_words p)) (work-left a add_words 0 0 file e work spare f)
+          ap (take (start_words p)) (work-left a file e work spare f)
           ∙ take_at (last_state p work) _ (start_words p) (ap length (last table F) ∙ length-take-le (start_words p) work l) ∙ last table F;
     }

@@ -102,6 +102,7 @@ module _ (mesh : List ℕ) where
 
   pub agree-owner : {Gs : List (List ℕ)} {wholes pieces i x y : List ℕ} (a : ℕ) → Cut mesh Gs wholes pieces → Below i wholes → Below x mesh → Below y mesh
       → In a (flat Gs) ⊎ (get_or x a 0 ≡ get_or y a 0) → get_or (owner mesh Gs pieces i x) a 0 ≡ get_or (owner mesh Gs pieces i y) a 0
+  agree-owner {x = x} {y = y} a uncut none bx by (inl x34) = elim x34 [ ]
   agree-owner a uncut none bx by (inr e) = e
   agree-owner {x} {y} a (cut {S} {Ss} {piece} {pieces} e c) (more {xs = i} l b) bx by h =
       agree-member mesh S _ a (block-lt piece (span mesh S) e l) (below-owner c b bx) (below-owner c b by) (go h (λ u. agree-owner a c b bx by u))
@@ -149,6 +150,7 @@ module _ (mesh : List ℕ) where
       joined-none (G ∷ Gs) = ap (λ (l : List (List ℕ)). G ∷ l) (joined-none Gs)
 
       unnamed : (Gs : List (List ℕ)) (a : ℕ) → ¬ In a (flat (map (λ (G : List ℕ). []) Gs))
+      unnamed [] a i = elim i [ ]
       unnamed (G ∷ Gs) a i = unnamed Gs a i
 
       from_zero : {Gs : List (List ℕ)} {wholes pieces i : List ℕ} → Cut mesh Gs wholes pieces → Below i wholes
@@ -165,6 +167,7 @@ module _ (mesh : List ℕ) where
   pub owner-first : {Gs : List (List ℕ)} {wholes pieces i x z : List ℕ} (a : ℕ) → Cut mesh Gs wholes pieces → Below i pieces → Below x mesh → Below z mesh
       → Distinct (flat Gs) → ((b : ℕ) → In b (flat Gs) → b < length mesh) → In a (flat Gs)
       → get_or (owner mesh Gs pieces (from (first_indexes mesh Gs pieces x) i) z) a 0 ≡ get_or x a 0
+  owner-first {i = i} {x = x} {z = z} a uncut _ bx bz once r u = elim u [ ]
   owner-first {x} {z} a (cut {S} {Ss} {piece} {pieces} e c) (more {x = j} {xs = i} l b) bx bz once r u =
       let y : List ℕ = owner mesh Ss pieces (from (first_indexes mesh Ss pieces x) i) z in
       let s : Distinct S × Distinct (flat Ss) × ((a : ℕ) → In a S → ¬ In a (flat Ss)) = distinct-split S (flat Ss) once in

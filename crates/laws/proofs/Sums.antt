@@ -126,6 +126,7 @@ module _ (mesh : List ℕ) where
   -- an axis of U is summed first, the others after it
   sum_over-one : (a : ℕ) (U : List ℕ) (f : List ℕ → ℕ) (x : List ℕ) → In a U → Distinct U
       → sum_over mesh U f x ≡ sum_over mesh (without U (a ∷ [])) (sum_over mesh (a ∷ []) f) x
+  sum_over-one a [] f x i d = elim i [ ]
   sum_over-one a (b ∷ U) f x i d = go (ℕ_discrete a b) i (λ j y. sum_over-one a U f y j d.1)
     where
       go : Dec (a ≡ b) → In a (b ∷ U) → (In a U → (y : List ℕ) → sum_over mesh U f y ≡ sum_over mesh (without U (a ∷ [])) (sum_over mesh (a ∷ []) f) y)

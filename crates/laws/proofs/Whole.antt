@@ -1,18 +1,20 @@
--- Demand 3: a plan's whole list of steps (`whole_plan`), from the judgement of its file alone, also of words of any type where steps only move them
--- (`whole_plan_moves`); and that every table has a faithful spread under an accepted plan's start (`spreadable`), in buffers with the plan's room
--- (`startable`, of words of any type `spreadable_moves`), which is limited (`room_limit`); and that no step changes the list of replicated axes (`replicated_stays`). Assumes nothing.
+-- Demand 3: a plan's whole list of steps (`whole_plan`), from the judgement of its file alone; and that every table has a faithful spread under an
+-- accepted plan's start (`spreadable`), in buffers with the plan's room (`startable`), which is limited (`room_limit`); and that no step
+-- changes the list of replicated axes (`replicated_stays`). Assumes nothing.
 use Prim.Native.Nat.{ℕ, zero, suc, ◌+◌, ◌-◌, ◌*◌, ◌/◌, ◌%◌, ◌<◌, ◌≤◌, ◌^◌}
 use mathlib.Core.Path.{◌≡◌, refl, sym, ap, ap₂, ◌∙◌, subst}
-use mathlib.Core.Logic.{⊎_elim}
-use mathlib.Core.List.{List, [], ◌∷◌, ◌++◌, map}
+use mathlib.Core.Logic.{⊎_elim, ◌↔◌}
+use mathlib.Core.Bool.{Bool, true, false}
+use mathlib.Core.List.{List, [], ◌∷◌, ◌++◌}
 use native.Mathlib.Nat.{mod-lt}
 use native.Mathlib.Omega.{arith}
 use lib.ListN.{length, get_or, take, drop, replicate, length-append, length-replicate, get_or-eq_default}
-use lib.Dec.{ltb, ltb→lt, nltb→le, lit<}
-use Rattle.rules.specs.Lists.{each, in_turn, flat, product, In, All, done, ◌&◌}
-use Rattle.rules.specs.Mesh.{coords, devices, members, plain_order, Rearrangement}
-use Rattle.rules.specs.Sharding.{Sharding, varying, shard_sizes, first_indexes, IsSharding}
-use Rattle.rules.specs.Spread.{StateOf, Faithful, add_words, from, tabulate_by, held_by}
+use lib.Seq.{take_at, take-append_seam, length-take-le}
+use lib.Dec.{T, ltb, leb, ltb→lt, nltb→le, leb→le, le→leb, lit<}
+use Rattle.rules.specs.Lists.{each, in_turn, flat, product, In, Below}
+use Rattle.rules.specs.Mesh.{coords, devices, plain_order, Rearrangement}
+use Rattle.rules.specs.Sharding.{Sharding, varying, shard_sizes, IsSharding}
+use Rattle.rules.specs.Spread.{StateOf, Faithful, add_words, tabulate_by, held_by}
 use Rattle.rules.specs.Collectives.{
   Step,
   allSlice,
@@ -24,42 +26,26 @@ use Rattle.rules.specs.Collectives.{
   cut_tail,
   after,
   shape_after,
+  WithoutRemainder,
   sources,
   made,
   Shards,
   stepped,
 }
-use Rattle.rules.specs.Refusals.{accept}
+use Rattle.rules.specs.Refusals.{Judged, accept, ◌>>◌, ◌>>=◌, need}
 use Rattle.rules.specs.PlanFile.{Plan, judge, judge_by, announced, announced_shape, room}
 use Rattle.rules.specs.Factor.{scaled, reduced_axes, step_factor, factor_of, factor_after}
-use Rattle.rules.specs.Calls.{shards_after_by, shards_after, run_of}
+use Rattle.rules.specs.Calls.{shards_after, last_state, runnable, Ran, run_leaves, run_of}
 use Rattle.rules.specs.Ledger.{file_of}
-use Rattle.laws.specs.Demands.{
-  Words,
-  Fits,
-  SpreadBy,
-  SpreadAt,
-  returned,
-  start_words,
-  Moving,
-  WholePlan,
-  WholePlanMoves,
-  FactorOne,
-  TimesOne,
-  Spreadable,
-  Startable,
-  SpreadableMoves,
-  RoomLimit,
-  ReplicatedStays,
-}
-use Rattle.laws.proofs.Lists.{T?, in_left, in_right, distinct-split, length-tab, getD-tab}
+use Rattle.laws.specs.Demands.{Words, Fits, SpreadAt, returned, start_words, WholePlan, FactorOne, TimesOne, Spreadable, Startable, RoomLimit, ReplicatedStays}
+use Rattle.laws.proofs.Lists.{T?, T→true, in_left, in_right, distinct-split, length-tab, getD-tab}
 use Rattle.laws.proofs.Positions.{pos_of_lt, div-lt}
 use Rattle.laws.proofs.Buffers.{below-coords}
-use Rattle.laws.proofs.Shapes.{first-agree}
-use Rattle.laws.proofs.Orders.{by_order, held-tabulate-by, length-tabulate-by}
+use Rattle.laws.proofs.Orders.{by_order, held-tabulate-by, tabulate-held-by, length-tabulate-by}
 use Rattle.laws.proofs.Sources.{WordsIn, step_words}
 use Rattle.laws.proofs.Factor.{scaled-scaled, scaled-one, table-words, unscaled, step-one}
 use Rattle.laws.proofs.Spreads.{faithful-cong, slice-faithful, gather-faithful, all-to-all-faithful, reduce-scaled, scatter-faithful, spread-exists}
+use Rattle.laws.proofs.Judging.{never}
 use Rattle.laws.proofs.Steps.{
   AcceptedStep,
   ToAll,
@@ -77,41 +63,16 @@ use Rattle.laws.proofs.Steps.{
   after-sharding,
   after-shape,
 }
-use Rattle.laws.proofs.Turns.{Fine}
+use Rattle.laws.proofs.Turns.{Fine, steps-shape}
 use Rattle.laws.proofs.Accepted.{AcceptedPlan, accepted}
 use Rattle.laws.proofs.Room.{fine-take, state, room_few}
-use Rattle.laws.proofs.Next.{step-ready}
-use Rattle.laws.proofs.Runs.{last_words_by, holds, whole_words}
+use Rattle.laws.proofs.Next.{step-ready, in-turn-next, next-divides}
 
 -- ---- one accepted step
 
 module _ (mesh sizes : List ℕ) (pos : (a : ℕ) → zero < get_or mesh a 1) where
   abbrev shape_of : Sharding → List ℕ
   shape_of s = shard_sizes mesh sizes s.dims
-
-  -- a step that only moves words makes a faithful spread of the same table, under the sharding after it: of words of any type
-  move-spread : {W : Type 0} (addAll : List W → W) → ((a : W) → addAll (a ∷ []) ≡ a) → (t : Step) (s : Sharding) (table : List ℕ → W) (w : StateOf W) → Moving t
-      → IsSharding mesh sizes s → AcceptedStep mesh sizes t s → Faithful addAll mesh s (shape_of s) table w
-      → Faithful addAll mesh (after t s) (shape_after mesh t (shape_of s)) table (made addAll (sources mesh t (shape_of s)) w)
-  unfolding after sources
-  move-spread addAll one (allSlice Ss) s table w m h f F =
-      let k : Sliced mesh sizes pos Ss s = slice-sharding mesh sizes pos Ss s h f.axes f.by_kind in
-      slice-faithful one Ss k.one_each k.pieces
-      (λ a i j. f.by_kind.off a i (in_left a (varying s) s.replicated (in_right a (flat s.dims) s.unreduced j))) F
-  move-spread addAll one (allGather Gs) s table w m h f F =
-      let k : Gathered mesh sizes pos Gs s = gather-sharding mesh sizes pos Gs s h f.by_kind in
-      gather-faithful one Gs k.one_each k.joined k.wholes (varies mesh sizes s h).once (varies mesh sizes s h).of_mesh F
-  move-spread addAll one (all_reduce L) s table w m h f F = absurd m
-  move-spread addAll one (all_to_all source target L) s table w m h f F =
-      let k : ToAll mesh sizes pos source target L s = to-all-sharding mesh sizes pos source target L s h f.axes f.by_kind in
-      let n : length (shape_of s) ≡ length s.dims = shape-length mesh sizes pos s h in
-      let off : (a : ℕ) → In a L → ¬ In a s.unreduced =
-      λ a i j. (distinct-split (flat s.dims) s.unreduced (varies mesh sizes s h).once).2 a
-      (k.first.cut_off a (subst (In a) (sym (flat-only (length s.dims) source L f.by_kind.source-lt)) i)) j in
-      all-to-all-faithful one source target L (sym n)
-      (subst (λ (r : ℕ). each ◌++◌ (each cut_tail s.dims (only r source L)) (only r source L) ≡ s.dims) (sym n) k.first.joined)
-      (step-ready mesh sizes pos (all_to_all source target L) s h f) off (varies mesh sizes s h).once (varies mesh sizes s h).of_mesh F
-  move-spread addAll one (reduce_scatter Ss) s table w m h f F = absurd m
 
   -- what an accepted step that reduces no replicated axis makes of a faithful spread is one of the same table, which is words
   kept : (t : Step) (s : Sharding) (table : List ℕ → ℕ) (w : StateOf ℕ) → IsSharding mesh sizes s → AcceptedStep mesh sizes t s
@@ -128,13 +89,25 @@ module _ (mesh sizes : List ℕ) (pos : (a : ℕ) → zero < get_or mesh a 1) wh
       → Faithful add_words mesh (after t s) (shape_after mesh t (shape_of s)) (scaled (step_factor mesh t s) table) (made add_words (sources mesh t (shape_of s)) w)
   unfolding after sources add_words
   step-spread (allSlice Ss) s table w h f ws F =
-      kept (allSlice Ss) s table w h f (λ a i. absurd i) ws (move-spread add_words (λ a. refl) (allSlice Ss) s table w tt h f F)
+      let k : Sliced mesh sizes pos Ss s = slice-sharding mesh sizes pos Ss s h f.axes f.by_kind in
+      kept (allSlice Ss) s table w h f (λ a i. absurd i) ws
+      (slice-faithful (λ a. refl) Ss k.one_each k.pieces (λ a i j. f.by_kind.off a i (in_left a (varying s) s.replicated (in_right a (flat s.dims) s.unreduced j))) F)
   step-spread (allGather Gs) s table w h f ws F =
-      kept (allGather Gs) s table w h f (λ a i. absurd i) ws (move-spread add_words (λ a. refl) (allGather Gs) s table w tt h f F)
+      let k : Gathered mesh sizes pos Gs s = gather-sharding mesh sizes pos Gs s h f.by_kind in
+      kept (allGather Gs) s table w h f (λ a i. absurd i) ws
+      (gather-faithful (λ a. refl) Gs k.one_each k.joined k.wholes (varies mesh sizes s h).once (varies mesh sizes s h).of_mesh F)
   step-spread (all_reduce L) s table w h f ws F =
       reduce-scaled L f.by_kind.once (distinct-split (flat s.dims) s.unreduced (varies mesh sizes s h).once).1 f.by_kind.off ws F
   step-spread (all_to_all source target L) s table w h f ws F =
-      kept (all_to_all source target L) s table w h f (λ a i. absurd i) ws (move-spread add_words (λ a. refl) (all_to_all source target L) s table w tt h f F)
+      let k : ToAll mesh sizes pos source target L s = to-all-sharding mesh sizes pos source target L s h f.axes f.by_kind in
+      let n : length (shape_of s) ≡ length s.dims = shape-length mesh sizes pos s h in
+      let off : (a : ℕ) → In a L → ¬ In a s.unreduced =
+      λ a i j. (distinct-split (flat s.dims) s.unreduced (varies mesh sizes s h).once).2 a
+      (k.first.cut_off a (subst (In a) (sym (flat-only (length s.dims) source L f.by_kind.source-lt)) i)) j in
+      kept (all_to_all source target L) s table w h f (λ a i. absurd i) ws
+      (all-to-all-faithful (λ a. refl) source target L (sym n)
+      (subst (λ (r : ℕ). each ◌++◌ (each cut_tail s.dims (only r source L)) (only r source L) ≡ s.dims) (sym n) k.first.joined)
+      (step-ready mesh sizes pos (all_to_all source target L) s h f) off (varies mesh sizes s h).once (varies mesh sizes s h).of_mesh F)
   step-spread (reduce_scatter Ss) s table w h f ws F =
       kept (reduce_scatter Ss) s table w h f f.by_kind.unreduced ws
       (scatter-faithful Ss (scatter-sharding mesh sizes pos Ss s h f).one_each (step-ready mesh sizes pos (reduce_scatter Ss) s h f) f.axes
@@ -161,45 +134,74 @@ module _ (mesh sizes : List ℕ) (pos : (a : ℕ) → zero < get_or mesh a 1) wh
       (steps-spread ts (after t s) (scaled c table) (stepped add_words mesh t v) (after-sharding mesh sizes pos t s h f.0) f.1 (ap (shape_after mesh t) e ∙ g)
       (subst (WordsIn mesh (shape_of (after t s))) same words) (subst (Faithful add_words mesh (after t s) (shape_of (after t s)) (scaled c table)) same spread))
 
-  -- and of the same table where they only move words, of any type
-  moves-spread : {W : Type 0} (addAll : List W → W) → ((a : W) → addAll (a ∷ []) ≡ a) → (ts : List Step) (s : Sharding) (table : List ℕ → W) (v : Shards W)
-      → All Moving ts → IsSharding mesh sizes s → Fine mesh sizes s ts → v.shape ≡ shape_of s → Faithful addAll mesh s (shape_of s) table v.words
-      → Faithful addAll mesh (in_turn after ts s) (shape_of (in_turn after ts s)) table (in_turn (stepped addAll mesh) ts v).words
-  unfolding stepped
-  moves-spread addAll one [] s table v m h f e F = F
-  moves-spread {W} addAll one (t ∷ ts) s table v (m & ms) h f e F =
-      let g : shape_after mesh t (shape_of s) ≡ shape_of (after t s) = after-shape mesh sizes pos t s h f.0 in
-      let new : StateOf W = made addAll (sources mesh t (shape_of s)) v.words in
-      let same : new ≡ made addAll (sources mesh t v.shape) v.words = ap (λ (z : List ℕ). made addAll (sources mesh t z) v.words) (sym e) in
-      let spread : Faithful addAll mesh (after t s) (shape_of (after t s)) table new =
-      subst (λ (z : List ℕ). Faithful addAll mesh (after t s) z table new) g (move-spread addAll one t s table v.words m h f.0 F) in
-      moves-spread addAll one ts (after t s) table (stepped addAll mesh t v) ms (after-sharding mesh sizes pos t s h f.0) f.1 (ap (shape_after mesh t) e ∙ g)
-      (subst (Faithful addAll mesh (after t s) (shape_of (after t s)) table) same spread)
+-- ---- the run of an accepted file
+
+module _ (file : List ℕ) (p : Plan) (e : judge file ≡ accept p) (work spare : List ℕ) where
+  -- what is left to judge, by the tests of the two buffers
+  abbrev pub judged : Bool → Bool → Judged Plan
+  judged b c = do
+    need b 30
+    need c 31
+    accept p
+
+  pub run_is : run_of file work spare ≡ run_leaves (judged (leb (room p) (length work)) (leb (room p) (length spare))) work spare
+  unfolding run_of runnable
+  run_is = ap (λ (j : Judged Plan). run_leaves (◌>>=◌ j (λ q. do
+    need (leb (room q) (length work)) 30
+    need (leb (room q) (length spare)) 31
+    accept q)) work spare) e
+
+  ended : (b c : Bool) → (run_leaves (judged b c) work spare).outcome ≡ accept tt → T b × T c
+  ended true true h = (tt, tt)
+  ended true false h = absurd (never h)
+  ended false c h = absurd (never h)
+
+  stopped : (b c : Bool) → ¬ (T b × T c) → ((run_leaves (judged b c) work spare).work ≡ work) × ((run_leaves (judged b c) work spare).spare ≡ spare)
+  stopped true true n = absurd (n (tt, tt))
+  stopped true false n = (refl, refl)
+  stopped false c n = (refl, refl)
+
+  -- a run whose buffers have the room leaves the last state
+  pub run_fits : Fits p work spare → run_of file work spare ≡ run_leaves (accept p) work spare
+  run_fits (f, g) =
+      run_is ∙ ap₂ (λ (b c : Bool). run_leaves (judged b c) work spare) (T→true (leb (room p) (length work)) (le→leb (room p) (length work) f))
+      (T→true (leb (room p) (length spare)) (le→leb (room p) (length spare) g))
+
+  pub run_ends : ((run_of file work spare).outcome ≡ accept tt) ↔ Fits p work spare
+  run_ends = (
+    (λ h. let t : T (leb (room p) (length work)) × T (leb (room p) (length spare)) =
+        ended (leb (room p) (length work)) (leb (room p) (length spare)) (sym (ap (λ (r : Ran). r.outcome) run_is) ∙ h) in
+        (leb→le (room p) (length work) t.0, leb→le (room p) (length spare) t.1)),
+    λ f. ap (λ (r : Ran). r.outcome) (run_fits f),
+  )
+
+  run-stops : ¬ Fits p work spare → ((run_of file work spare).work ≡ work) × ((run_of file work spare).spare ≡ spare)
+  run-stops n =
+      let s = stopped (leb (room p) (length work)) (leb (room p) (length spare)) (λ t. n (leb→le (room p) (length work) t.0, leb→le (room p) (length spare) t.1)) in
+      (ap (λ (r : Ran). r.work) run_is ∙ s.0, ap (λ (r : Ran). r.spare) run_is ∙ s.1)
 
 -- ---- demand 3
 
-abbrev pub last_words : Plan → List ℕ → StateOf ℕ
-last_words p work = last_words_by add_words 0 p work
+-- the shape and the words of the last state
+abbrev pub last_shape : Plan → List ℕ
+last_shape p = announced_shape p (length p.steps)
 
-all_take : {A : Type 0} {P : A → Type 0} (k : ℕ) (l : List A) → All P l → All P (take k l)
-all_take zero l h = done
-all_take (suc k) [] h = done
-all_take (suc k) (a ∷ l) (p & h) = p & all_take k l h
+abbrev pub last_words : Plan → List ℕ → StateOf ℕ
+last_words p work = (shards_after p work (length p.steps)).words
 
 module _ {p : Plan} (a : AcceptedPlan p) where
+  pub plan-shapes : (work : List ℕ) (k : ℕ) → (shards_after p work k).shape ≡ announced_shape p k
+  unfolding shards_after announced_shape announced
+  plan-shapes work k =
+      steps-shape p.mesh p.sizes a.within.sizes_pos add_words (take k p.steps) p.start _ a.start_is
+      (fine-take p.mesh p.sizes k p.start p.steps a.fine) refl
+
   pub plan-spreads : (table : List ℕ → ℕ) (work : List ℕ) → Words work → SpreadAt p table 0 (shards_after p work 0).words
       → (k : ℕ) → SpreadAt p (scaled (factor_after p k) table) k (shards_after p work k).words
-  unfolding shards_after_by announced_shape announced held_by factor_after
+  unfolding shards_after announced_shape announced held_by factor_after
   plan-spreads table work ws F k =
       steps-spread p.mesh p.sizes a.within.sizes_pos (take k p.steps) p.start table _ a.start_is
       (fine-take p.mesh p.sizes k p.start p.steps a.fine) refl (λ x i bx bi. ws _) F
-
-  plan-moves : {W : Type 0} (addAll : List W → W) (z : W) → ((b : W) → addAll (b ∷ []) ≡ b) → All Moving p.steps → (table : List ℕ → W) (work : List W)
-      → SpreadBy addAll p table 0 (shards_after_by addAll z p work 0).words → (k : ℕ) → SpreadBy addAll p table k (shards_after_by addAll z p work k).words
-  unfolding shards_after_by announced_shape announced
-  plan-moves addAll z one m table work F k =
-      moves-spread p.mesh p.sizes a.within.sizes_pos addAll one (take k p.steps) p.start table _ (all_take k p.steps m) a.start_is
-      (fine-take p.mesh p.sizes k p.start p.steps a.fine) refl F
 
   -- where every axis that an all-reduce names was unreduced just before its step; those of a reduce-scatter always were
   plan-factor-one : (k : ℕ)
@@ -228,7 +230,7 @@ module _ {p : Plan} (a : AcceptedPlan p) where
   -- 1 times a table that has a faithful spread is that table
   plan-times-one : (table : List ℕ → ℕ) (work : List ℕ) → Words work → SpreadAt p table 0 (shards_after p work 0).words
       → (k : ℕ) (w : StateOf ℕ) → SpreadAt p (scaled 1 table) k w → SpreadAt p table k w
-  unfolding shards_after_by announced_shape announced held_by
+  unfolding shards_after announced_shape announced held_by
   plan-times-one table work ws F k w G =
       let pos : (b : ℕ) → zero < get_or p.mesh b 1 = a.within.sizes_pos in
       let v : Varies p.mesh p.sizes p.start = varies p.mesh p.sizes p.start a.start_is in
@@ -237,31 +239,81 @@ module _ {p : Plan} (a : AcceptedPlan p) where
       (table-words (λ x i bx bi. ws _) F (sharding-cut p.mesh p.sizes pos p.start a.start_is) (distinct-split dims p.start.unreduced v.once).0
       (λ b i. v.of_mesh b (in_left b dims p.start.unreduced i)) (coords p.mesh 0) (below-coords p.mesh 0 a.within.devices_pos)) G
 
+  -- the buffer of the last state: its shape is the one announced last
+  pub last-buffer : (work : List ℕ) → last_state p work ≡ tabulate_by p.order p.mesh (last_shape p) (last_words p work)
+  unfolding last_state
+  last-buffer work = ap (λ (shape : List ℕ). tabulate_by p.order p.mesh shape (last_words p work)) (plan-shapes work (length p.steps))
+
+  pub last-length : (work : List ℕ) → length (last_state p work) ≡ devices p.mesh * product (last_shape p)
+  last-length work = ap length (last-buffer work) ∙ length-tabulate-by p.mesh p.order a.ordered (last_shape p) (last_words p work)
+
+  -- with no steps it is that of the words given
+  last-given : p.steps ≡ [] → (work : List ℕ) → room p ≤ length work → last_state p work ≡ take (start_words p) work
+  unfolding last_state shards_after
+  last-given none work f =
+      ap (λ (ts : List Step). tabulate_by p.order p.mesh (go ts).shape (go ts).words) (ap (λ (ts : List Step). take (length ts) ts) none)
+      ∙ tabulate-held-by p.mesh p.order a.ordered (announced_shape p 0) 0 work (omega (arith, (state a 0).fits (omega arith), f))
+    where
+      go : List Step → Shards ℕ
+      go ts = in_turn (stepped add_words p.mesh) ts (record { shape = announced_shape p 0; words = held_by 0 p.order p.mesh (announced_shape p 0) work })
+
+  module _ (work : List ℕ) where
+    begins : shards_after p work 0 ≡ record { shape = announced_shape p 0; words = held_by 0 p.order p.mesh (announced_shape p 0) work }
+    unfolding shards_after
+    begins = refl
+
+    pub in_order : (k : ℕ) (t : Step) (rest : List Step) → drop k p.steps ≡ t ∷ rest
+        → shards_after p work (k + 1) ≡ stepped add_words p.mesh t (shards_after p work k)
+    unfolding shards_after
+    in_order k t rest d = in-turn-next (stepped add_words p.mesh) k t p.steps rest _ d
+
+  -- what work begins with at the return
+  module _ (file : List ℕ) (e : judge file ≡ accept p) (work spare : List ℕ) (f : Fits p work spare) where
+    abbrev ran : Ran
+    ran = run_of file work spare
+
+    abbrev rest : List ℕ
+    rest = replicate (length work - length (last_state p work)) 0
+
+    pub work-left : ran.work ≡ last_state p work ++ rest
+    work-left = ap (λ (r : Ran). r.work) (run_fits file p e work spare f)
+
+    leaves : take (length (last_state p work)) ran.work ≡ last_state p work
+    leaves = ap (take (length (last_state p work))) work-left ∙ take-append_seam (last_state p work) rest
+
+    holds : (x i : List ℕ) → Below x p.mesh → Below i (last_shape p) → returned p ran x i ≡ last_words p work x i
+    holds x i bx bi =
+        ap (λ (b : List ℕ). held_by 0 p.order p.mesh (last_shape p) b x i) (work-left ∙ ap (λ (b : List ℕ). b ++ rest) (last-buffer work))
+        ∙ held-tabulate-by p.mesh p.order a.ordered (last_shape p) 0 (last_words p work) rest bx bi
+
+    stays : p.steps ≡ [] → take (start_words p) ran.work ≡ take (start_words p) work
+    stays none =
+        let l : start_words p ≤ length work = omega (arith, (state a 0).fits (omega arith), f.0) in
+        let g : last_state p work ≡ take (start_words p) work = last-given none work f.0 in
+        ap (take (start_words p)) work-left ∙ take_at (last_state p work) rest (start_words p) (ap length g ∙ length-take-le (start_words p) work l) ∙ g
+
 -- THE CLAIM OVER A WHOLE PLAN
 pub whole_plan : WholePlan
 whole_plan file p e work spare words =
     let a : AcceptedPlan p = accepted file p e in
-    let n : ℕ = length p.steps in
-    let back : Fits p work spare → (table : List ℕ → ℕ) → SpreadAt p table n (last_words p work) → SpreadAt p table n (returned p (run_of file work spare)) =
-    λ f table F. faithful-cong (λ x i bx bi. sym (holds a add_words 0 0 file e work spare f x i bx bi)) F in
     record {
-      words = whole_words add_words 0 0 file p e work spare;
+      ends = run_ends file p e work spare;
+      stops = run-stops file p e work spare;
+      shardings = λ k h. (state a k).sharding;
+      starts = begins a work;
+      in_order = in_order a work;
+      divides = λ k t rest d. subst (WithoutRemainder p.mesh t) (sym (plan-shapes a work k)) (next-divides a k t rest d);
+      shapes = λ k h. plan-shapes a work k;
+      leaves = leaves a file e work spare;
+      holds = holds a file e work spare;
+      stays = λ none f. stays a file e work spare f none;
       spreads = λ table F k h. plan-spreads a table work words F k;
-      returns = λ f table F. back f (scaled (factor_after p n) table) (plan-spreads a table work words F n);
+      returns = λ f table F.
+          faithful-cong (λ x i bx bi. sym (holds a file e work spare f x i bx bi)) (plan-spreads a table work words F (length p.steps));
       same_table = λ f table F one.
-          plan-times-one a table work words F n (returned p (run_of file work spare))
-          (back f (scaled 1 table) (subst (λ (c : ℕ). SpreadAt p (scaled c table) n (last_words p work)) one (plan-spreads a table work words F n)));
-    }
-
--- THE SAME OF WORDS OF ANY TYPE, FOR STEPS THAT ONLY MOVE THEM
-pub whole_plan_moves : WholePlanMoves
-whole_plan_moves W addAll z o one file p e work spare =
-    let a : AcceptedPlan p = accepted file p e in
-    record {
-      words = whole_words addAll z o file p e work spare;
-      spreads = λ m table F k h. plan-moves a addAll z one m table work F k;
-      returns = λ m f table F.
-          faithful-cong (λ x i bx bi. sym (holds a addAll z o file e work spare f x i bx bi)) (plan-moves a addAll z one m table work F (length p.steps));
+          plan-times-one a table work words F (length p.steps) (returned p (run_of file work spare))
+          (faithful-cong (λ x i bx bi. sym (holds a file e work spare f x i bx bi))
+          (subst (λ (c : ℕ). SpreadAt p (scaled c table) (length p.steps) (last_words p work)) one (plan-spreads a table work words F (length p.steps))));
     }
 
 pub factor_one : FactorOne
@@ -293,7 +345,7 @@ tabulate-words order mesh r shape w ws j = ⊎_elim
 
 -- Every table of words has a faithful spread under an accepted plan's start, in a buffer of any length that holds it.
 pub spreadable : Spreadable
-unfolding shards_after_by announced
+unfolding shards_after announced
 spreadable file p e table words len l =
     let a : AcceptedPlan p = accepted file p e in
     let shape : List ℕ = announced_shape p 0 in
@@ -314,26 +366,6 @@ pub startable : Startable
 startable file p e table words =
     let w = spreadable file p e table words (room p) ((state (accepted file p e) 0).fits (omega arith)) in
     (w.0, replicate (room p) 0, (omega (arith, w.1), omega (arith, length-replicate {A = ℕ} (room p) 0)), w.2, w.3)
-
--- Of words of any type, where no axis is unreduced at the start: each device holds its block of the table.
-pub spreadable_moves : SpreadableMoves
-unfolding shards_after_by announced members
-spreadable_moves W addAll z one file p e none table len l =
-    let a : AcceptedPlan p = accepted file p e in
-    let shape : List ℕ = announced_shape p 0 in
-    let dims : List (List ℕ) = p.start.dims in
-    let w : StateOf W = λ x i. table (from (first_indexes p.mesh dims shape x) i) in
-    let F : Faithful addAll p.mesh p.start shape table w = record {
-      same = λ x y i bx by bi g.
-          ap (λ (f : List ℕ). table (from f i)) (first-agree p.mesh dims shape x y (λ b u. g b (in_left b (flat dims) p.start.unreduced u)));
-      sums = λ x i bx bi. ap (λ (U : List ℕ). addAll (map (λ y. w y i) (members p.mesh U x))) none ∙ one _;
-    } in
-    let front : List W = tabulate_by p.order p.mesh shape w in
-    let rest : List W = replicate (len - start_words p) z in (
-      front ++ rest,
-      length-append front rest ∙ omega (arith, length-tabulate-by p.mesh p.order a.ordered shape w, length-replicate {A = W} (len - start_words p) z),
-      faithful-cong (λ x i bx bi. sym (held-tabulate-by p.mesh p.order a.ordered shape z w rest bx bi)) F,
-    )
 
 -- "Room is at most 67,108,864 words"
 pub room_limit : RoomLimit

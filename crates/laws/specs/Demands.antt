@@ -1,25 +1,12 @@
--- What the rules promise of themselves: demand 3 over an accepted plan's whole list of steps, that it speaks of something, that no run reads outside
--- its buffers, the room's limit, that the replicated list stays, what repeats come to, the numbers of refusals, the locality of one step, and what
--- groups and sums are. These are statements; proofs/Whole.antt, Outside.antt, Accepted.antt, Repeats.antt, Refusing.antt, Locality.antt, Groups.antt,
--- Sums.antt and Halves.antt prove them. Assumes nothing.
+-- What the rules promise of themselves: demand 3 over an accepted plan's whole list of steps, that it speaks of something, the room's limit, that the
+-- replicated list stays, what repeats come to, the numbers of refusals, the locality of one step, and what groups and sums of words are. These are
+-- statements; proofs/Whole.antt, Accepted.antt, Repeats.antt, Refusing.antt, Locality.antt, Groups.antt and Sums.antt prove them. Assumes nothing.
 use Rattle.std.specs.Prelude.{ℕ, ◌+◌, ◌*◌, ◌%◌, ◌≤◌, ◌<◌, ◌^◌, max, ◌≡◌, ◌↔◌, ◌⊎◌, Bool, List, [], ◌∷◌, ◌++◌, length, get_or, take, drop, replicate, T}
 use Rattle.rules.specs.Lists.{tab, flat, in_turn, product, total, In, Distinct, All, Below}
 use Rattle.rules.specs.Mesh.{devices, SameGroup, IsGroup}
 use Rattle.rules.specs.Spread.{StateOf, Faithful, add_words, held_by}
 use Rattle.rules.specs.Sharding.{Sharding, shard_sizes, IsSharding}
-use Rattle.rules.specs.Collectives.{
-  Step,
-  allSlice,
-  allGather,
-  all_reduce,
-  all_to_all,
-  reduce_scatter,
-  step_axes,
-  WithoutRemainder,
-  reduced,
-  stepped,
-  after,
-}
+use Rattle.rules.specs.Collectives.{Step, all_reduce, step_axes, WithoutRemainder, reduced, stepped, after}
 use Rattle.rules.specs.Limits.{most_run}
 use Rattle.rules.specs.Refusals.{accept, refuse}
 use Rattle.rules.specs.PlanFile.{
@@ -43,8 +30,7 @@ use Rattle.rules.specs.PlanFile.{
   room,
 }
 use Rattle.rules.specs.Factor.{scaled, factor_after}
-use Rattle.rules.specs.Floats.{half, sum_halves}
-use Rattle.rules.specs.Calls.{check_of, place_of, groups_of, groups_ordered_of, shards_after_by, last_state_by, Ran, run_of_by, shards_after, run_of}
+use Rattle.rules.specs.Calls.{check_of, place_of, groups_of, groups_ordered_of, shards_after, last_state, Ran, run_of}
 
 -- ---- demand 3
 
@@ -53,31 +39,25 @@ abbrev pub Words : List ℕ → Type 0
 Words buffer = (j : ℕ) → get_or buffer j 0 < 2 ^ 32
 
 -- neither buffer is shorter than the room that the check names
-abbrev pub Fits : {W : Type 0} → Plan → (work spare : List W) → Type 0
+abbrev pub Fits : Plan → (work spare : List ℕ) → Type 0
 Fits p work spare = (room p ≤ length work) × (room p ≤ length spare)
 
--- the state w is a faithful spread of the table under the sharding announced after k plain steps run; addAll is the sum of a group's words
-abbrev pub SpreadBy : {W : Type 0} → (List W → W) → Plan → (table : List ℕ → W) → ℕ → StateOf W → Type 0
-SpreadBy addAll p table k w = Faithful addAll p.mesh (announced p k) (announced_shape p k) table w
-
+-- the state w is a faithful spread of the table under the sharding announced after k plain steps run
 abbrev pub SpreadAt : Plan → (table : List ℕ → ℕ) → ℕ → StateOf ℕ → Type 0
-SpreadAt p table k w = SpreadBy add_words p table k w
+SpreadAt p table k w = Faithful add_words p.mesh (announced p k) (announced_shape p k) table w
 
--- the words that work begins with after a run, as a state in the shape announced last; z is read where work is too short
-abbrev pub returned_by : {W : Type 0} → W → Plan → Ran W → StateOf W
-returned_by z p ran = held_by z p.order p.mesh (announced_shape p (length p.steps)) ran.work
-
-abbrev pub returned : Plan → Ran ℕ → StateOf ℕ
-returned p ran = returned_by 0 p ran
+-- the words that work begins with after a run, as a state in the shape announced last
+abbrev pub returned : Plan → Ran → StateOf ℕ
+returned p ran = held_by 0 p.order p.mesh (announced_shape p (length p.steps)) ran.work
 
 -- the words of the start's state
 abbrev pub start_words : Plan → ℕ
 start_words p = devices p.mesh * product (announced_shape p 0)
 
--- Demand 3 but for what it says of a table, of a plan that the check passed, the words in two buffers, and what a run on them answers and leaves: one
--- claim over the whole list of steps in running order (02, Ask 11: "Demand 3 holds after every plain step run; its list is these steps in running
--- order."). It is the same for words of every type. `shards_after_by addAll z p work k` is what step k of them left.
-pub record Demand3Words {W : Type 0} (addAll : List W → W) (z : W) (p : Plan) (work spare : List W) (ran : Ran W) : Type 0 where
+-- Demand 3, of a plan that the check passed, the words in two buffers, and what a run on them answers and leaves: one claim over the whole list of
+-- steps in running order (02, Ask 11: "Demand 3 holds after every plain step run; its list is these steps in running order."). `shards_after p work k` is
+-- what step k of them left.
+pub record Demand3 (p : Plan) (work spare : List ℕ) (ran : Ran) : Type 0 where
   -- "the run reaches the end exactly when neither buffer is shorter than the room the check named"
   pub ends : (ran.outcome ≡ accept tt) ↔ Fits p work spare
   -- "a run that stops at a short buffer takes no step"
@@ -85,24 +65,20 @@ pub record Demand3Words {W : Type 0} (addAll : List W → W) (z : W) (p : Plan) 
   -- every announced sharding is one: no axis twice, and each dimension divides without remainder
   pub shardings : (k : ℕ) → k ≤ length p.steps → IsSharding p.mesh p.sizes (announced p k)
   -- "Before the first step each device has its shard from work, in the start's shard sizes."
-  pub starts : shards_after_by addAll z p work 0 ≡ record { shape = announced_shape p 0; words = held_by z p.order p.mesh (announced_shape p 0) work }
+  pub starts : shards_after p work 0 ≡ record { shape = announced_shape p 0; words = held_by 0 p.order p.mesh (announced_shape p 0) work }
   -- "Each later step is given the shards that the step before it left."
   pub in_order : (k : ℕ) (t : Step) (rest : List Step) → drop k p.steps ≡ t ∷ rest
-      → shards_after_by addAll z p work (k + 1) ≡ stepped addAll p.mesh t (shards_after_by addAll z p work k)
+      → shards_after p work (k + 1) ≡ stepped add_words p.mesh t (shards_after p work k)
   -- "All-slice divides each size, without remainder": of the shape that the step itself is given
-  pub divides : (k : ℕ) (t : Step) (rest : List Step) → drop k p.steps ≡ t ∷ rest → WithoutRemainder p.mesh t (shards_after_by addAll z p work k).shape
+  pub divides : (k : ℕ) (t : Step) (rest : List Step) → drop k p.steps ≡ t ∷ rest → WithoutRemainder p.mesh t (shards_after p work k).shape
   -- "Every step is given and leaves shards of exactly the announced shape."
-  pub shapes : (k : ℕ) → k ≤ length p.steps → (shards_after_by addAll z p work k).shape ≡ announced_shape p k
+  pub shapes : (k : ℕ) → k ≤ length p.steps → (shards_after p work k).shape ≡ announced_shape p k
   -- "At the return the work buffer begins with the words that the last step left, word for word as defined.": as a buffer, and as a state
-  pub leaves : Fits p work spare → take (length (last_state_by addAll z p work)) ran.work ≡ last_state_by addAll z p work
+  pub leaves : Fits p work spare → take (length (last_state p work)) ran.work ≡ last_state p work
   pub holds : Fits p work spare → (x i : List ℕ) → Below x p.mesh → Below i (announced_shape p (length p.steps))
-      → returned_by z p ran x i ≡ (shards_after_by addAll z p work (length p.steps)).words x i
+      → returned p ran x i ≡ (shards_after p work (length p.steps)).words x i
   -- "With no steps, the first D times m words stay as given."
   pub stays : p.steps ≡ [] → Fits p work spare → take (start_words p) ran.work ≡ take (start_words p) work
-
--- Demand 3, of 32-bit words
-pub record Demand3 (p : Plan) (work spare : List ℕ) (ran : Ran ℕ) : Type 0 where
-  pub words : Demand3Words add_words 0 p work spare ran
   -- "A faithful spread of a table at the start is", "after each step, and at the return of a run that reaches the end, .. a faithful spread, under the
   -- announced sharding, of the starting table multiplied, modulo 2^32, by one factor" (02, Ask 6)
   pub spreads : (table : List ℕ → ℕ) → SpreadAt p table 0 (shards_after p work 0).words
@@ -116,35 +92,6 @@ pub record Demand3 (p : Plan) (work spare : List ℕ) (ran : Ran ℕ) : Type 0 w
 -- "For any plan that the check passed, whatever its steps, and any two buffers": of 32-bit words
 abbrev pub WholePlan : Type 0
 WholePlan = (file : List ℕ) (p : Plan) → judge file ≡ accept p → (work spare : List ℕ) → Words work → Demand3 p work spare (run_of file work spare)
-
--- a step that only moves words: "no all-reduce and no reduce-scatter" (02, Ask 13)
-abbrev pub Moving : Step → Type 0
-Moving (allSlice Ss) = Unit {0}
-Moving (allGather Gs) = Unit {0}
-Moving (all_reduce L) = ⊥
-Moving (all_to_all source target L) = Unit {0}
-Moving (reduce_scatter Ss) = ⊥
-
--- Demand 3 of words whose sum depends on how it is taken: "Demand 3 is asked here only where no all-reduce and no reduce-scatter is in the plan and the
--- start has no unreduced axis." (02, Ask 13). Of the table it is said of every plan whose steps only move words, unreduced axes or not: the parts of
--- each sum stay as they are.
-pub record Demand3Moves {W : Type 0} (addAll : List W → W) (z : W) (p : Plan) (work spare : List W) (ran : Ran W) : Type 0 where
-  pub words : Demand3Words addAll z p work spare ran
-  pub spreads : All Moving p.steps → (table : List ℕ → W) → SpreadBy addAll p table 0 (shards_after_by addAll z p work 0).words
-      → (k : ℕ) → k ≤ length p.steps → SpreadBy addAll p table k (shards_after_by addAll z p work k).words
-  pub returns : All Moving p.steps → Fits p work spare → (table : List ℕ → W) → SpreadBy addAll p table 0 (shards_after_by addAll z p work 0).words
-      → SpreadBy addAll p table (length p.steps) (returned_by z p ran)
-
--- of words of every type, where the sum of one word is that word
-abbrev pub WholePlanMoves : Type 1
-WholePlanMoves =
-    (W : Type 0) (addAll : List W → W) (z o : W) → ((a : W) → addAll (a ∷ []) ≡ a)
-    → (file : List ℕ) (p : Plan) → judge file ≡ accept p → (work spare : List W) → Demand3Moves addAll z p work spare (run_of_by addAll z o file work spare)
-
--- Of any file and any buffers: no run reads outside its buffers, so what would be read there makes no difference.
-abbrev pub NothingOutside : Type 1
-NothingOutside =
-    (W : Type 0) (addAll : List W → W) (z y o : W) (file : List ℕ) (work spare : List W) → run_of_by addAll z o file work spare ≡ run_of_by addAll y o file work spare
 
 -- Where every axis that an all-reduce names in the first k plain steps was unreduced just before its step, the factor is 1; so "that same table" of document
 -- 01 is what demand 3 says of every plan that 01 accepts.
@@ -171,13 +118,6 @@ abbrev pub Startable : Type 0
 Startable =
     (file : List ℕ) (p : Plan) → judge file ≡ accept p → (table : List ℕ → ℕ) → ((i : List ℕ) → table i < 2 ^ 32)
     → (work spare : List ℕ) × Fits p work spare × Words work × SpreadAt p table 0 (shards_after p work 0).words
-
--- Demand 3 of words of any type speaks of something too: every table of them has such a buffer where the start has no unreduced axis.
-abbrev pub SpreadableMoves : Type 1
-SpreadableMoves =
-    (W : Type 0) (addAll : List W → W) (z : W) → ((a : W) → addAll (a ∷ []) ≡ a)
-    → (file : List ℕ) (p : Plan) → judge file ≡ accept p → p.start.unreduced ≡ [] → (table : List ℕ → W) → (len : ℕ) → start_words p ≤ len
-    → (work : List W) × (length work ≡ len) × SpreadBy addAll p table 0 (shards_after_by addAll z p work 0).words
 
 -- 02, Ask 12: "Room is at most 67,108,864 words"
 abbrev pub RoomLimit : Type 0
@@ -259,15 +199,13 @@ abbrev pub Numbered : (numbers : List ℕ) → (steps n k : ℕ) → Type 0
 Numbered numbers steps n k = (In n numbers × (k ≡ 0)) ⊎ (In n step_numbers × (1 ≤ k) × (k ≤ steps))
 
 -- the refusals of the calls, on any input
-pub record RefusalNumbers : Type 1 where
+pub record RefusalNumbers : Type 0 where
   pub check : (file : List ℕ) (n k : ℕ) → check_of file ≡ refuse n k → Numbered file_numbers (length file) n k
   pub place : (file : List ℕ) (state device n k : ℕ) → place_of file state device ≡ refuse n k → Numbered (32 ∷ 34 ∷ file_numbers) (length file) n k
   pub groups : (mesh axes out : List ℕ) (n k : ℕ) → groups_of mesh axes out ≡ refuse n k → Numbered (5 ∷ 10 ∷ 11 ∷ 14 ∷ 15 ∷ 33 ∷ []) 0 n k
   pub groups_ordered : (mesh order axes out : List ℕ) (n k : ℕ) → groups_ordered_of mesh order axes out ≡ refuse n k
       → Numbered (5 ∷ 10 ∷ 11 ∷ 19 ∷ 14 ∷ 15 ∷ 33 ∷ []) 0 n k
-  -- of words of every type
-  pub run : (W : Type 0) (addAll : List W → W) (z o : W) (file : List ℕ) (work spare : List W) (n k : ℕ)
-      → (run_of_by addAll z o file work spare).outcome ≡ refuse n k → Numbered (30 ∷ 31 ∷ file_numbers) (length file) n k
+  pub run : (file work spare : List ℕ) (n k : ℕ) → (run_of file work spare).outcome ≡ refuse n k → Numbered (30 ∷ 31 ∷ file_numbers) (length file) n k
 
 -- ---- one step, groups, sums
 
@@ -292,12 +230,3 @@ GroupByPosition =
 -- "the word_by_word sum, modulo 2^32"
 abbrev pub SumOfWords : Type 0
 SumOfWords = (l : List ℕ) → All (λ w. w < 2 ^ 32) l → add_words l ≡ total l % 2 ^ 32
-
--- "one word is itself, else the sum of the first half, the larger if uneven, plus the sum of the second" (02, Ask 13): of every list, whatever its words
--- and their addition
-pub record SumInHalves : Type 1 where
-  pub one : (W : Type 0) (plus : W → W → W) (z a : W) → sum_halves plus z (a ∷ []) ≡ a
-  pub more : (W : Type 0) (plus : W → W → W) (z : W) (ws : List W) → 1 < length ws
-      → sum_halves plus z ws ≡ plus (sum_halves plus z (take (half ws) ws)) (sum_halves plus z (drop (half ws) ws))
-  -- "the larger if uneven"
-  pub larger : (W : Type 0) (ws : List W) → (length (drop (half ws) ws) ≤ length (take (half ws) ws)) × (length (take (half ws) ws) ≤ length (drop (half ws) ws) + 1)

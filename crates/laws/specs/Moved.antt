@@ -7,7 +7,7 @@ use Rattle.rules.specs.Sharding.{Sharding}
 use Rattle.rules.specs.Collectives.{Step, allSlice, allGather, all_reduce, all_to_all, reduce_scatter, step_axes}
 use Rattle.rules.specs.Refusals.{accept, refuse}
 use Rattle.rules.specs.PlanFile.{StepsRead, steps_at, repeat_at, item_at, Plan, judge, announced_shape}
-use Rattle.rules.specs.Calls.{CheckAnswer, check_of, run_of_by}
+use Rattle.rules.specs.Calls.{CheckAnswer, check_of, run_of}
 use Rattle.rules.specs.Moved.{moved_by, added_on, moved_from, words_moved, charge_of, charge_from, most_moved}
 
 -- "D·m·(g-1)/g for all-to-all and reduce-scatter": this division leaves no remainder
@@ -44,9 +44,8 @@ BlocksCharged =
     → steps_at (item_at known mesh sizes file depth) (get_or file (at + 1) 0) (k + 1) (at + 2) s ≡ accept block
     → added_on (moved_from mesh sizes) s w.steps ≡ get_or file at 0 * added_on (moved_from mesh sizes) s block.steps
 
--- "The run's answer gains one number.": the check's, of every run that reaches the end; "A refused run moves nothing and says 0." Of words of every type.
-pub record OneNumber : Type 1 where
-  pub finished : (W : Type 0) (addAll : List W → W) (z o : W) (file : List ℕ) (work spare : List W) (c : CheckAnswer) → check_of file ≡ accept c
-      → (run_of_by addAll z o file work spare).outcome ≡ accept tt → (run_of_by addAll z o file work spare).moved ≡ c.moved
-  pub refused : (W : Type 0) (addAll : List W → W) (z o : W) (file : List ℕ) (work spare : List W) (n k : ℕ)
-      → (run_of_by addAll z o file work spare).outcome ≡ refuse n k → (run_of_by addAll z o file work spare).moved ≡ 0
+-- "The run's answer gains one number.": the check's, of every run that reaches the end; "A refused run moves nothing and says 0."
+pub record OneNumber : Type 0 where
+  pub finished : (file work spare : List ℕ) (c : CheckAnswer) → check_of file ≡ accept c → (run_of file work spare).outcome ≡ accept tt
+      → (run_of file work spare).moved ≡ c.moved
+  pub refused : (file work spare : List ℕ) (n k : ℕ) → (run_of file work spare).outcome ≡ refuse n k → (run_of file work spare).moved ≡ 0

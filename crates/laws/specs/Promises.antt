@@ -4,13 +4,10 @@ use Rattle.rules.specs.Lists.{All}
 use Rattle.laws.specs.Readers.{ReadersCompared, EarlierLimits, EarlierEditions, EarlierSteps}
 use Rattle.laws.specs.Demands.{
   WholePlan,
-  WholePlanMoves,
-  NothingOutside,
   FactorOne,
   TimesOne,
   Spreadable,
   Startable,
-  SpreadableMoves,
   RoomLimit,
   ReplicatedStays,
   ReducesJudged,
@@ -21,7 +18,6 @@ use Rattle.laws.specs.Demands.{
   Locality,
   GroupByPosition,
   SumOfWords,
-  SumInHalves,
 }
 use Rattle.laws.specs.Routes.{RoutesMeet, RoutesMeetUnreduced, TableDecides, EqualShardsSpread, GatherUndoesSlice, ThereAndBack}
 use Rattle.laws.specs.Meetings.{RoutesMet}
@@ -37,24 +33,18 @@ use Rattle.rules.specs.WorkedScatters.{scatters, ScattersRead}
 use Rattle.rules.specs.WorkedFactors.{factors, FactorsCounted}
 use Rattle.rules.specs.WorkedRoutes.{routes, RoutesCompared}
 use Rattle.rules.specs.WorkedMoves.{MovesCounted}
-use Rattle.rules.specs.Floats.{Trees, FloatSums}
-use Rattle.rules.specs.WorkedFloats.{FloatsRun}
 
--- Demand 3 for every plan that passes, of words, and of elements of any type; that no run reads outside its buffers; where its factor is 1 and what 1
--- times a table is, and that it speaks of something; two routes, one table; the room's limit; that the replicated list stays; when an all-reduce is 27;
--- what repeats come to; the numbers of refusals; what readers that take less answer; a step's locality; what a plan moves between devices; what a
--- group, a sum of words and a sum in halves are; the ledger W1 to W10, and cases beside it; a file or a call for each refusal number; groups, a
--- rearrangement and a spread on the smallest meshes; each limit from both sides; files of the later editions; files with repeats; files with
--- reduce-scatters; files that reduce replicated axes; pairs of routes; words moved; sums of floats, and runs on them.
+-- Demand 3 for every plan that passes, where its factor is 1 and what 1 times a table is, and that it speaks of something; two routes, one table; the
+-- room's limit; that the replicated list stays; when an all-reduce is 27; what repeats come to; the numbers of refusals; what readers that take less
+-- answer; a step's locality; what a plan moves between devices; what a group and a sum of words are; the ledger W1 to W10, and cases beside it; a file or
+-- a call for each refusal number; groups, a rearrangement and a spread on the smallest meshes; each limit from both sides; files of the later editions;
+-- files with repeats; files with reduce-scatters; files that reduce replicated axes; pairs of routes; words moved.
 pub record RulesPromise : Type 1 where
   pub whole_plan : WholePlan
-  pub whole_plan_moves : WholePlanMoves
-  pub nothing_outside : NothingOutside
   pub factor_one : FactorOne
   pub times_one : TimesOne
   pub spreadable : Spreadable
   pub startable : Startable
-  pub spreadable_moves : SpreadableMoves
   pub routes_meet : RoutesMeet
   pub routes_meet_unreduced : RoutesMeetUnreduced
   pub table_decides : TableDecides
@@ -79,7 +69,6 @@ pub record RulesPromise : Type 1 where
   pub one_number : OneNumber
   pub group_by_position : GroupByPosition
   pub sum_of_words : SumOfWords
-  pub sum_in_halves : SumInHalves
   pub worked : All Holds ledger
   pub beside : All Holds beside_it
   pub refused : All Holds refusals
@@ -101,6 +90,3 @@ pub record RulesPromise : Type 1 where
   pub routed : All Holds routes
   pub routes_compared : RoutesCompared
   pub moves_counted : MovesCounted
-  pub trees : (W : Type 0) (plus : W → W → W) (z a b c d e f g : W) → Trees plus z a b c d e f g
-  pub float_sums : FloatSums
-  pub floats_run : FloatsRun

@@ -39,7 +39,7 @@ NoneUnreduced p = (last_sharding p).unreduced ≡ []
 
 -- "leave equal last states": the states are equal buffers, work begins with the same words after both runs, and where the two are as long as each other
 -- they are equal throughout
-pub record EqualEnds (p q : Plan) (work work' : List ℕ) (ran ran' : Ran ℕ) : Type 0 where
+pub record EqualEnds (p q : Plan) (work work' : List ℕ) (ran ran' : Ran) : Type 0 where
   pub states : last_state p work ≡ last_state q work'
   pub fronts : take (end_words p) ran.work ≡ take (end_words p) ran'.work
   pub buffers : length ran.work ≡ length ran'.work → ran.work ≡ ran'.work
@@ -103,7 +103,7 @@ GatherUndoesSlice =
     → drop k p.steps ≡ allSlice Ss ∷ allGather Ss ∷ rest → (work : List ℕ) → GivesBack p work k
 
 -- "run to the end, gives back the sharding and, from a faithful spread, every word of the shards": of a plan that is these two steps
-pub record RunGivesBack (p : Plan) (work : List ℕ) (ran : Ran ℕ) : Type 0 where
+pub record RunGivesBack (p : Plan) (work : List ℕ) (ran : Ran) : Type 0 where
   pub sharding : last_sharding p ≡ p.start
   pub words : (table : List ℕ → ℕ) → SpreadAt p table 0 (shards_after p work 0).words → take (start_words p) ran.work ≡ take (start_words p) work
 

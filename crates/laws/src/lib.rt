@@ -1,1 +1,3 @@
 // What holds of the rules: statements in specs/, their proofs in proofs/. There is no code.
+
+#![tactic(auto)]

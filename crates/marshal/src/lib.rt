@@ -1,4 +1,6 @@
 // Shardings and steps in C's structs, out and in, for the boundary (crates/capi). What each stands for is defined in specs/Structs.antt.
+#![tactic(auto)]
+
 ghost use Rattle.std.specs.Prelude.{◌≡◌, ◌≤◌, ◌<◌, ◌*◌, length, get_or};
 ghost use Rattle.rules.specs.Lists.{tab};
 ghost use Rattle.rules.specs.Limits.{most_axes, most_dims};
@@ -20,7 +22,7 @@ const STEP_PLACES: usize = STEP_LISTS * Axis::MOST;
 
 // C's ishkrela_sharding: how many axes each list has, and the axes of each in six places.
 #[repr(C)]
-#[derive(Drop)]
+#[derive(Clone, Copy)]
 pub struct ShardingReply {
     pub counts: [u8; LISTS],
     pub axes: [u8; PLACES],
@@ -28,7 +30,7 @@ pub struct ShardingReply {
 
 // C's ishkrela_step: a step record.
 #[repr(C)]
-#[derive(Drop)]
+#[derive(Clone, Copy)]
 pub struct StepReply {
     pub kind: u8,
     pub source: u8,

@@ -1,6 +1,8 @@
 // Sizes, strides, coordinates, positions and spans on a mesh that is given by its axis sizes. A device is given by its place on the mesh, the
 // row-major number of its coordinates.
 // What each function answers is a definition of rules/specs/Mesh.antt; specs/Fitting.antt has what they ask for.
+#![tactic(auto)]
+
 ghost use Rattle.std.specs.Prelude.{◌≡◌, get_or, drop};
 ghost use Rattle.rules.specs.Lists.{product as product_of};
 ghost use Rattle.rules.specs.Mesh.{coords, span, position};

@@ -2,11 +2,10 @@
 -- (`digits_are`), and that the copy is then one that the code can do, and leaves the step's words (`copy-asked`, `copy-leaves`). Assumes nothing.
 use Prim.Native.Nat.{ℕ, zero, suc, ◌+◌, ◌*◌, ◌≤◌, ◌<◌}
 use mathlib.Core.Path.{◌≡◌, refl, sym, ap, ◌∙◌}
-use mathlib.Core.List.{List, [], ◌∷◌, ◌++◌}
+use mathlib.Core.List.{List, [], ◌∷◌}
 use native.Mathlib.Nat.{mul_comm, mul-le-mul, mul-le-mul_right, le-mul_of_pos_right}
 use native.Mathlib.Omega.{arith}
-use lib.ListN.{length, get_or, set, take, drop, replicate, length-append, length-replicate}
-use lib.Seq.{take-take, length-take-le}
+use lib.ListN.{length, get_or, set, drop, replicate, length-replicate}
 use Rattle.rules.specs.Lists.{flat, product}
 use Rattle.rules.specs.Spread.{from}
 use Rattle.laws.proofs.Lists.{few-distinct}
@@ -16,7 +15,7 @@ use Rattle.mesh.specs.Fitting.{Factors}
 use Rattle.mesh.proofs.Sizes.{fit-sizes}
 use Rattle.digits.specs.Digits.{most_room, mesh_strides, cleared, mesh_digits, Devices}
 use Rattle.digits.proofs.Strides.{pos-left, strides-length, cleared-length}
-use Rattle.moves.specs.Moves.{moved_first, left, first_strides, slice_strides, device_strides, step_digits, Moving, Along, Reading, Adding, Dimensions, DimensionsAt, Setting}
+use Rattle.moves.specs.Moves.{moved_first, left, first_strides, device_strides, step_digits, Moving, Along, Reading, Adding, Dimensions, DimensionsAt, Setting}
 use Rattle.moves.proofs.Leads.{Step, shard-length, counted-dims, left-length, device-length, copy-ok, copied_is}
 
 -- ---- strides are small
@@ -99,7 +98,7 @@ module _ {digits strides added mesh shape L : List ℕ} {Gs Ss : List (List ℕ)
     none = λ k. ap (λ (l : List ℕ). get_or l k 0) t.none ∙ zeros-at (length mesh) k;
   }
 
-  module _ {digits' strides' added' : List ℕ} {end count w : ℕ} (d : DimensionsAt mesh shape Gs Ss digits Z added digits' strides' added' end count w 0) where
+  module _ {digits' strides' added' : List ℕ} {end count w : ℕ} (d : DimensionsAt mesh shape Gs Ss Z added digits' strides' added' end count w 0) where
     strides-length-of : length strides' ≡ length mesh
     strides-length-of = ap length d.strides_are ∙ left-length Gs Z ∙ read_length
 
@@ -136,26 +135,10 @@ module _ {digits strides added mesh shape L : List ℕ} {Gs Ss : List (List ℕ)
           few = rw t.words_are (mul-le-mul t.step.on.devices_few t.step.new_few);
         }
 
-    -- the digits and the strides are those of the step
-    module _ {strides'' : List ℕ} (e : strides'' ≡ from strides' added') where
-      pub strides_are : strides'' ≡ device_strides mesh shape L Gs Ss
-      strides_are = e ∙ rw (d.strides_are, d.added_are, t.none)
-
-      pub digits_are : {digits'' : List ℕ} (first : ℕ) → first ≤ end → digits'' ≡ take first digits' ++ mesh_digits mesh strides'' (drop end digits')
-          → digits'' ≡ take first digits ++ step_digits mesh shape L Gs Ss
-      digits_are {digits''} first h g =
-          let front : take first digits' ≡ take first digits =
-          sym (take-take first end digits' h) ∙ ap (take first) d.before ∙ take-take first end digits h in
-          g ∙ rw (front, strides_are, d.made)
-
-    pub added_are : added' ≡ slice_strides mesh shape Ss
-    added_are = d.added_are ∙ rw t.none
-
-  -- where they begin
-  pub begin-at : (digits'' : List ℕ) (first : ℕ) → first ≤ length digits → digits'' ≡ take first digits ++ step_digits mesh shape L Gs Ss
-      → length digits'' ≡ length digits → first + length (step_digits mesh shape L Gs Ss) ≡ length digits
-  begin-at digits'' first h e n =
-      omega (arith, sym (ap length e ∙ length-append (take first digits) (step_digits mesh shape L Gs Ss)), length-take-le first digits h, n)
+    -- the digits are those of the step
+    pub digits_are : (digits'' : List ℕ) (first : ℕ) → drop first digits'' ≡ mesh_digits mesh (from strides' added') (drop end digits')
+        → drop first digits'' ≡ step_digits mesh shape L Gs Ss
+    digits_are digits'' first e = e ∙ (rw (d.made, d.strides_are, d.added_are, t.none))
 
   -- ---- the copy
 

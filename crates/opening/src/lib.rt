@@ -1,5 +1,7 @@
 // What stands before the steps of a plan file: header, mesh, table and starting sharding, read and judged.
 // Order and numbers are those of rules/specs/PlanFile.antt (judge_front); specs/Opening.antt says what the answer stands for.
+#![tactic(auto)]
+
 ghost use Rattle.std.specs.Prelude.{◌≡◌, List, ℕ};
 ghost use Rattle.types.specs.Answers.{refused_with};
 ghost use Rattle.rules.specs.PlanFile.{one_meaning};
@@ -12,7 +14,7 @@ use start::{Verdict, judge_start, refusal_of, refused};
 use types::{AxisList, Mesh, Reason, Refusal, Sharding, Table};
 
 // What stands before the steps, and where they begin.
-#[derive(Drop)]
+#[derive(Clone, Copy)]
 pub struct Opening {
     pub next: Next,
     pub devices: usize,
@@ -53,7 +55,7 @@ fn one_meaning(edition: usize, replicated: AxisList) -> bool
 }
 
 // The starting sharding of a file: 14 to 17, then 18.
-pub fn judge_opening(start: Sharding, mesh: Mesh, table: Table, edition: usize) -> Verdict
+fn judge_opening(start: Sharding, mesh: Mesh, table: Table, edition: usize) -> Verdict
     requires { WithinPlaces mesh table }
     ensures { meaning result ≡ judge_opening edition (mesh_of mesh) (sizes_of table) (sharding_of table.rank start) }
 {

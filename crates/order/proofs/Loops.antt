@@ -1,10 +1,9 @@
 -- The loops along an order, turn by turn. What is asked of the whole list is what is asked of the rest of it (`Finding`, `Plain`, `Marked`); then
--- the places written so far (`Inverted`), numbers looked up (`looked-up`), one shard word by word (`shard-words`) and all of them (`shards-placed`).
--- Assumes nothing.
+-- the places written so far (`Inverted`), numbers looked up (`looked-up`), one shard word by word (`shard-words`). Assumes nothing.
 use Prim.Native.Nat.{ℕ, ◌+◌, ◌-◌, ◌*◌, ◌/◌, ◌%◌, ◌<◌, ◌≤◌}
 use mathlib.Core.Path.{◌≡◌, refl, sym, ap, ap₂, ◌∙◌, subst}
 use mathlib.Core.Bool.{Bool, true, false, not, ◌&&◌, ◌||◌}
-use mathlib.Core.List.{List, [], ◌∷◌, ◌++◌, map}
+use mathlib.Core.List.{List, [], ◌∷◌, map}
 use native.Mathlib.Numerals.{add-one}
 use native.Mathlib.Decide.{ℕ_discrete}
 use native.Mathlib.Omega.{arith}
@@ -17,9 +16,9 @@ use Rattle.rules.specs.Lists.{tab, pick, mem}
 use Rattle.rules.specs.Mesh.{plain_order, place_in, Rearrangement}
 use Rattle.rules.specs.PlanFile.{all_below, fresh, same, rearranges, order_allowed}
 use Rattle.laws.proofs.Lists.{length-tab, getD-tab, map-tab, tab-cong}
-use Rattle.laws.proofs.Fronts.{Filled, whole-tab, part-tab, part_cut}
+use Rattle.laws.proofs.Fronts.{whole-tab, part-tab, part_cut}
 use Rattle.laws.proofs.Orders.{rearranged, place-below, listed_at}
-use Rattle.order.specs.Order.{places_of, words_by_place}
+use Rattle.order.specs.Order.{places_of}
 
 -- the entry at i, and what follows it
 next-at : (l : List ℕ) (i : ℕ) → i < length l → drop i l ≡ get_or l i 0 ∷ drop (i + 1) l
@@ -193,11 +192,3 @@ shard-words z from order i m h =
     ap (λ (k : ℕ). take k (drop at from)) (part_cut at m) ∙ part-tab z from at m h
     ∙ tab-cong m (λ o. get_or from (at + o) z) (λ o. get_or from (get_or order ((i * m + o) / m) 0 * m + (i * m + o) % m) z)
     (λ o g. rw (digits_div i g, digits_mod i g) refl)
-
--- all shards are in their places
-pub shards-placed : {W : Type 0} (z : W) (from to : List W) (order : List ℕ) (i m : ℕ) {new : List W}
-    → Filled (λ t. get_or from (get_or order (t / m) 0 * m + t % m) z) to new (i * m) → i ≡ length order
-    → new ≡ words_by_place z order m from ++ drop (length order * m) to
-unfolding words_by_place
-shards-placed z from to order i m g e =
-    g.front ∙ ap (λ (n : ℕ). tab (n * m) (λ t. get_or from (get_or order (t / m) 0 * m + t % m) z) ++ drop (n * m) to) e

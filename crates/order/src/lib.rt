@@ -1,6 +1,8 @@
 // An order of devices: the device number at each place, the row-major number of coordinates. Its tests, its inverse, and what goes by it: listed
 // places that become device numbers, and shards that are put in their places.
 // rules/specs/Mesh.antt and PlanFile.antt say what an order is, specs/Order.antt what the functions ask for and leave.
+#![tactic(auto)]
+
 ghost use Rattle.std.specs.Prelude.{◌≡◌, map, ◌++◌, ◌*◌, ◌≤◌, length, get_or, drop};
 ghost use Rattle.rules.specs.Limits.{most_devices};
 ghost use Rattle.rules.specs.Mesh.{plain_order, place_in, Rearrangement};

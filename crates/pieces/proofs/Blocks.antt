@@ -1,4 +1,4 @@
--- Repeats that are open, in four places: one more (`opened`), one less (`left_open`), all of them (`all-open`). An outermost step that is done (`Outermost`), and the innermost block
+-- Repeats that are open, in four places: one more (`opened`), one less (`left_open`). An outermost step that is done (`Outermost`), and the innermost block
 -- that is read (`Innermost`): what follows, test by test. Assumes nothing.
 use Prim.Native.Nat.{ℕ, zero, suc, ◌+◌, ◌-◌, ◌*◌, ◌≤◌, ◌<◌}
 use mathlib.Core.Path.{◌≡◌, refl, sym, ap, ap₂, ◌∙◌, subst}
@@ -10,7 +10,6 @@ use borrow.Author.Tests.{le-leb, lt-leb}
 use lib.ListN.{take}
 use lib.Dec.{leb}
 use Rattle.rules.specs.Limits.{most_run}
-use Rattle.rules.specs.Moved.{most_moved}
 use Rattle.rules.specs.Refusals.{accept, refuse, ◌>>◌, need_at}
 use Rattle.rules.specs.PlanFile.{same_sharding}
 use Rattle.types.specs.Types.{sharding_of}
@@ -38,14 +37,6 @@ left_open a b c d e (suc (suc (suc zero))) h l = refl
 left_open a b c d e (suc (suc (suc (suc zero)))) h l = refl
 left_open a b c d e (suc (suc (suc (suc (suc n))))) h l = absurd (omega arith)
 
-pub all-open : {A : Type 0} (a b c d : A) (n : ℕ) → 4 < n → a ∷ b ∷ c ∷ d ∷ [] ≡ take n (a ∷ b ∷ c ∷ d ∷ [])
-all-open a b c d zero l = absurd (omega arith)
-all-open a b c d (suc zero) l = absurd (omega arith)
-all-open a b c d (suc (suc zero)) l = absurd (omega arith)
-all-open a b c d (suc (suc (suc zero))) l = absurd (omega arith)
-all-open a b c d (suc (suc (suc (suc zero)))) l = absurd (omega arith)
-all-open a b c d (suc (suc (suc (suc (suc n))))) l = refl
-
 -- ---- an outermost step is done
 
 module _ (q : Standing) (outer : q.frames.depth ≡ 0) (mesh sizes : List ℕ) (rank k left : ℕ) where
@@ -54,37 +45,35 @@ module _ (q : Standing) (outer : q.frames.depth ≡ 0) (mesh sizes : List ℕ) (
       ap (λ (n : ℕ). take n (frame_of rank q.frames.first ∷ frame_of rank q.frames.second ∷ frame_of rank q.frames.third ∷ frame_of rank q.frames.fourth ∷ [])) outer
 
   done : step_done mesh sizes rank q k left
-      ≡ ◌>>◌ (need_at k (leb q.ran most_run) 43) (accept (units.outermost mesh sizes left q.ran q.moved q.number q.largest (sharding_of rank q.sharding)))
+      ≡ ◌>>◌ (need_at k (leb q.ran most_run) 43) (accept (units.outermost mesh sizes left q.ran q.number q.largest (sharding_of rank q.sharding)))
   unfolding units.after_step
-  done = ap (λ (fs : List units.Frame). units.after_step mesh sizes q.number q.largest (sharding_of rank q.sharding) fs k left q.ran q.moved) no_frames
+  done = ap (λ (fs : List units.Frame). units.after_step mesh sizes q.number q.largest (sharding_of rank q.sharding) fs k left q.ran) no_frames
 
   pub over : most_run < q.ran → refuse 43 k ≡ step_done mesh sizes rank q k left
   over l = sym (done ∙ rw (lt-leb q.ran most_run l) refl)
 
   module _ (few : q.ran ≤ most_run) where
-    passed : step_done mesh sizes rank q k left ≡ accept (units.outermost mesh sizes left q.ran q.moved q.number q.largest (sharding_of rank q.sharding))
+    passed : step_done mesh sizes rank q k left ≡ accept (units.outermost mesh sizes left q.ran q.number q.largest (sharding_of rank q.sharding))
     passed = done ∙ rw (le-leb q.ran most_run few) refl
 
-    pub all_done : left ≡ 0 → accept (units.at_end mesh sizes q.largest q.moved (sharding_of rank q.sharding)) ≡ step_done mesh sizes rank q k left
-    all_done e = sym (passed ∙ ap (λ (n : ℕ). accept (units.outermost mesh sizes n q.ran q.moved q.number q.largest (sharding_of rank q.sharding))) e)
+    pub all_done : left ≡ 0 → accept (units.at_end mesh sizes q.largest (sharding_of rank q.sharding)) ≡ step_done mesh sizes rank q k left
+    all_done e = sym (passed ∙ ap (λ (n : ℕ). accept (units.outermost mesh sizes n q.ran q.number q.largest (sharding_of rank q.sharding))) e)
 
     pub next-outer : left ≢ 0 → accept (units.in_steps mesh sizes (record {
       frames = frames_of rank q.frames;
       behind = left - 1;
       ran = q.ran;
-      moved = q.moved;
       number = q.number;
       largest = q.largest;
       sharding = sharding_of rank q.sharding;
     })) ≡ step_done mesh sizes rank q k left
     next-outer n =
         let e : left ≡ suc (left - 1) = omega (arith, n) in
-        sym (passed ∙ ap (λ (n : ℕ). accept (units.outermost mesh sizes n q.ran q.moved q.number q.largest (sharding_of rank q.sharding))) e
+        sym (passed ∙ ap (λ (n : ℕ). accept (units.outermost mesh sizes n q.ran q.number q.largest (sharding_of rank q.sharding))) e
         ∙ ap (λ (fs : List units.Frame). accept (units.in_steps mesh sizes (record {
           frames = fs;
           behind = left - 1;
           ran = q.ran;
-          moved = q.moved;
           number = q.number;
           largest = q.largest;
           sharding = sharding_of rank q.sharding;
@@ -101,9 +90,9 @@ module _ (rank : ℕ) (q : Standing) (fs : List units.Frame) (inner : frames_of 
 
   closing : (mesh sizes : List ℕ) (k : ℕ) → step_done mesh sizes rank q k 0
       ≡ ◌>>◌ (need_at f.number same 41) (◌>>◌ (need_at f.number (leb (f.count * q.ran) most_run) 43)
-      (units.after_step mesh sizes q.number q.largest (sharding_of rank q.sharding) fs f.number f.behind (f.ran + f.count * q.ran) (f.moved + f.count * q.moved)))
+      (units.after_step mesh sizes q.number q.largest (sharding_of rank q.sharding) fs f.number f.behind (f.ran + f.count * q.ran)))
   unfolding units.after_step
-  closing mesh sizes k = ap (λ (l : List units.Frame). units.after_step mesh sizes q.number q.largest (sharding_of rank q.sharding) l k 0 q.ran q.moved) inner
+  closing mesh sizes k = ap (λ (l : List units.Frame). units.after_step mesh sizes q.number q.largest (sharding_of rank q.sharding) l k 0 q.ran) inner
 
   pub changed : same ≡ false → (mesh sizes : List ℕ) (k : ℕ) → step_done mesh sizes rank q k 0 ≡ refuse 41 f.number
   changed e mesh sizes k = closing mesh sizes k ∙ rw e refl
@@ -113,14 +102,14 @@ module _ (rank : ℕ) (q : Standing) (fs : List units.Frame) (inner : frames_of 
     too_many l mesh sizes k = closing mesh sizes k ∙ rw (e, lt-leb (f.count * q.ran) most_run l) refl
 
     pub closes : f.count * q.ran ≤ most_run → (mesh sizes : List ℕ) (k : ℕ) → step_done mesh sizes rank q k 0
-        ≡ units.after_step mesh sizes q.number q.largest (sharding_of rank q.sharding) fs f.number f.behind (f.ran + f.count * q.ran) (f.moved + f.count * q.moved)
+        ≡ units.after_step mesh sizes q.number q.largest (sharding_of rank q.sharding) fs f.number f.behind (f.ran + f.count * q.ran)
     closes l mesh sizes k = closing mesh sizes k ∙ rw (e, le-leb (f.count * q.ran) most_run l) refl
 
-  pub framed-first : Closes rank q → (f.number < q.number) × (f.ran ≤ f.number * most_run) × (f.moved ≤ f.ran * most_moved) × Framed f.number fs
+  pub framed-first : Closes rank q → (f.number < q.number) × (f.ran ≤ f.number * most_run) × Framed f.number fs
   framed-first c = subst (Framed q.number) inner c.framed
 
   pub framed-rest : Closes rank q → Framed q.number fs
-  framed-rest c = let g = framed-first c in framed-more f.number q.number fs (omega (arith, g.0)) g.3
+  framed-rest c = let g = framed-first c in framed-more f.number q.number fs (omega (arith, g.0)) g.2
 
 -- the frames around the first
 abbrev pub around_first : (rank : ℕ) → Standing → List units.Frame
@@ -145,7 +134,6 @@ module _ {rank : ℕ} {q₀ : Standing} {k₀ left₀ : ℕ} {q : Standing} {k l
       frames = frames_of rank q.frames;
       behind = left - 1;
       ran = q.ran;
-      moved = q.moved;
       number = q.number;
       largest = q.largest;
       sharding = sharding_of rank q.sharding;
@@ -155,12 +143,11 @@ module _ {rank : ℕ} {q₀ : Standing} {k₀ left₀ : ℕ} {q : Standing} {k l
         let e : left ≡ suc (left - 1) = omega (arith, n) in
         let f = first_is rank q g.closes inner in
         sym (g.same mesh sizes
-        ∙ ap₂ (λ (l : ℕ) (fs : List units.Frame). units.after_step mesh sizes q.number q.largest (sharding_of rank q.sharding) fs k l q.ran q.moved) e f
+        ∙ ap₂ (λ (l : ℕ) (fs : List units.Frame). units.after_step mesh sizes q.number q.largest (sharding_of rank q.sharding) fs k l q.ran) e f
         ∙ ap (λ (fs : List units.Frame). accept (units.in_steps mesh sizes (record {
           frames = fs;
           behind = left - 1;
           ran = q.ran;
-          moved = q.moved;
           number = q.number;
           largest = q.largest;
           sharding = sharding_of rank q.sharding;

@@ -12,7 +12,6 @@ use Rattle.rules.specs.PlanFile.{step_at}
 use Rattle.types.specs.Types.{mesh_of, sizes_of}
 use Rattle.types.specs.declared.Mesh.{Mesh}
 use Rattle.types.specs.declared.Table.{Table}
-use Rattle.taking.specs.declared.Extent.{Extent}
 use Rattle.units.specs.Units as units
 use Rattle.pieces.specs.declared.Frames.{Frames}
 use Rattle.pieces.specs.declared.Standing.{Standing}
@@ -26,7 +25,7 @@ module _ {A : Type 0} (j : Judged A) (more : units.Waiting) (then : A → Judged
   tried-on e = sym (ap (λ (x : Judged A). units.tried x more then) e)
 
 -- a step is read by the lengths of mesh and table
-pub read_by : {mesh : Mesh} {table : Table} {extent : Extent} {q : Standing} (k : ℕ) (unit : List ℕ) → Goes mesh table extent q
+pub read_by : {mesh : Mesh} {table : Table} {total : ℕ} {q : Standing} (k : ℕ) (unit : List ℕ) → Goes mesh table total q
     → step_at (length (mesh_of mesh)) (length (sizes_of table)) k unit 0 ≡ step_at mesh.n table.rank k unit 0
 read_by k unit g = ap₂ (λ (n r : ℕ). step_at n r k unit 0) g.n_is g.rank_is
 

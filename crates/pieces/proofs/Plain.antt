@@ -1,22 +1,18 @@
 -- A plain step that is next, by its judgement: it stops (`plain-stops`) or goes on (`plain-on`), and what is asked of the sharding holds after it
--- (`ready-after`); the words that it moves are no more than a step may move (`charged-few`). Assumes nothing.
-use Prim.Native.Nat.{ℕ, ◌+◌, ◌≤◌, max}
+-- (`ready-after`). Assumes nothing.
+use Prim.Native.Nat.{ℕ, ◌+◌, max}
 use mathlib.Core.Path.{◌≡◌, refl, sym, subst}
 use mathlib.Core.List.{List}
 use Rattle.rules.specs.Sharding.{Sharding, IsSharding}
 use Rattle.rules.specs.Collectives.{Step}
 use Rattle.rules.specs.Refusals.{accept, refuse}
 use Rattle.rules.specs.PlanFile.{judge_step}
-use Rattle.rules.specs.Moved.{moved_from, most_moved}
 use Rattle.types.specs.Types.{sharding_of, mesh_of, sizes_of}
 use Rattle.types.specs.declared.Mesh.{Mesh}
 use Rattle.types.specs.declared.Sharding as code
 use Rattle.types.specs.declared.Table.{Table}
 use Rattle.laws.proofs.Steps.{facts, after-sharding}
-use Rattle.laws.proofs.Moved.{step-charged}
 use Rattle.judge.specs.Step.{Sharded}
-use Rattle.taking.specs.Charges.{Extends}
-use Rattle.taking.specs.declared.Extent.{Extent}
 use Rattle.blocks.specs.Blocks.{shard_words}
 use Rattle.units.specs.Units as units
 
@@ -27,7 +23,6 @@ module _ (mesh sizes : List ℕ) (q : units.Standing) (t : Step) where
 
   pub plain-on : {s : Sharding} → judge_step mesh sizes q.number t q.sharding ≡ accept s
       → units.after_step mesh sizes (q.number + 1) (max q.largest (shard_words mesh sizes s)) s q.frames q.number q.behind (q.ran + 1)
-      (q.moved + moved_from mesh sizes t q.sharding)
       ≡ units.after_plain mesh sizes q t
   unfolding units.after_plain
   plain-on e = sym (rw e refl)
@@ -41,11 +36,3 @@ ready-after {mesh} {table} {s} {r} k t h e =
       sound = subst (IsSharding (mesh_of mesh) (sizes_of table)) f.1
           (after-sharding (mesh_of mesh) (sizes_of table) h.fits.sized.least t (sharding_of table.rank s) h.sound f.0);
     }
-
--- the words that it moves
-pub charged-few : {mesh : Mesh} {table : Table} {extent : Extent} {s : code.Sharding} {r : Sharding} (k : ℕ) (t : Step) → Sharded mesh table s
-    → Extends extent mesh table → judge_step (mesh_of mesh) (sizes_of table) k t (sharding_of table.rank s) ≡ accept r
-    → moved_from (mesh_of mesh) (sizes_of table) t (sharding_of table.rank s) ≤ most_moved
-charged-few {mesh} {table} {s = s} {r} k t h x e =
-    let f = facts (mesh_of mesh) (sizes_of table) k t (sharding_of table.rank s) r e in
-    (step-charged (mesh_of mesh) (sizes_of table) x.within t (sharding_of table.rank s) h.sound f.0).most

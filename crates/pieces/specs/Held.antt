@@ -1,16 +1,13 @@
 -- What the types of the check in pieces (src/lib.rt) stand for in the definitions of crate units, and what its functions ask for. Assumes nothing.
 use Rattle.std.specs.Prelude.{ℕ, ◌+◌, ◌*◌, ◌≤◌, ◌<◌, ◌≡◌, Bool, List, [], ◌∷◌, length, take, eqb}
-use Rattle.rules.specs.Lists.{pick}
+use Rattle.rules.specs.Lists.{pick, product}
 use Rattle.rules.specs.Limits.{most_dims, most_run, most_depth, most_bytes}
 use Rattle.rules.specs.Refusals.{Judged, accept}
-use Rattle.rules.specs.Moved.{most_moved}
 use Rattle.types.specs.Answers.{number_of, refused_with}
 use Rattle.types.specs.Types.{sharding_of, mesh_of, sizes_of}
 use Rattle.types.specs.declared.Mesh.{Mesh}
 use Rattle.types.specs.declared.Table.{Table}
 use Rattle.judge.specs.Step.{Sharded}
-use Rattle.taking.specs.Charges.{Extends}
-use Rattle.taking.specs.declared.Extent.{Extent}
 use Rattle.units.specs.Units as units
 use Rattle.units.specs.Sound.{Framed}
 use Rattle.pieces.specs.declared.Frame.{Frame}
@@ -25,7 +22,7 @@ use Rattle.types.specs.declared.Refusal.{Refusal}
 
 -- a repeat that is open; those that are, innermost first, as many as the depth; where the steps stand
 abbrev pub frame_of : (rank : ℕ) → Frame → units.Frame
-frame_of rank f = record { number = f.number; count = f.count; behind = f.behind; ran = f.ran; moved = f.moved; sharding = sharding_of rank f.sharding }
+frame_of rank f = record { number = f.number; count = f.count; behind = f.behind; ran = f.ran; sharding = sharding_of rank f.sharding }
 
 abbrev pub frames_of : (rank : ℕ) → Frames → List units.Frame
 frames_of rank fs = take fs.depth (frame_of rank fs.first ∷ frame_of rank fs.second ∷ frame_of rank fs.third ∷ frame_of rank fs.fourth ∷ [])
@@ -35,7 +32,6 @@ standing_of rank q = record {
   frames = frames_of rank q.frames;
   behind = q.behind;
   ran = q.ran;
-  moved = q.moved;
   number = q.number;
   largest = q.largest;
   sharding = sharding_of rank q.sharding;
@@ -44,7 +40,7 @@ standing_of rank q = record {
 -- what comes after a step
 abbrev pub turn_as : (mesh sizes : List ℕ) → (rank : ℕ) → Turn → Standing → Judged units.Phase
 turn_as mesh sizes rank turn.Steps q = accept (units.in_steps mesh sizes (standing_of rank q))
-turn_as mesh sizes rank turn.End q = accept (units.at_end mesh sizes q.largest q.moved (sharding_of rank q.sharding))
+turn_as mesh sizes rank turn.End q = accept (units.at_end mesh sizes q.largest (sharding_of rank q.sharding))
 turn_as mesh sizes rank (turn.Stopped x) q = refused_with x
 
 abbrev pub stepped_as : (mesh sizes : List ℕ) → (rank : ℕ) → Stepped → Judged units.Phase
@@ -54,15 +50,13 @@ stepped_as mesh sizes rank r = turn_as mesh sizes rank r.turn r.standing
 pub record Closes (rank : ℕ) (q : Standing) : Type 0 where
   pub rank_few : rank ≤ most_dims
   pub deep : q.frames.depth ≤ most_depth
-  pub number_few : q.number ≤ most_bytes + 2
   pub ran_few : q.ran ≤ q.number * most_run
-  pub moved_few : q.moved ≤ q.ran * most_moved
   pub framed : Framed q.number (frames_of rank q.frames)
 
 -- the step with number k is done, and so many are left in its list
 abbrev pub step_done : (mesh sizes : List ℕ) → (rank : ℕ) → Standing → (k left : ℕ) → Judged units.Phase
 step_done mesh sizes rank q k left =
-    units.after_step mesh sizes q.number q.largest (sharding_of rank q.sharding) (frames_of rank q.frames) k left q.ran q.moved
+    units.after_step mesh sizes q.number q.largest (sharding_of rank q.sharding) (frames_of rank q.frames) k left q.ran
 
 -- the innermost block of q is closed: its repeat is done, and where the steps stand then is r; or the refusal
 abbrev pub ClosedTo : Turn → (rank : ℕ) → (q r : Standing) → Type 0
@@ -72,16 +66,15 @@ ClosedTo turn.Steps rank q r =
 ClosedTo turn.End rank q r = ⊥
 ClosedTo (turn.Stopped x) rank q r = (mesh sizes : List ℕ) (k : ℕ) → step_done mesh sizes rank q k 0 ≡ refused_with x
 
--- What is asked before a plain step: the sharding is one, the extent is that of the mesh and the table, and one number more does not overflow.
-pub record Goes (mesh : Mesh) (table : Table) (extent : Extent) (q : Standing) : Type 0 where
+-- What is asked before a plain step: the sharding is one, and one number more does not overflow.
+pub record Goes (mesh : Mesh) (table : Table) (total : ℕ) (q : Standing) : Type 0 where
   pub ready : Sharded mesh table q.sharding
   pub n_is : length (mesh_of mesh) ≡ mesh.n
   pub rank_is : length (sizes_of table) ≡ table.rank
-  pub extends : Extends extent mesh table
+  pub total_is : total ≡ product (sizes_of table)
   pub number_few : q.number ≤ most_bytes + 1
   pub deep : q.frames.depth ≤ most_depth
   pub ran_few : q.ran ≤ q.number * most_run
-  pub moved_few : q.moved ≤ q.ran * most_moved
   pub framed : Framed q.number (frames_of table.rank q.frames)
 
 -- ---- the bytes of a unit

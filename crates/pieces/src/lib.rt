@@ -1,5 +1,7 @@
 // The check of a plan file that comes in pieces. What is held after each byte, and answered at the end, are definitions of crate units
 // (specs/Units.antt); specs/Held.antt says what the types here stand for.
+#![tactic(auto)]
+
 ghost use Rattle.std.specs.Prelude.{◌≡◌, true, false, not, ◌&&◌, List, ◌∷◌, length, get_or, set, ltb, ℕ, ◌+◌, ◌≤◌, ◌<◌};
 ghost use Rattle.rules.specs.Limits.{most_devices, most_depth, least_bytes, most_bytes};
 ghost use Rattle.rules.specs.PlanFile.{is_repeat};
@@ -16,7 +18,7 @@ use judge::judge_step;
 use reader::{HeaderRead, Next, read_header, read_step};
 use reasons::number_of;
 use start::{Verdict, refusal_of};
-use taking::{Extent, charge_step, larger, shard_words};
+use taking::{larger, shard_words};
 use types::{Mesh, PlanFile, Reason, Refusal, Sharding, Step, Table};
 
 // A header in a file of so many bytes: 1 to 5. They are judged by the header's bytes and the length alone, so any file with these serves; here it is one
@@ -34,22 +36,19 @@ pub fn judge_header(head: &[u8], bytes: usize) -> HeaderRead
     read_header(&file[0..bytes])
 }
 
-// A repeat whose block is being read: its number, how often the block is run, how many steps of the list around it come behind it, how many plain ones
-// are run before it and how many words they move, and the sharding before it.
-#[repr(C)]
-#[derive(Drop)]
+// A repeat whose block is being read: its number, how often the block is run, how many steps of the list around it come behind it and how many plain
+// ones are run before it, and the sharding before it.
+#[derive(Clone, Copy)]
 pub struct Frame {
     pub number: u16,
     pub count: u8,
     pub behind: usize,
     pub ran: usize,
-    pub moved: u64,
     pub sharding: Sharding,
 }
 
 // The repeats that are open, innermost first: as many as the depth.
-#[repr(C)]
-#[derive(Drop)]
+#[derive(Clone, Copy)]
 pub struct Frames {
     pub depth: usize,
     pub first: Frame,
@@ -59,26 +58,6 @@ pub struct Frames {
 }
 
 impl Frames {
-    // The same repeats, with a depth that is no more than the places.
-    pub fn within(self) -> Frames
-        ensures { ((rank : ℕ) → frames_of rank result ≡ frames_of rank self) × (result.depth ≤ most_depth) }
-    {
-        if self.depth <= Step::MOST_DEPTH {
-            return self;
-        }
-        let first = self.first;
-        let second = self.second;
-        let third = self.third;
-        let fourth = self.fourth;
-        Frames {
-            depth: Step::MOST_DEPTH,
-            first,
-            second,
-            third,
-            fourth,
-        }
-    }
-
     // With one more, the innermost.
     pub fn with(self, frame: Frame) -> Frames
         requires { self.depth < most_depth }
@@ -116,41 +95,27 @@ impl Frames {
     }
 }
 
-// Where the steps stand: the repeats that are open; of the list that is being read, how many steps come behind the next one, how many plain ones are run
-// and how many words they move; the number of the next kind byte, the most words that a shard had, and the sharding.
-#[repr(C)]
-#[derive(Drop)]
+// Where the steps stand: the repeats that are open; of the list that is being read, how many steps come behind the next one and how many plain ones are
+// run; the number of the next kind byte, the most words that a shard had, and the sharding.
+#[derive(Clone, Copy)]
 pub struct Standing {
     pub frames: Frames,
     pub behind: usize,
     pub ran: usize,
-    pub moved: u64,
     pub number: u16,
     pub largest: usize,
     pub sharding: Sharding,
 }
 
-impl Standing {
-    // The same standing, with a depth that is no more than the places.
-    pub fn within(self) -> Standing
-        ensures { ((rank : ℕ) → standing_of rank result ≡ standing_of rank self) × (result.frames.depth ≤ most_depth) }
-    {
-        let frames = self.frames.within();
-        let mut next = self;
-        next.frames = frames;
-        next
-    }
-}
-
 // What comes after a step: another one, the file's end, or nothing that counts.
-#[derive(Drop)]
+#[derive(Clone, Copy)]
 pub enum Turn {
     Steps,
     End,
     Stopped(Refusal),
 }
 
-#[derive(Drop)]
+#[derive(Clone, Copy)]
 pub struct Stepped {
     pub turn: Turn,
     pub standing: Standing,
@@ -161,7 +126,6 @@ impl Stepped {
     fn stopped(reason: Reason, step: u16, standing: Standing) -> Stepped
         ensures { result ≡ record { turn = turn.Stopped (record { reason = reason; step = step }); standing = standing } }
     {
-        let step = step as usize;
         Stepped {
             turn: Turn::Stopped(Refusal { reason, step }),
             standing,
@@ -192,7 +156,7 @@ fn after_outermost(standing: Standing, k: u16, left: usize) -> Stepped
 }
 
 // The innermost block is read: "The sharding after the block must equal the one before it, .. else 41 at the repeat's number", then 43 for the repeat
-// alone. What it runs and moves counts in each of its rounds.
+// alone.
 fn close_block(standing: Standing, rank: usize) -> Stepped
     requires { Closes rank standing × (0 < standing.frames.depth) }
     ensures { ClosedTo result.turn rank standing result.standing }
@@ -205,13 +169,10 @@ fn close_block(standing: Standing, rank: usize) -> Stepped
     if Step::MOST_RUN < runs {
         return Stepped::stopped(Reason::TooManyRun, frame.number, standing);
     }
-    let times = frame.count as u64;
-    let words = times * standing.moved;
     let around = standing.frames.around();
     let mut next = standing;
     next.frames = around;
     next.ran = frame.ran + runs;
-    next.moved = frame.moved + words;
     Stepped {
         turn: Turn::Steps,
         standing: next,
@@ -247,20 +208,20 @@ pub fn after_step(standing: Standing, k: u16, left: usize, rank: usize) -> Stepp
     after_outermost(here, step, rest)
 }
 
-// A plain step that is next: it is judged, the words that it moves are counted, and what follows it.
+// A plain step that is next: it is judged, and what follows it. The table has so many words.
 pub fn after_plain(
     step: Step,
     standing: Standing,
     mesh: Mesh,
     table: Table,
-    extent: Extent,
+    total: usize,
 ) -> Stepped
-    requires { Goes mesh table extent standing }
+    requires { Goes mesh table total standing }
     ensures { stepped_as (mesh_of mesh) (sizes_of table) table.rank result
         ≡ after_plain (mesh_of mesh) (sizes_of table) (standing_of table.rank standing) (step_of table.rank step) }
 {
     let k = standing.number;
-    let judged = judge_step(step, k as usize, standing.sharding, mesh, table);
+    let judged = judge_step(step, k, standing.sharding, mesh, table);
     let verdict = judged.verdict;
     let Verdict::Fine = verdict else {
         return Stepped {
@@ -269,15 +230,13 @@ pub fn after_plain(
         };
     };
     let after = judged.sharding;
-    let moved = charge_step(step, extent, mesh, table, standing.sharding);
-    let words = shard_words(extent.words, mesh, table, after);
+    let words = shard_words(total, mesh, table, after);
     let most = larger(standing.largest, words);
     let mut next = standing;
     next.sharding = after;
     next.largest = most;
     next.number = k + 1;
     next.ran = standing.ran + 1;
-    next.moved = standing.moved + moved;
     after_step(next, k, standing.behind, table.rank)
 }
 
@@ -290,7 +249,6 @@ pub fn after_head(standing: Standing, count: u8, inner: u8) -> Standing
     let number = standing.number;
     let behind = standing.behind;
     let ran = standing.ran;
-    let moved = standing.moved;
     let largest = standing.largest;
     let sharding = standing.sharding;
     let frame = Frame {
@@ -298,7 +256,6 @@ pub fn after_head(standing: Standing, count: u8, inner: u8) -> Standing
         count,
         behind,
         ran,
-        moved,
         sharding,
     };
     let frames = standing.frames.with(frame);
@@ -307,7 +264,6 @@ pub fn after_head(standing: Standing, count: u8, inner: u8) -> Standing
         frames,
         behind: left - 1,
         ran: 0,
-        moved: 0,
         number: number + 1,
         largest,
         sharding,
@@ -315,7 +271,7 @@ pub fn after_head(standing: Standing, count: u8, inner: u8) -> Standing
 }
 
 // What the bytes of a unit that may be a step lead to: more of them are awaited, or what follows.
-#[derive(Drop)]
+#[derive(Clone, Copy)]
 pub struct FedStep {
     pub waits: bool,
     pub stepped: Stepped,
@@ -339,19 +295,18 @@ impl FedStep {
 }
 
 // The bytes of a plain step so far.
-fn feed_plain(unit: &[u8], standing: Standing, mesh: Mesh, table: Table, extent: Extent) -> FedStep
-    requires { Goes mesh table extent standing }
+fn feed_plain(unit: &[u8], standing: Standing, mesh: Mesh, table: Table, total: usize) -> FedStep
+    requires { Goes mesh table total standing }
     ensures { waiting_as (mesh_of mesh) (sizes_of table) table.rank unit.now result
         ≡ step_in false (mesh_of mesh) (sizes_of table) (standing_of table.rank standing) unit.now }
 {
-    let number = standing.number;
-    let read = read_step(unit, 0, mesh.n, table.rank, number as usize);
+    let read = read_step(unit, 0, mesh.n, table.rank, standing.number);
     let next = read.next;
     let Next::At(_) = next else {
         return FedStep::refused(next.refusal(), standing);
     };
     let step = read.step;
-    let stepped = after_plain(step, standing, mesh, table, extent);
+    let stepped = after_plain(step, standing, mesh, table, total);
     FedStep {
         waits: false,
         stepped,
@@ -365,8 +320,7 @@ fn feed_head(unit: &[u8], standing: Standing) -> FedStep
         ≡ step_in true mesh sizes (standing_of rank standing) unit.now }
 {
     let depth = Step::MOST_DEPTH - standing.frames.depth;
-    let number = standing.number;
-    let head = read_repeat(unit, 1, number as usize, depth);
+    let head = read_repeat(unit, 1, standing.number, depth);
     let RepeatRead::Of(count, inner) = head else {
         return FedStep::refused(head.refusal(), standing);
     };
@@ -381,25 +335,19 @@ fn feed_head(unit: &[u8], standing: Standing) -> FedStep
 }
 
 // The bytes of what stands at a kind byte so far, that byte included: a plain step, or the head of a repeat.
-pub fn feed_step(
-    unit: &[u8],
-    standing: Standing,
-    mesh: Mesh,
-    table: Table,
-    extent: Extent,
-) -> FedStep
-    requires { Goes mesh table extent standing × (0 < length unit.now) }
+pub fn feed_step(unit: &[u8], standing: Standing, mesh: Mesh, table: Table, total: usize) -> FedStep
+    requires { Goes mesh table total standing × (0 < length unit.now) }
     ensures { waiting_as (mesh_of mesh) (sizes_of table) table.rank unit.now result
         ≡ step_in (is_repeat unit.now 0) (mesh_of mesh) (sizes_of table) (standing_of table.rank standing) unit.now }
 {
     if is_repeat(unit, 0) {
         return feed_head(unit, standing);
     }
-    feed_plain(unit, standing, mesh, table, extent)
+    feed_plain(unit, standing, mesh, table, total)
 }
 
 // Device numbers of an order so far: how many, whether all are below D and none came twice, whether each is its own place.
-#[derive(Drop)]
+#[derive(Clone, Copy)]
 pub struct Numbers {
     pub count: usize,
     pub fine: bool,

@@ -1,5 +1,7 @@
 // The placement: a state's sharding and shard sizes, and a device's first indexes.
 // What it answers is defined in rules/specs/Calls.antt (placeOf); specs/Placing.antt has what the parts ask for.
+#![tactic(auto)]
+
 ghost use Rattle.std.specs.Prelude.{◌≡◌, ◌*◌, ◌≤◌, ◌<◌, take};
 ghost use Rattle.rules.specs.Mesh.{coords, place_in};
 ghost use Rattle.rules.specs.Sharding.{first_indexes};

@@ -1,5 +1,7 @@
 // The placement for a whole list of devices: the file is judged once, and the order of its devices is read once.
 // What it answers is defined in specs/PlaceAll.antt; specs/Placing.antt has what the parts ask for and leave.
+#![tactic(auto)]
+
 ghost use Rattle.std.specs.Prelude.{◌≡◌, ◌++◌, map, ◌*◌, ◌≤◌, length, get_or, drop, leb};
 ghost use Rattle.rules.specs.Lists.{flat};
 ghost use Rattle.rules.specs.Limits.{most_axes, most_devices, most_dims};
@@ -16,14 +18,14 @@ use plan::state_after;
 use reader::{Next, carries_order, read_order};
 use types::{Device, DimLists, PlanFile, Reason, Refusal, Table};
 
-#[derive(Drop)]
+#[derive(Clone, Copy)]
 pub enum PlaceAllOutcome {
     Placed,
     Refused(Refusal),
 }
 
 // Beside refusal 32 the place in the list, from 0, of the first device that is refused; beside every other outcome 0.
-#[derive(Drop)]
+#[derive(Clone, Copy)]
 pub struct PlacedAll {
     pub outcome: PlaceAllOutcome,
     pub place: usize,

@@ -1,5 +1,7 @@
 // The check of a plan file: its outermost steps in turn after what stands before them, and the answer.
 // Order and numbers are those of rules/specs/PlanFile.antt; specs/Parts.antt says what the parts answer.
+#![tactic(auto)]
+
 ghost use Rattle.std.specs.Prelude.{◌≡◌, List, ℕ, ◌≤◌, ◌<◌};
 ghost use Rattle.rules.specs.Refusals.{accept};
 ghost use Rattle.types.specs.Answers.{refused_with, checked_of};
@@ -16,7 +18,7 @@ use taking::{Extent, shard_words};
 use types::{CheckOutcome, Checked, Dim, Mesh, Reason, Refusal, Sharding, Step, Table, Totals};
 
 // The sharding after some outermost steps, the one that was kept on the way, the most words that a shard had, and where the next byte is.
-#[derive(Drop)]
+#[derive(Clone, Copy)]
 struct Walk {
     next: Next,
     most: usize,
@@ -71,7 +73,7 @@ fn walk_steps(
     let mut most = shard_words(total, mesh, table, start);
     let mut moved: u64 = 0;
     let mut place = at;
-    let mut number: usize = 1;
+    let mut number: u16 = 1;
     let mut ran: usize = 0;
     let mut k: usize = 0;
     while k < count {
@@ -105,7 +107,7 @@ fn walk_steps(
 
 // A file that was judged whole: what stands before its steps, where these begin, the most words of a shard, the words moved between devices, and the last
 // sharding.
-#[derive(Drop)]
+#[derive(Clone, Copy)]
 pub struct Whole {
     pub next: Next,
     pub devices: usize,
@@ -119,7 +121,7 @@ pub struct Whole {
 }
 
 // A file that was judged whole, and a sharding that was kept on the way.
-#[derive(Drop)]
+#[derive(Clone, Copy)]
 struct Keeping {
     whole: Whole,
     kept: Sharding,
@@ -202,7 +204,7 @@ pub fn judge_file(file: &[u8]) -> Whole
 }
 
 // No lists and no sizes, beside a refusal.
-pub fn refused(refusal: Refusal) -> Checked
+fn refused(refusal: Refusal) -> Checked
     ensures { result ≡ checked_of (refused_with refusal) }
 {
     let sharding = no_lists();
@@ -214,7 +216,7 @@ pub fn refused(refusal: Refusal) -> Checked
 }
 
 // The answer for a plan that passed.
-pub fn passed(whole: Whole) -> Checked
+fn passed(whole: Whole) -> Checked
     requires { Bounded whole }
     ensures { result ≡ checked_of (accept (answer_of whole)) }
 {
@@ -252,7 +254,7 @@ pub fn check(file: &[u8]) -> Checked
 }
 
 // A state of a plan that passed: mesh and table, the announced sharding and shard sizes.
-#[derive(Drop)]
+#[derive(Clone, Copy)]
 pub struct State {
     pub next: Next,
     pub devices: usize,

@@ -1,4 +1,6 @@
 // `plancheck < FILE`: reads one plan file from standard input into a cleared buffer and prints the outcome.
+#![tactic(auto)]
+
 use answer::{print_answer, print_refusal};
 use libc::{STDERR_FILENO, STDIN_FILENO};
 use types::{PlanFile, Reason, Refusal};

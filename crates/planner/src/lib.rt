@@ -1,5 +1,7 @@
 // The plan from one sharding to another, as records/specs/Planning.antt defines it: an all-reduce, an all-gather and an all-slice, each left out where it
 // names no axis. records/specs/Promises.antt is its promise.
+#![tactic(auto)]
+
 ghost use Rattle.std.specs.Prelude.{◌≡◌, List, [], ◌∷◌, ◌++◌, ℕ, ◌≤◌, ◌<◌, length, take, drop};
 ghost use Rattle.rules.specs.Lists.{each, pick};
 ghost use Rattle.rules.specs.Limits.{most_dims};

@@ -1,5 +1,7 @@
 // Reading the bytes of a plan file into values, with refusals 1 to 8, 10 to 13, 19 and 20.
 // What each function answers is a definition of rules/specs/PlanFile.antt; specs/Reading.antt says what the answers stand for.
+#![tactic(auto)]
+
 ghost use Rattle.std.specs.Prelude.{◌≡◌, ◌&&◌, List, ℕ, ◌+◌, ◌*◌, ◌≤◌, ◌<◌, length, get_or, take, drop, leb};
 ghost use Rattle.rules.specs.Lists.{tab, product};
 ghost use Rattle.rules.specs.Limits.{most_axes, most_devices, most_dims, most_words, most_bytes, latest_edition};
@@ -20,7 +22,7 @@ use types::{
 };
 
 // A byte of a file, or none past its end.
-#[derive(Drop)]
+#[derive(Clone, Copy)]
 enum Byte {
     Is(u8),
     PastEnd,
@@ -49,7 +51,7 @@ fn number_at(file: &[u8], at: usize) -> usize
 }
 
 // The 16-bit number at a position, little-endian; bytes past the end count as 0.
-pub fn u16_at(file: &[u8], at: usize) -> usize
+fn u16_at(file: &[u8], at: usize) -> usize
     ensures { (result ≡ u16_at file.now at) × (result < 65536) }
 {
     if at < file.len() {
@@ -62,7 +64,7 @@ pub fn u16_at(file: &[u8], at: usize) -> usize
 }
 
 // Where the next byte is, or why reading stopped.
-#[derive(Drop)]
+#[derive(Clone, Copy)]
 pub enum Next {
     At(usize),
     Refused(Refusal),
@@ -84,7 +86,7 @@ impl Next {
 }
 
 // The numbers of a header: the edition, the counts, and where the sections begin. The last, the file's length, is only tested.
-#[derive(Drop)]
+#[derive(Clone, Copy)]
 pub struct Header {
     pub edition: usize,
     pub axes: usize,
@@ -122,7 +124,7 @@ impl Header {
 }
 
 // The header, or the refusal.
-#[derive(Drop)]
+#[derive(Clone, Copy)]
 pub enum HeaderRead {
     Is(Header),
     Refused(Refusal),
@@ -158,7 +160,7 @@ fn in_limits(number: usize, most: usize) -> bool
 }
 
 // The numbers of a header, none of them judged.
-pub fn numbers_of(file: &[u8]) -> Header
+fn numbers_of(file: &[u8]) -> Header
     ensures { result ≡ numbers_of file.now }
 {
     Header {
@@ -211,8 +213,8 @@ pub fn read_header(file: &[u8]) -> HeaderRead
 }
 
 // Sizes that were read, their product, and where the next byte is.
-#[derive(Drop)]
-pub struct SizesRead {
+#[derive(Clone, Copy)]
+struct SizesRead {
     pub next: Next,
     pub product: usize,
     pub sizes: [u16; Axis::MOST],
@@ -241,7 +243,7 @@ impl SizesRead {
 }
 
 // A section of sizes: "its offset (6) .. 7 if they don't fit, then each size in turn (zero, then running product)".
-pub fn read_sizes(
+fn read_sizes(
     file: &[u8],
     at: usize,
     offset: usize,
@@ -352,7 +354,7 @@ fn read_mesh(file: &[u8], header: Header) -> SizesRead
 }
 
 // The sizes of mesh and table, and where the next byte is.
-#[derive(Drop)]
+#[derive(Clone, Copy)]
 pub struct Shape {
     pub next: Next,
     pub devices: usize,
@@ -429,7 +431,7 @@ pub fn read_shape(file: &[u8], header: Header) -> Shape
 }
 
 // A list that was read, and where the next byte is.
-#[derive(Drop)]
+#[derive(Clone, Copy)]
 struct ListRead {
     pub next: Next,
     pub list: AxisList,
@@ -496,7 +498,7 @@ fn read_list(file: &[u8], at: usize, n: usize) -> ListRead
 }
 
 // Lists that were read, one for each dimension, and where the next byte is.
-#[derive(Drop)]
+#[derive(Clone, Copy)]
 struct ListsRead {
     pub next: Next,
     pub lists: DimLists,
@@ -556,7 +558,7 @@ fn read_replicated(file: &[u8], at: usize, n: usize, carried: bool) -> ListRead
 }
 
 // A sharding that was read, and where the next byte is.
-#[derive(Drop)]
+#[derive(Clone, Copy)]
 pub struct ShardingRead {
     pub next: Next,
     pub sharding: Sharding,
@@ -617,7 +619,7 @@ pub fn read_sharding(file: &[u8], at: usize, header: Header) -> ShardingRead
 }
 
 // A step that was read, and where the next byte is.
-#[derive(Drop)]
+#[derive(Clone, Copy)]
 pub struct StepRead {
     pub next: Next,
     pub step: Step,
@@ -749,7 +751,7 @@ fn read_all_to_all(file: &[u8], at: usize, n: usize) -> StepRead
 }
 
 // Step k: "A step is a kind byte and its lists"; "A kind or count byte is judged when read."
-pub fn read_step(file: &[u8], at: usize, n: usize, rank: usize, k: usize) -> StepRead
+pub fn read_step(file: &[u8], at: usize, n: usize, rank: usize, k: u16) -> StepRead
     requires { (n ≤ most_axes) × (rank ≤ most_dims) }
     ensures { StepTells rank (step_at n rank k file.now at) result }
 {

@@ -226,7 +226,7 @@ module _ (file : List ℕ) (bytes : Bytes file) where
   record FrontSpelled (f : Front) : Type 0 where
     long : least_bytes ≤ length file
     short : length file ≤ most_bytes
-    total-is : total_length file ≡ length file
+    total_is : total_length file ≡ length file
     axes_are : axis_count file ≡ length f.mesh
     rank_is : rank_count file ≡ length f.sizes
     edition_is : pick (some (order_given (devices f.mesh) f.order)) 3 (pick (some f.start.replicated) 2 1) ≡ edition file
@@ -276,7 +276,7 @@ module _ (file : List ℕ) (bytes : Bytes file) where
       let whole : FrontSpelled (record { mesh = m.0.value; order = o.0.value; sizes = t.0.value; start = s.0.value; next = s.0.next }) = record {
         long = leb→le least_bytes (length file) a.0;
         short = leb→le (length file) most_bytes b.0;
-        total-is = eqb→eq (total_length file) (length file) d.0;
+        total_is = eqb→eq (total_length file) (length file) d.0;
         axes_are = sym fm.many;
         rank_is = sym ft.many;
         edition_is = edition-again e order s.0.value.replicated (leb→le 1 e known.0) (leb→le e 3 known.1) fo.carried fs.2 z.0;
@@ -323,7 +323,7 @@ module _ (file : List ℕ) (bytes : Bytes file) where
       let lengths : length (M ++ (O ++ (S ++ H))) ≡ 2 * length r.mesh + (2 * length r.order + (2 * length r.sizes + length H)) =
       simp (length-append, length-u16s) refl in
       let steps_at_is : steps_start r ≡ f.next = omega (arith, front.ends, lengths) in
-      let total-is : file_length r ≡ length file = omega (arith, steps_at_is, b.ends, end) in
+      let total_is : file_length r ≡ length file = omega (arith, steps_at_is, b.ends, end) in
       let head : tab 9 (λ i. u16_at file (0 + 2 * i)) ≡ header r =
       rw (
         sym a.edition_is,
@@ -334,7 +334,7 @@ module _ (file : List ℕ) (bytes : Bytes file) where
         a.tensor-at,
         a.sharding_at_is,
         a.steps_at_is ∙ sym steps_at_is,
-        a.total-is ∙ sym total-is,
+        a.total_is ∙ sym total_is,
       ) in
       let h : Spells file 0 least_bytes (u16s_bytes (header r)) = subst (λ (l : List ℕ). Spells file 0 least_bytes (u16s_bytes l)) head (numbers-spell file bytes 0 9 a.long) in
       let w : Spells file 0 o.next (u16s_bytes (header r) ++ ((M ++ (O ++ (S ++ H))) ++ B)) =

@@ -17,7 +17,7 @@ use Rattle.rules.specs.Limits.{most_axes, most_dims, every_kind, most_devices, m
 use Rattle.rules.specs.Refusals.{Judged, accept, ◌>>=◌, ◌>>◌}
 use Rattle.rules.specs.PlanFile.{axes_allowed, rank_allowed, judge_sizes, same, some, all_in, plain, outermost_at, Plan, judge, announced, announced_shape}
 use Rattle.rules.specs.Factor.{step_factor, factor_of, factor_after}
-use Rattle.rules.specs.Calls.{shards_after, run_of, shards_after_by}
+use Rattle.rules.specs.Calls.{shards_after, run_of}
 use Rattle.laws.specs.Demands.{Words, SpreadAt, returned, Demand3, Fits as RoomIn}
 use Rattle.laws.proofs.Lists.{T_and, T→true, both-length, of-without}
 use Rattle.laws.proofs.Judging.{accept-inj, need-inv, need-true, then-inv, all_in-in, same-eq}
@@ -210,7 +210,7 @@ module _ (mesh order sizes : List ℕ) (start goal : Sharding) where
         → Faithful add_words mesh start (shard_sizes mesh sizes start.dims) table (held_by 0 plan.order mesh (shard_sizes mesh sizes start.dims) work)
         → Faithful add_words mesh goal (shard_sizes mesh sizes goal.dims) table
         (held_by 0 plan.order mesh (shard_sizes mesh sizes goal.dims) (run_of (file_of made) work spare).work)
-    unfolding announced announced_shape shards_after_by
+    unfolding announced announced_shape shards_after
     arrives e table work spare words room spread =
         let d : Demand3 plan work spare (run_of (file_of made) work spare) = whole_plan (file_of made) plan e work spare words in
         let r = d.same_table room table spread one in

@@ -3,8 +3,6 @@ pub mod Places
 pub mod Moved
 pub mod Lists
 pub mod Numbers
-pub mod Bytes
-pub mod Below
 pub mod Given
 pub mod Records
 pub mod Written

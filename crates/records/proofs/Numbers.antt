@@ -1,16 +1,17 @@
--- Step numbers. A plan that is accepted has no more than so many records (`outermost-few`), and no refusal's number is far past those (`outermost-below`): a
--- block has a byte's number of steps, and each that is accepted runs a limited number of plain ones. Assumes nothing.
-use Prim.Native.Nat.{ℕ, zero, suc, ◌+◌, ◌-◌, ◌*◌, ◌≤◌}
-use mathlib.Core.Path.{◌≡◌, refl, sym, ap, ◌∙◌, subst}
+-- Step numbers: a refusal's is at most that of the kind byte at the file's end (`outermost-within`), so a file's steps keep their refusals where numbers
+-- end (`all-numbered`); a plan that is accepted has no more than so many records (`outermost-few`); a step is judged alike under every number
+-- (`step-renumbered`). Assumes nothing.
+use Prim.Native.Nat.{ℕ, zero, suc, ◌+◌, ◌-◌, ◌*◌, ◌≤◌, ◌<◌}
+use mathlib.Core.Path.{◌≡◌, refl, sym, ap, ap₂, ◌∙◌, subst}
 use mathlib.Core.Bool.{Bool, true, false}
 use mathlib.Core.List.{List, [], ◌++◌}
 use native.Mathlib.Omega.{arith}
 use native.Mathlib.Nat.{mul-le-mul}
 use lib.ListN.{length, get_or, replicate, length-append}
-use lib.Dec.{T, ltb, leb, leb→le}
-use Rattle.rules.specs.Lists.{flat, both}
+use lib.Dec.{ltb, leb, leb→le}
+use Rattle.rules.specs.Lists.{flat, both, pick}
 use Rattle.rules.specs.Sharding.{Sharding, named, divisible, shard_sizes}
-use Rattle.rules.specs.Collectives.{Step, allSlice, allGather, all_reduce, all_to_all, reduce_scatter, step_axes, only, reduced}
+use Rattle.rules.specs.Collectives.{Step, allSlice, allGather, all_reduce, all_to_all, reduce_scatter, step_axes, only, sliced, gathered, reduced}
 use Rattle.rules.specs.Limits.{most_run, most_depth}
 use Rattle.rules.specs.Refusals.{Judged, accept, refuse, ◌>>=◌, ◌>>◌, need, need_at}
 use Rattle.rules.specs.PlanFile.{
@@ -30,7 +31,6 @@ use Rattle.rules.specs.PlanFile.{
   gather_off,
   slice_on,
   judge_kind,
-  judge_named,
   judge_step,
   StepsRead,
   JudgesStep,
@@ -58,75 +58,127 @@ use Rattle.laws.proofs.Judging.{never, accept-inj, need-inv, bind_inv}
 use Rattle.laws.proofs.Turns.{length-times}
 use Rattle.laws.proofs.Bytes.{Takes, item-takes}
 use Rattle.laws.proofs.Repeats.{IsRepeat, repeat-inv, positive-inv}
-use Rattle.records.specs.RoundTrip.{Bytes, most_records, last_step}
+use Rattle.records.specs.Writing.{most_records, step_numbered}
+use Rattle.records.proofs.Lists.{is_le}
 
 -- ---- a refusal's step is at most so much
 
 pub record Within {A : Type 0} (m : ℕ) (j : Judged A) : Type 0 where
   pub bound : (n k : ℕ) → j ≡ refuse n k → k ≤ m
 
-pub step_is : {A : Type 0} {a b c d : ℕ} → ◌≡◌ {A = Judged A} (refuse a b) (refuse c d) → b ≡ d
+number_is : {A : Type 0} {a b c d : ℕ} → ◌≡◌ {A = Judged A} (refuse a b) (refuse c d) → a ≡ c
+number_is e = cc
+
+step_is : {A : Type 0} {a b c d : ℕ} → ◌≡◌ {A = Judged A} (refuse a b) (refuse c d) → b ≡ d
 step_is e = cc
 
-pub accept-within : {A : Type 0} (m : ℕ) (a : A) → Within m (accept a)
+-- a refusal is of no value, so of any
+pub of-any : {A B : Type 0} {a b c d : ℕ} → ◌≡◌ {A = Judged A} (refuse a b) (refuse c d) → ◌≡◌ {A = Judged B} (refuse a b) (refuse c d)
+of-any e = ap₂ refuse (number_is e) (step_is e)
+
+accept-within : {A : Type 0} (m : ℕ) (a : A) → Within m (accept a)
 accept-within m a = record { bound = λ n k e. absurd (never (sym e)) }
 
-pub refuse-within : {A : Type 0} (m n k : ℕ) → k ≤ m → Within {A = A} m (refuse n k)
+refuse-within : {A : Type 0} (m n k : ℕ) → k ≤ m → Within {A = A} m (refuse n k)
 refuse-within m n k h = record { bound = λ n' k' e. subst (λ (z : ℕ). z ≤ m) (step_is e) h }
 
-pub need-within : (m k : ℕ) (b : Bool) (n : ℕ) → k ≤ m → Within m (need_at k b n)
+need-within : (m k : ℕ) (b : Bool) (n : ℕ) → k ≤ m → Within m (need_at k b n)
 need-within m k true n h = accept-within m tt
 need-within m k false n h = refuse-within m n k h
 
-pub then-within : {A B : Type 0} (m : ℕ) (j : Judged A) (l : Judged B) → Within m j → Within m l → Within m (◌>>◌ j l)
+then-within : {A B : Type 0} (m : ℕ) (j : Judged A) (l : Judged B) → Within m j → Within m l → Within m (◌>>◌ j l)
 then-within m (accept a) l h g = g
 then-within m (refuse n k) l h g = refuse-within m n k (h.bound n k refl)
 
-pub bind-within : {A B : Type 0} (m : ℕ) (j : Judged A) (f : A → Judged B) → Within m j → ((a : A) → j ≡ accept a → Within m (f a)) → Within m (◌>>=◌ j f)
+bind-within : {A B : Type 0} (m : ℕ) (j : Judged A) (f : A → Judged B) → Within m j → ((a : A) → j ≡ accept a → Within m (f a)) → Within m (◌>>=◌ j f)
 bind-within m (accept a) f h g = g a refl
 bind-within m (refuse n k) f h g = refuse-within m n k (h.bound n k refl)
 
-pub wider : {A : Type 0} {m l : ℕ} (j : Judged A) → m ≤ l → Within m j → Within l j
+wider : {A : Type 0} {m l : ℕ} (j : Judged A) → m ≤ l → Within m j → Within l j
 wider j h g = record { bound = λ n k e. omega (arith, g.bound n k e) }
 
--- a test that what follows knows of
-told-within : {A : Type 0} (m k : ℕ) (b : Bool) (n : ℕ) (j : Judged A) → k ≤ m → (T b → Within m j) → Within m (◌>>◌ (need_at k b n) j)
-told-within m k true n j h g = g tt
-told-within m k false n j h g = refuse-within m n k h
+pub all-numbered : {A : Type 0} (m : ℕ) (j : Judged A) → m ≤ most_records → Within m j → step_numbered j ≡ j
+all-numbered m (accept a) h g = refl
+all-numbered m (refuse n k) h g = ap (λ (b : Bool). pick b (refuse n k) (refuse 2 0)) (is_le k most_records (omega (arith, g.bound n k refl)))
 
--- ---- a step's refusals have its number
+-- an accepted judgement, and a refused one of which another's refusal comes
+pub numbered-on : {A : Type 0} (j : Judged A) {a : A} → step_numbered j ≡ accept a → j ≡ accept a
+numbered-on (accept b) e = e
+numbered-on (refuse n k) e = go (leb k most_records) e
+  where
+    go : {A : Type 0} {a : A} (b : Bool) → pick b (refuse n k) (refuse 2 0) ≡ accept a → refuse n k ≡ accept a
+    go true e = e
+    go false e = absurd (never e)
+
+pub numbered-stops : {A B : Type 0} (j : Judged A) (l : Judged B) → ((n k : ℕ) → j ≡ refuse n k → l ≡ refuse n k)
+    → {n k : ℕ} → step_numbered j ≡ refuse n k → step_numbered l ≡ refuse n k
+numbered-stops (accept a) l h e = absurd (never (sym e))
+numbered-stops (refuse n k) l h e = ap step_numbered (h n k refl) ∙ go (leb k most_records) e
+  where
+    go : {A B : Type 0} {m i : ℕ} (b : Bool) → ◌≡◌ {A = Judged A} (pick b (refuse n k) (refuse 2 0)) (refuse m i)
+        → ◌≡◌ {A = Judged B} (pick b (refuse n k) (refuse 2 0)) (refuse m i)
+    go true e = of-any e
+    go false e = of-any e
+
+-- ---- a step is judged alike under every number
+
+abbrev pub renumbered : {A : Type 0} → ℕ → Judged A → Judged A
+renumbered k (accept a) = accept a
+renumbered k (refuse n b) = refuse n k
+
+renumbered-within : {A : Type 0} (k : ℕ) (j : Judged A) → Within k (renumbered k j)
+renumbered-within k (accept a) = accept-within k a
+renumbered-within k (refuse n b) = refuse-within k n k (omega arith)
+
+re-bind : {A B : Type 0} (k : ℕ) (j : Judged A) (f g : A → Judged B) → ((a : A) → f a ≡ renumbered k (g a)) → ◌>>=◌ (renumbered k j) f ≡ renumbered k (◌>>=◌ j g)
+re-bind k (accept a) f g h = h a
+re-bind k (refuse n b) f g h = refl
 
 module _ (mesh sizes : List ℕ) (k : ℕ) where
   -- a test, then the rest
-  tested : {A : Type 0} (b : Bool) (n : ℕ) (j : Judged A) → Within k j → Within k (◌>>◌ (need_at k b n) j)
-  tested b n j h = then-within k (need_at k b n) j (need-within k k b n (omega arith)) h
+  tested : {A : Type 0} (b : Bool) (n : ℕ) (j l : Judged A) → j ≡ renumbered k l → ◌>>◌ (need_at k b n) j ≡ renumbered k (◌>>◌ (need_at 0 b n) l)
+  tested true n j l e = e
+  tested false n j l e = refl
 
-  gather-within : (Gs : List (List ℕ)) (s : Sharding) → Within k (gather_off k Gs s)
+  gather-renumbered : (Gs : List (List ℕ)) (s : Sharding) → gather_off k Gs s ≡ renumbered k (gather_off 0 Gs s)
   unfolding gather_off
-  gather-within Gs s = tested (both is_tail s.dims Gs) 24 _ (accept-within k _)
+  gather-renumbered Gs s = tested (both is_tail s.dims Gs) 24 (accept (gathered Gs s)) (accept (gathered Gs s)) refl
 
-  slice-within : (Ss : List (List ℕ)) (s : Sharding) → Within k (slice_on mesh sizes k Ss s)
+  slice-renumbered : (Ss : List (List ℕ)) (s : Sharding) → slice_on mesh sizes k Ss s ≡ renumbered k (slice_on mesh sizes 0 Ss s)
   unfolding slice_on
-  slice-within Ss s = tested (divisible mesh (shard_sizes mesh sizes s.dims) Ss) 25 _ (accept-within k _)
+  slice-renumbered Ss s = tested (divisible mesh (shard_sizes mesh sizes s.dims) Ss) 25 (accept (sliced Ss s)) (accept (sliced Ss s)) refl
 
-  kind-within : (t : Step) (s : Sharding) → Within k (judge_kind mesh sizes k t s)
+  kind-renumbered : (t : Step) (s : Sharding) → judge_kind mesh sizes k t s ≡ renumbered k (judge_kind mesh sizes 0 t s)
   unfolding judge_kind
-  kind-within (allSlice Ss) s = tested (fresh (named s) (flat Ss)) 23 _ (slice-within Ss s)
-  kind-within (allGather Gs) s = gather-within Gs s
-  kind-within (all_reduce L) s =
-      tested (increasing_from 0 L) 26 _ (tested (none_in L (flat s.dims ++ s.replicated)) 27 _ (accept-within k _))
-  kind-within (all_to_all source target L) s =
-      tested (two_dims (length s.dims) source target) 28 _
-      (bind-within k (gather_off k (only (length s.dims) source L) s) _ (gather-within (only (length s.dims) source L) s)
-      (λ g e. slice-within (only (length s.dims) target L) g))
-  kind-within (reduce_scatter Ss) s =
-      tested (fresh [] (flat Ss)) 23 _ (tested (all_in (flat Ss) s.unreduced) 27 _ (slice-within Ss (reduced (flat Ss) s)))
+  kind-renumbered (allSlice Ss) s = tested (fresh (named s) (flat Ss)) 23 _ (slice_on mesh sizes 0 Ss s) (slice-renumbered Ss s)
+  kind-renumbered (allGather Gs) s = gather-renumbered Gs s
+  kind-renumbered (all_reduce L) s =
+      let free : Bool = none_in L (flat s.dims ++ s.replicated) in
+      tested (increasing_from 0 L) 26 _ (◌>>◌ (need_at 0 free 27) (accept (reduced L s)))
+      (tested free 27 (accept (reduced L s)) (accept (reduced L s)) refl)
+  kind-renumbered (all_to_all source target L) s =
+      let Gs : List (List ℕ) = only (length s.dims) source L in
+      let Ss : List (List ℕ) = only (length s.dims) target L in
+      tested (two_dims (length s.dims) source target) 28 _ (◌>>=◌ (gather_off 0 Gs s) (slice_on mesh sizes 0 Ss))
+      (ap (λ (j : Judged Sharding). ◌>>=◌ j (slice_on mesh sizes k Ss)) (gather-renumbered Gs s)
+      ∙ re-bind k (gather_off 0 Gs s) (slice_on mesh sizes k Ss) (slice_on mesh sizes 0 Ss) (λ g. slice-renumbered Ss g))
+  kind-renumbered (reduce_scatter Ss) s =
+      let r : Sharding = reduced (flat Ss) s in
+      tested (fresh [] (flat Ss)) 23 _ (◌>>◌ (need_at 0 (all_in (flat Ss) s.unreduced) 27) (slice_on mesh sizes 0 Ss r))
+      (tested (all_in (flat Ss) s.unreduced) 27 _ (slice_on mesh sizes 0 Ss r) (slice-renumbered Ss r))
+
+  pub step-renumbered : (t : Step) (s : Sharding) → judge_step mesh sizes k t s ≡ renumbered k (judge_step mesh sizes 0 t s)
+  unfolding judge_step
+  step-renumbered t s = go (some (step_axes t)) (all_below (length mesh) (step_axes t))
+    where
+      go : (b c : Bool) → ◌>>◌ (◌>>◌ (need_at k b 21) (need_at k c 22)) (judge_kind mesh sizes k t s)
+          ≡ renumbered k (◌>>◌ (◌>>◌ (need_at 0 b 21) (need_at 0 c 22)) (judge_kind mesh sizes 0 t s))
+      go true true = kind-renumbered t s
+      go true false = refl
+      go false c = refl
 
   judged-within : (t : Step) (s : Sharding) → Within k (judge_step mesh sizes k t s)
-  unfolding judge_step
-  judged-within t s =
-      then-within k (judge_named (length mesh) k (step_axes t)) _
-      (tested (some (step_axes t)) 21 _ (need-within k k (all_below (length mesh) (step_axes t)) 22 (omega arith))) (kind-within t s)
+  judged-within t s = subst (Within k) (sym (step-renumbered t s)) (renumbered-within k (judge_step mesh sizes 0 t s))
 
 -- ---- what is read has its number or none
 
@@ -171,6 +223,73 @@ module _ (mesh sizes file : List ℕ) where
   positive-within k at =
       then-within k (need (ltb at (length file)) 7) _ (need-within k 0 (ltb at (length file)) 7 (omega arith))
       (then-within k (need_at k (ltb 0 (get_or file at 0)) 44) _ (need-within k k (ltb 0 (get_or file at 0)) 44 (omega arith)) (accept-within k _))
+
+  -- ---- the kind bytes from a place on are no more than the bytes there
+
+  abbrev Bounded : JudgesStep → Type 0
+  Bounded one = (k at : ℕ) (s : Sharding) → at ≤ length file → Within (k + (length file - at)) (one k at s)
+
+  steps-within : (one : JudgesStep) → Bounded one → ((k at : ℕ) (s : Sharding) (w : StepsRead) → one k at s ≡ accept w → Takes mesh sizes file at w)
+      → (count : ℕ) → Bounded (steps_at one count)
+  unfolding steps_at
+  steps-within one g t zero k at s h = accept-within _ _
+  steps-within one g t (suc count) k at s h =
+      bind-within (k + (length file - at)) (one k at s) _ (g k at s h) (λ w e.
+      let x : Takes mesh sizes file at w = t k at s w e in
+      let ws : Judged StepsRead = steps_at one count (k + length w.records) w.next w.sharding in
+      bind-within (k + (length file - at)) ws _
+      (wider ws (omega (arith, x.bytes, x.inside)) (steps-within one g t count (k + length w.records) w.next w.sharding x.inside))
+      (λ o f. accept-within _ _))
+
+  -- what is inside the repeat with number k
+  abbrev Inside : ℕ → JudgesSteps → Type 0
+  Inside k inner = (count at : ℕ) (s : Sharding) → at ≤ length file → Within (k + 1 + (length file - at)) (inner count (k + 1) at s)
+
+  repeat-within : (inner : JudgesSteps) (k at : ℕ) (s : Sharding) → Inside k inner → Within (k + (length file - at)) (repeat_at inner file k (at + 1) s)
+  unfolding repeat_at
+  repeat-within inner k at s g =
+      let m : ℕ = k + (length file - at) in
+      let h : k ≤ m = omega arith in
+      bind-within m (positive_at k file (at + 1)) _ (wider (positive_at k file (at + 1)) h (positive-within k (at + 1))) (λ count e.
+      bind-within m (positive_at k file (at + 1 + 1)) _ (wider (positive_at k file (at + 1 + 1)) h (positive-within k (at + 1 + 1))) (λ number f.
+      let l : at + 1 + 1 < length file = (positive-inv mesh sizes file k (at + 1 + 1) number f).0 in
+      bind-within m (inner number (k + 1) (at + 1 + 2) s) _ (wider (inner number (k + 1) (at + 1 + 2) s) (omega arith) (g number (at + 1 + 2) s (omega arith))) (λ block q.
+      let a : Bool = same_sharding block.sharding s in
+      let b : Bool = leb (count * length block.steps) most_run in
+      then-within m (need_at k a 41) _ (need-within m k a 41 h) (then-within m (need_at k b 43) _ (need-within m k b 43 h) (accept-within m _)))))
+
+  by-within : (b : Bool) (inner : JudgesSteps) (k at : ℕ) (s : Sharding) → Inside k inner → Within (k + (length file - at)) (item_with b inner mesh sizes file k at s)
+  unfolding item_with
+  by-within false inner k at s g = wider (plain_at mesh sizes file k at s) (omega arith) (plain-within k at s)
+  by-within true inner k at s g = repeat-within inner k at s g
+
+  known-within : {A : Type 0} (known : ℕ → Bool) (k at : ℕ) (j : Judged A) → Within (k + (length file - at)) j
+      → Within (k + (length file - at)) (◌>>◌ (need_at k (known (get_or file at 0)) 20) j)
+  known-within known k at j g =
+      let b : Bool = known (get_or file at 0) in
+      then-within (k + (length file - at)) (need_at k b 20) j (need-within (k + (length file - at)) k b 20 (omega arith)) g
+
+  item-within : (known : ℕ → Bool) (depth : ℕ) → Bounded (item_at known mesh sizes file depth)
+  unfolding item_at
+  item-within known zero k at s h =
+      known-within known k at _ (by-within (is_repeat file at) (too_deep k) k at s (λ count at' s' h'. refuse-within _ 42 k (omega arith)))
+  item-within known (suc depth) k at s h =
+      known-within known k at _ (by-within (is_repeat file at) (steps_at (item_at known mesh sizes file depth)) k at s (λ count at' s' h'.
+      steps-within (item_at known mesh sizes file depth) (item-within known depth) (item-takes mesh sizes file known depth) count (k + 1) at' s' h'))
+
+  pub outermost-within : (known : ℕ → Bool) (ran count k at : ℕ) (s : Sharding) → at ≤ length file
+      → Within (k + (length file - at)) (outermost_at known mesh sizes file ran count k at s)
+  unfolding outermost_at
+  outermost-within known ran zero k at s h = accept-within _ _
+  outermost-within known ran (suc count) k at s h =
+      let m : ℕ = k + (length file - at) in
+      bind-within m (item_at known mesh sizes file most_depth k at s) _ (item-within known most_depth k at s h) (λ w e.
+      let x : Takes mesh sizes file at w = item-takes mesh sizes file known most_depth k at s w e in
+      let b : Bool = leb (ran + length w.steps) most_run in
+      let ws : Judged Outermost = outermost_at known mesh sizes file (ran + length w.steps) count (k + length w.records) w.next w.sharding in
+      then-within m (need_at k b 43) _ (need-within m k b 43 (omega arith)) (bind-within m ws _
+      (wider ws (omega (arith, x.bytes, x.inside)) (outermost-within known (ran + length w.steps) count (k + length w.records) w.next w.sharding x.inside))
+      (λ o f. accept-within m _)))
 
   -- ---- every block has a plain step, so records that nest so deep are no more than so many for each plain step run
 
@@ -267,91 +386,7 @@ module _ (mesh sizes file : List ℕ) where
       subst (λ (o : Outermost). (length o.records ≤ deep most_depth (length o.steps)) × (ran + length o.steps ≤ most_run)) (accept-inj u.2)
       (omega (arith, m, x, a.few, b.0), omega (arith, m, b.1))
 
-  -- AN ACCEPTED PLAN HAS NO MORE RECORDS THAN SO MANY FOR EACH PLAIN STEP
+  -- AN ACCEPTED PLAN HAS NO MORE RECORDS THAN HAVE NUMBERS
   pub outermost-few : (known : ℕ → Bool) (count k at : ℕ) (s : Sharding) (o : Outermost) → outermost_at known mesh sizes file 0 count k at s ≡ accept o
       → length o.records ≤ most_records
   outermost-few known count k at s o e = let d = outermost-deep known 0 count k at s o (omega arith) e in omega (arith, d.0, d.1)
-
-  -- ---- the numbers of refusals
-
-  -- so many steps, each with no more than m records where it is accepted
-  steps-within : (m b : ℕ) (one : JudgesStep) → ((k at : ℕ) (s : Sharding) → Within (k + b) (one k at s))
-      → ((k at : ℕ) (s : Sharding) (w : StepsRead) → one k at s ≡ accept w → length w.records ≤ m)
-      → (count k at : ℕ) (s : Sharding) → Within (k + count * m + b) (steps_at one count k at s)
-  unfolding steps_at
-  steps-within m b one g t zero k at s = accept-within _ _
-  steps-within m b one g t (suc count) k at s =
-      bind-within (k + suc count * m + b) (one k at s) _ (wider (one k at s) (omega arith) (g k at s)) (λ w e.
-      let ws : Judged StepsRead = steps_at one count (k + length w.records) w.next w.sharding in
-      bind-within (k + suc count * m + b) ws _
-      (wider ws (omega (arith, t k at s w e)) (steps-within m b one g t count (k + length w.records) w.next w.sharding))
-      (λ o f. accept-within _ _))
-
-  module _ (bytes : Bytes file) where
-    -- what is inside the repeat with number k
-    abbrev Inside : (m k : ℕ) → JudgesSteps → Type 0
-    Inside m k inner = (count at : ℕ) (s : Sharding) → count ≤ 255 → Within m (inner count (k + 1) at s)
-
-    repeat-within : (m k : ℕ) (inner : JudgesSteps) (at : ℕ) (s : Sharding) → k ≤ m → Inside m k inner → Within m (repeat_at inner file k at s)
-    unfolding repeat_at
-    repeat-within m k inner at s h g =
-        bind-within m (positive_at k file at) _ (wider (positive_at k file at) h (positive-within k at)) (λ count e.
-        bind-within m (positive_at k file (at + 1)) _ (wider (positive_at k file (at + 1)) h (positive-within k (at + 1))) (λ number f.
-        let l : number ≤ 255 = omega (arith, bytes (at + 1), (positive-inv mesh sizes file k (at + 1) number f).2) in
-        bind-within m (inner number (k + 1) (at + 2) s) _ (g number (at + 2) s l) (λ block q.
-        let a : Bool = same_sharding block.sharding s in
-        let b : Bool = leb (count * length block.steps) most_run in
-        then-within m (need_at k a 41) _ (need-within m k a 41 h) (then-within m (need_at k b 43) _ (need-within m k b 43 h) (accept-within m _)))))
-
-    item_by : (known : ℕ → Bool) (m k : ℕ) (inner : JudgesSteps) (at : ℕ) (s : Sharding) → k ≤ m → Inside m k inner
-        → Within m (◌>>◌ (need_at k (known (get_or file at 0)) 20) (item_with (is_repeat file at) inner mesh sizes file k at s))
-    unfolding item_with
-    item_by known m k inner at s h g =
-        then-within m (need_at k (known (get_or file at 0)) 20) _ (need-within m k (known (get_or file at 0)) 20 h) (go (is_repeat file at))
-      where
-        go : (b : Bool) → Within m (item_with b inner mesh sizes file k at s)
-        go false = wider (plain_at mesh sizes file k at s) h (plain-within k at s)
-        go true = repeat-within m k inner (at + 1) s h g
-
-    -- how far past an item's number that of a refusal inside it is, where repeats nest so deep
-    abbrev past : ℕ → ℕ
-    past zero = 0
-    past (suc d) = 1 + 255 * deep d most_run + past d
-
-    item-within : (known : ℕ → Bool) (depth k at : ℕ) (s : Sharding) → Within (k + past depth) (item_at known mesh sizes file depth k at s)
-    unfolding item_at
-    item-within known zero k at s =
-        item_by known (k + past zero) k (too_deep k) at s (omega arith) (λ count at' s' l. refuse-within _ 42 k (omega arith))
-    item-within known (suc d) k at s =
-        let one : JudgesStep = item_at known mesh sizes file d in
-        let m : ℕ = deep d most_run in
-        item_by known (k + past (suc d)) k (steps_at one) at s (omega arith) (λ count at' s' l.
-        wider (steps_at one count (k + 1) at' s') (omega (arith, mul-le-mul {n₁ = count} {m₁ = m} {n₂ = 255} {m₂ = m} l (omega arith)))
-        (steps-within m (past d) one (item-within known d) (item-records known d) count (k + 1) at' s'))
-      where
-        item-records : (known : ℕ → Bool) (d k at : ℕ) (s : Sharding) (w : StepsRead) → item_at known mesh sizes file d k at s ≡ accept w
-            → length w.records ≤ deep d most_run
-        item-records known d k at s w e =
-            let t : Takes mesh sizes file at w = item-takes mesh sizes file known d k at s w e in
-            omega (arith, (item-few known d k at s w e).few, deep-le d (length w.steps) most_run t.few)
-
-    outermost-within : (known : ℕ → Bool) (ran count k at : ℕ) (s : Sharding) → ran ≤ most_run
-        → Within (k + deep most_depth (most_run - ran) + past most_depth) (outermost_at known mesh sizes file ran count k at s)
-    unfolding outermost_at
-    outermost-within known ran zero k at s r = accept-within _ _
-    outermost-within known ran (suc count) k at s r =
-        let m : ℕ = k + deep most_depth (most_run - ran) + past most_depth in
-        let item : Judged StepsRead = item_at known mesh sizes file most_depth k at s in
-        bind-within m item _ (wider item (omega arith) (item-within known most_depth k at s)) (λ w e.
-        let ran' : ℕ = ran + length w.steps in
-        let ws : Judged Outermost = outermost_at known mesh sizes file ran' count (k + length w.records) w.next w.sharding in
-        told-within m k (leb ran' most_run) 43 _ (omega arith) (λ t.
-        let l : ran' ≤ most_run = leb→le ran' most_run t in
-        bind-within m ws _
-        (wider ws (omega (arith, (item-few known most_depth k at s w e).few)) (outermost-within known ran' count (k + length w.records) w.next w.sharding l))
-        (λ o f. accept-within m _)))
-
-    -- A REFUSAL'S NUMBER IS BELOW 2^24
-    pub outermost-below : (known : ℕ → Bool) (count at : ℕ) (s : Sharding) → Within last_step (outermost_at known mesh sizes file 0 count 1 at s)
-    outermost-below known count at s =
-        wider (outermost_at known mesh sizes file 0 count 1 at s) (omega arith) (outermost-within known 0 count 1 at s (omega arith))

@@ -8,12 +8,11 @@ use lib.Dec.{leb, leb→le}
 use Rattle.rules.specs.Limits.{most_bytes}
 use Rattle.rules.specs.Refusals.{Judged, accept, refuse, ◌>>◌, need}
 use Rattle.records.specs.Records.{file_length}
-use Rattle.records.specs.Writing.{judge_records, write_of}
+use Rattle.records.specs.Writing.{write_of}
 use Rattle.records.specs.RoundTrip.{RecordsPromise}
 use Rattle.records.specs.WorkedReading as reading
 use Rattle.records.specs.WorkedRecords as worked
-use Rattle.records.specs.WorkedRecords.{PastLimit, EveryNumber, WorkedPromise}
-use Rattle.records.proofs.Below as below
+use Rattle.records.specs.WorkedRecords.{PastLimit, WorkedPromise}
 use Rattle.records.proofs.Written as written
 use Rattle.records.proofs.Readback as back
 use Rattle.records.proofs.Again as again
@@ -24,8 +23,6 @@ records-promise = record {
   reads_back = back.reads_back;
   written_again = again.written_again;
   one_file = again.one_file;
-  few_records = below.few_records;
-  numbers_fit = below.numbers_fit;
 }
 
 past_limit : PastLimit
@@ -39,16 +36,12 @@ past_limit r out p e past = rw e (go (leb (file_length r) most_bytes) refl)
     go true h = let short : file_length r ≤ most_bytes = leb→le (file_length r) most_bytes (rw h tt) in absurd (omega arith)
     go false h = refl
 
-every_number : EveryNumber
-unfolding write_of judge_records
-every_number r out o n k e = rw (o, e) refl
-
 pub worked-promise : WorkedPromise
 worked-promise = record {
   writing = worked.written;
   refusing = worked.refused_as;
   past_limit = past_limit;
-  every_number = every_number;
+  numbering = (refl, refl, refl);
   given = worked.formed;
   planning = worked.planned-as;
   reading = reading.read_as;

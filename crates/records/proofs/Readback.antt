@@ -12,9 +12,10 @@ use Rattle.rules.specs.Refusals.{Judged, accept, ◌>>=◌, ◌>>◌}
 use Rattle.rules.specs.PlanFile.{axes_allowed, rank_allowed, judge_sizes, order_allowed, same, some, Outermost, outermost_at, Plan, judge}
 use Rattle.laws.proofs.Judging.{accept-inj, need-inv, need-true, then-inv, bind_inv}
 use Rattle.records.specs.Records.{Given, known, Records, records_of, outermost, steps_bytes, file_length, file_of}
-use Rattle.records.specs.Writing.{judge_order, order_of, judge_opening, judge_records, write_of}
+use Rattle.records.specs.Writing.{judge_order, order_of, judge_opening, step_numbered, judge_records, write_of}
 use Rattle.records.specs.RoundTrip.{Proper, Fits, ReadsBack}
 use Rattle.records.proofs.Places.{from_all}
+use Rattle.records.proofs.Numbers.{numbered-on}
 use Rattle.records.proofs.Given.{all-given}
 use Rattle.records.proofs.Written.{length-file, file_judged}
 use Rattle.records.proofs.Again.{plain-given, allowed-given}
@@ -43,10 +44,10 @@ module _ (r : Records) (proper : Proper r) where
   unfolding judge_records
   records-same p e =
       let w = then-inv (judge_opening r) _ p e in
-      let ts = bind_inv (outermost_at every_kind r.mesh r.sizes (steps_bytes r.steps) 0 (outermost r.steps) 1 0 r.start) _ p w.1 in
+      let ts = bind_inv (step_numbered (outermost_at every_kind r.mesh r.sizes (steps_bytes r.steps) 0 (outermost r.steps) 1 0 r.start)) _ p w.1 in
       let o = order-passed (devices r.mesh) r.order (opening-passed w.0.1) in
       let g : r.steps ≡ map known ts.0.records =
-      (all-given r.mesh r.sizes (steps_bytes r.steps) every_kind 0 1 0 r.start r.steps ts.0 proper.steps_ranked (from_all (steps_bytes r.steps)) ts.1).0 in (
+      (all-given r.mesh r.sizes (steps_bytes r.steps) every_kind 0 1 0 r.start r.steps ts.0 proper.steps_ranked (from_all (steps_bytes r.steps)) (numbered-on _ ts.1)).0 in (
         o.0,
         ap records_of (sym (accept-inj ts.2))
             ∙ (λ i. record { mesh = r.mesh; order = o.1 i; sizes = r.sizes; start = r.start; steps = sym g i }),

@@ -1,6 +1,6 @@
 -- The file of records, section by section: the check's judgement of the file is the judgement of the records (`file_judged`), where these can stand in a
 -- file (`Fits`). Assumes nothing.
-use Prim.Native.Nat.{ℕ, zero, suc, ◌+◌, ◌*◌, ◌≤◌, ◌<◌}
+use Prim.Native.Nat.{ℕ, zero, suc, ◌+◌, ◌-◌, ◌*◌, ◌≤◌, ◌<◌}
 use mathlib.Core.Path.{◌≡◌, refl, sym, ap, ◌∙◌, subst}
 use mathlib.Core.Bool.{Bool, true, false, not, ◌||◌}
 use mathlib.Core.List.{List, [], ◌∷◌, ◌++◌, append_assoc, append-nil}
@@ -74,9 +74,10 @@ use Rattle.records.specs.Records.{
   header,
   file_of,
 }
-use Rattle.records.specs.Writing.{judge_counts, judge_sharding, judge_order, order_of, judge_opening, judge_records}
+use Rattle.records.specs.Writing.{judge_counts, judge_sharding, judge_order, order_of, judge_opening, step_numbered, judge_records}
 use Rattle.records.specs.RoundTrip.{Shorts, Fits}
 use Rattle.records.proofs.Places.{From, from_all, from-length, from_next, from-u16}
+use Rattle.records.proofs.Numbers.{all-numbered, outermost-within}
 use Rattle.records.proofs.Lists.{read, is_le, is_eq, then-bind, then-then, bind-then, list-from, lists-from}
 use Rattle.records.proofs.Moved.{judged_by, bind-by, bind-same, outermost_further, outermost-moved}
 use Rattle.records.proofs.Given.{all-given}
@@ -407,8 +408,14 @@ module _ (r : Records) (fits : Fits r) where
       ap (λ (k : ℕ). outermost_at every_kind r.mesh r.sizes file 0 (outermost r.steps) 1 k r.start) z
       ∙ outermost-moved (steps_start r) file steps at-steps r.mesh r.sizes every_kind 0 (outermost r.steps) 1 0 r.start) in
       rw (front-from, then-bind, is-count, read-there, bind-by)
-      (ap (◌>>◌ (judge_opening r)) (ends (outermost_at every_kind r.mesh r.sizes steps 0 (outermost r.steps) 1 0 r.start) refl))
+      (ap (◌>>◌ (judge_opening r)) (rw numbered (ends (outermost_at every_kind r.mesh r.sizes steps 0 (outermost r.steps) 1 0 r.start) refl)))
     where
+      numbered : step_numbered (outermost_at every_kind r.mesh r.sizes (steps_bytes r.steps) 0 (outermost r.steps) 1 0 r.start)
+          ≡ outermost_at every_kind r.mesh r.sizes (steps_bytes r.steps) 0 (outermost r.steps) 1 0 r.start
+      numbered =
+          all-numbered (1 + (length (steps_bytes r.steps) - 0)) _ (unfold file_length in omega (arith, fits.short))
+          (outermost-within r.mesh r.sizes (steps_bytes r.steps) every_kind 0 (outermost r.steps) 1 0 r.start (omega arith))
+
       plan_of : Outermost → Plan
       plan_of o = record {
         mesh = r.mesh;

@@ -1,13 +1,13 @@
 -- Document 02, Ask 2: what the writer's definitions promise of themselves. "What is written reads back as the same records, unused places aside, and every
 -- accepted file, read and written again, comes out byte for byte." These are statements; proofs/Promises.antt proves them. Assumes nothing.
-use Rattle.std.specs.Prelude.{ℕ, ◌+◌, ◌-◌, ◌*◌, ◌^◌, ◌≤◌, ◌<◌, ◌≡◌, List, [], ◌∷◌, length, get_or, T}
+use Rattle.std.specs.Prelude.{ℕ, ◌≤◌, ◌<◌, ◌≡◌, List, [], ◌∷◌, length, get_or, T}
 use Rattle.rules.specs.Mesh.{devices}
 use Rattle.rules.specs.Sharding.{Sharding}
 use Rattle.rules.specs.Collectives.{Step, allSlice, allGather, all_reduce, all_to_all, reduce_scatter}
-use Rattle.rules.specs.Limits.{most_axes, most_bytes, most_run, most_depth}
+use Rattle.rules.specs.Limits.{most_axes, most_bytes}
 use Rattle.rules.specs.Refusals.{accept, refuse}
 use Rattle.rules.specs.PlanFile.{Record, plain, repeat, some, Plan, judge}
-use Rattle.records.specs.Records.{Given, known, unknown, Records, records_of, steps_bytes, file_length, file_of}
+use Rattle.records.specs.Records.{Given, known, unknown, Records, records_of, file_length, file_of}
 use Rattle.records.specs.Writing.{judge_records, write_of}
 
 -- numbers of 16 bits, and bytes
@@ -94,27 +94,8 @@ WrittenAgain =
 abbrev pub OneFile : Type 0
 OneFile = (file other : List ℕ) → Bytes file → Bytes other → (p : Plan) → judge file ≡ accept p → judge other ≡ accept p → file ≡ other
 
--- ---- how many records, and their numbers
-
--- An accepted plan has at most so many records: each is a plain step or one of the blocks around it, and plain steps are as many as are run or fewer.
-abbrev pub most_records : ℕ
-most_records = (most_depth + 1) * most_run
-
-abbrev pub FewRecords : Type 0
-FewRecords = (r : Records) (p : Plan) → judge_records r ≡ accept p → length p.records ≤ most_records
-
--- No refusal has a step number past the last that 32 bits hold beside a refusal number. A call may give any number of records, but a block has a byte's
--- number of steps, and the steps before the refused one are within the limits of Ask 11.
-abbrev pub last_step : ℕ
-last_step = 2 ^ 24 - 1
-
-abbrev pub NumbersFit : Type 0
-NumbersFit = (r : Records) → Bytes (steps_bytes r.steps) → (out : List ℕ) (n k : ℕ) → write_of r out ≡ refuse n k → k ≤ last_step
-
 pub record RecordsPromise : Type 0 where
   pub file_judged : FileJudged
   pub reads_back : ReadsBack
   pub written_again : WrittenAgain
   pub one_file : OneFile
-  pub few_records : FewRecords
-  pub numbers_fit : NumbersFit

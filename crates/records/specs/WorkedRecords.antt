@@ -5,14 +5,13 @@ use Rattle.rules.specs.Lists.{flat, All, done, ◌&◌}
 use Rattle.rules.specs.Sharding.{Sharding}
 use Rattle.rules.specs.Collectives.{Step, allSlice, allGather, all_reduce, all_to_all, reduce_scatter}
 use Rattle.rules.specs.Refusals.{Judged, accept, refuse}
-use Rattle.rules.specs.Limits.{every_kind}
-use Rattle.rules.specs.PlanFile.{plain, repeat, outermost_at, Plan}
+use Rattle.rules.specs.PlanFile.{plain, repeat, Plan}
 use Rattle.rules.specs.Ledger.{w1, nines}
 use Rattle.types.specs.declared.Axis.{Axis}
 use Rattle.types.specs.declared.AxisList.{AxisList}
 use Rattle.types.specs.declared.Sharding as code
-use Rattle.records.specs.Records.{Given, known, unknown, Records, outermost, steps_bytes, file_length}
-use Rattle.records.specs.Writing.{judge_opening, judge_records, write_of, write_leaves}
+use Rattle.records.specs.Records.{Given, known, unknown, Records, file_length}
+use Rattle.records.specs.Writing.{step_numbered, judge_records, write_of, write_leaves}
 use Rattle.records.specs.Forms.{steps_given, records_given}
 use Rattle.records.specs.Planning.{plan_of}
 use Rattle.records.specs.WorkedReading as reading
@@ -258,7 +257,7 @@ refusals =
     ∷ refused (whole (times 1 2 ∷ times 2 3 ∷ swings 1)) 7 0
     ∷ refused (whole (times 1 2 ∷ times 2 2 ∷ swings 1)) 7 0
     ∷ refused (whole (times 1 3 ∷ gather ∷ [])) 24 2
-    -- more records than any file could hold: each is judged as it comes
+    -- more records than have numbers, which no file could hold: each is judged as it comes
     ∷ refused (whole (nested 65536 [])) 42 5
     ∷ refused (records_for (0 ∷ []) [] (4 ∷ []) (sharding ([] ∷ []) [] []) (nested 65536 [])) 10 0
     ∷ []
@@ -457,17 +456,17 @@ planned-as =
 abbrev pub PastLimit : Type 0
 PastLimit = (r : Records) (out : List ℕ) (p : Plan) → judge_records r ≡ accept p → 8192 < file_length r → write_of r out ≡ refuse 2 0
 
--- a refusal of a step is the writer's, of every buffer, whatever its number: "then each step as the check judges it"
-abbrev pub EveryNumber : Type 0
-EveryNumber =
-    (r : Records) (out : List ℕ) → judge_opening r ≡ accept tt → (n k : ℕ)
-    → outermost_at every_kind r.mesh r.sizes (steps_bytes r.steps) 0 (outermost r.steps) 1 0 r.start ≡ refuse n k → write_of r out ≡ refuse n k
+-- the last step number, the first past it, and a refusal without one
+abbrev pub Numbering : Type 0
+Numbering =
+    (step_numbered {A = ℕ} (refuse 20 65535) ≡ refuse 20 65535) × (step_numbered {A = ℕ} (refuse 20 65536) ≡ refuse 2 0)
+    × (step_numbered {A = ℕ} (refuse 7 0) ≡ refuse 7 0)
 
 pub record WorkedPromise : Type 0 where
   pub writing : All Holds writes
   pub refusing : All Holds refusals
   pub past_limit : PastLimit
-  pub every_number : EveryNumber
+  pub numbering : Numbering
   pub given : All Holds forms
   pub planning : All Holds plannings
   pub reading : All reading.Holds reading.reads

@@ -43,12 +43,21 @@ judge_opening r = do
   judge_sizes most_words 12 13 1 r.sizes
   judge_sharding r.mesh r.sizes r.start
 
+-- A step number has 16 bits. Records beyond these are judged too; a refusal there has no number to go with it, and is the byte limit's 2, which a file
+-- of so many records passes.
+abbrev pub most_records : ℕ
+most_records = 65535
+
+abbrev pub step_numbered : {A : Type 0} → Judged A → Judged A
+step_numbered (accept a) = accept a
+step_numbered (refuse n k) = pick (leb k most_records) (refuse n k) (refuse 2 0)
+
 -- then the steps: their bytes are read and judged as the check does, from the first on. "7 for records that end inside a block" (Ask 11).
 unfoldable pub judge_records : Records → Judged Plan
 unfolding judge_opening steps_bytes outermost_at
 judge_records r = do
   judge_opening r
-  ts ← outermost_at every_kind r.mesh r.sizes (steps_bytes r.steps) 0 (outermost r.steps) 1 0 r.start
+  ts ← step_numbered (outermost_at every_kind r.mesh r.sizes (steps_bytes r.steps) 0 (outermost r.steps) 1 0 r.start)
   accept (record {
     mesh = r.mesh;
     order = order_of (devices r.mesh) r.order;

@@ -1,15 +1,17 @@
 // Plans as records and the files that are written of them: definitions in specs/, laws in proofs/. Of code it has the types of the answers alone.
+#![tactic(auto)]
+
 use types::{Axis, Dim, Refusal, Sharding, Step};
 
 // The number of bytes written, or the refusal.
-#[derive(Drop)]
+#[derive(Clone, Copy)]
 pub enum WriteOutcome {
     Written(usize),
     Refused(Refusal),
 }
 
 // How many sizes the mesh and the table have; how many device numbers and how many bytes of step records were written.
-#[derive(Drop)]
+#[derive(Clone, Copy)]
 pub struct ReadCounts {
     pub n: usize,
     pub rank: usize,
@@ -17,7 +19,7 @@ pub struct ReadCounts {
     pub steps: usize,
 }
 
-#[derive(Drop)]
+#[derive(Clone, Copy)]
 pub enum ReadOutcome {
     Opened(ReadCounts),
     Refused(Refusal),
@@ -25,7 +27,7 @@ pub enum ReadOutcome {
 
 // The reading call's answer: beside the outcome, the sizes of the mesh and of the table, and the starting sharding. Places that are not used are 0, and so is
 // every place beside a refusal.
-#[derive(Drop)]
+#[derive(Clone, Copy)]
 pub struct Opened {
     pub outcome: ReadOutcome,
     pub mesh: [u16; Axis::MOST],
@@ -34,20 +36,20 @@ pub struct Opened {
 }
 
 // At most three steps: the first `count` places; the others hold no step.
-#[derive(Drop)]
+#[derive(Clone, Copy)]
 pub struct Steps {
     pub count: usize,
     pub steps: [Step; 3],
 }
 
-#[derive(Drop)]
+#[derive(Clone, Copy)]
 pub enum PlanOutcome {
     Made,
     Refused(Refusal),
 }
 
 // The planner's answer: the steps stand beside the outcome; there are none beside a refusal.
-#[derive(Drop)]
+#[derive(Clone, Copy)]
 pub struct Planned {
     pub outcome: PlanOutcome,
     pub plan: Steps,

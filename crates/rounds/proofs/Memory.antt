@@ -1,11 +1,12 @@
 -- The memory of a run: what one step of the code leaves is the memory after the rules' step (`step-leaves`); shards stand in the buffer that is named,
--- after any steps (`leaves-stands`); and what steps leave, one after the other, all of them leave (`leaves-append`). For every element type. Assumes nothing.
+-- after any steps (`leaves-stands`); and what steps leave, one after the other, all of them leave (`leaves-append`). Assumes nothing.
 use Prim.Native.Nat.{ℕ}
 use mathlib.Core.Path.{◌≡◌, refl, sym, ap, ◌∙◌, subst}
 use mathlib.Core.Bool.{Bool, true, false, not}
 use mathlib.Core.List.{List, [], ◌∷◌, ◌++◌}
 use native.Mathlib.Omega.{arith}
 use Rattle.rules.specs.Lists.{pick, in_turn}
+use Rattle.rules.specs.Spread.{add_words}
 use Rattle.rules.specs.Collectives.{Step, allSlice, allGather, all_reduce, all_to_all, reduce_scatter, Shards, stepped, Stands, with_shards}
 use Rattle.types.specs.Types.{of_kind, step_of}
 use Rattle.types.specs.declared.Kind.{Kind}
@@ -29,67 +30,67 @@ stays-in rank t = go t.kind
     go Unknown = refl
 
 -- a step that is done in place spends nothing besides
-stays-spends : {W : Type 0} (addAll : List W → W) (mesh : List ℕ) (t : Step) → stays_in t ≡ true → (v : Shards W) (l : List W) → spent_shards addAll mesh t v l ≡ l
-stays-spends addAll mesh (allSlice Ss) e v l = refl
-stays-spends addAll mesh (allGather Gs) e v l = refl
-stays-spends addAll mesh (all_reduce L) e v l = refl
-stays-spends addAll mesh (all_to_all source target L) e v l = refl
-stays-spends addAll mesh (reduce_scatter Ss) e v l = let z : ◌≡◌ {A = ℕ} 0 1 = cc in absurd (omega arith)
+stays-spends : (mesh : List ℕ) (t : Step) → stays_in t ≡ true → (v : Shards ℕ) (l : List ℕ) → spent_shards add_words mesh t v l ≡ l
+stays-spends mesh (allSlice Ss) e v l = refl
+stays-spends mesh (allGather Gs) e v l = refl
+stays-spends mesh (all_reduce L) e v l = refl
+stays-spends mesh (all_to_all source target L) e v l = refl
+stays-spends mesh (reduce_scatter Ss) e v l = let z : ◌≡◌ {A = ℕ} 0 1 = cc in absurd (omega arith)
 
-module _ {W : Type 0} (addAll : List W → W) (mesh : List ℕ) where
-  abbrev run : List Step → Shards W → Shards W
-  run ts v = in_turn (stepped addAll mesh) ts v
+module _ (mesh : List ℕ) where
+  abbrev run : List Step → Shards ℕ → Shards ℕ
+  run ts v = in_turn (stepped add_words mesh) ts v
 
   -- of two buffers, the one in which the next shards are put, and the other one, of which t has spent what it spends
-  put-in : (b in_work : Bool) (t : Step) → b ≡ stays_in t → (u v : Shards W) (work spare work' spare' : List W)
+  put-in : (b in_work : Bool) (t : Step) → b ≡ stays_in t → (u v : Shards ℕ) (work spare work' spare' : List ℕ)
       → pick b (pick in_work work' spare') (pick in_work spare' work') ≡ with_shards mesh u (pick b (pick in_work work spare) (pick in_work spare work))
       → pick b (pick in_work spare' work') (pick in_work work' spare')
-      ≡ pick b (pick in_work spare work) (spent_shards addAll mesh t v (pick in_work work spare))
+      ≡ pick b (pick in_work spare work) (spent_shards add_words mesh t v (pick in_work work spare))
       → record { shards = u; in_work = pick b in_work (not in_work); work = work'; spare = spare' }
-      ≡ put_in mesh u (pick b in_work (not in_work)) (spent_in addAll mesh t (record { shards = v; in_work = in_work; work = work; spare = spare }))
+      ≡ put_in mesh u (pick b in_work (not in_work)) (spent_in mesh t (record { shards = v; in_work = in_work; work = work; spare = spare }))
   put-in true true t s u v work spare work' spare' p q =
-      let w = p ∙ ap (with_shards mesh u) (sym (stays-spends addAll mesh t (sym s) v work)) in λ i. record { shards = u; in_work = true; work = w i; spare = q i }
+      let w = p ∙ ap (with_shards mesh u) (sym (stays-spends mesh t (sym s) v work)) in λ i. record { shards = u; in_work = true; work = w i; spare = q i }
   put-in true false t s u v work spare work' spare' p q =
-      let w = p ∙ ap (with_shards mesh u) (sym (stays-spends addAll mesh t (sym s) v spare)) in λ i. record { shards = u; in_work = false; work = q i; spare = w i }
+      let w = p ∙ ap (with_shards mesh u) (sym (stays-spends mesh t (sym s) v spare)) in λ i. record { shards = u; in_work = false; work = q i; spare = w i }
   put-in false true t s u v work spare work' spare' p q = λ i. record { shards = u; in_work = false; work = q i; spare = p i }
   put-in false false t s u v work spare work' spare' p q = λ i. record { shards = u; in_work = true; work = p i; spare = q i }
 
-  pub step-leaves : (rank : ℕ) (t : code.Step) (in_work : Bool) (v : Shards W) (work spare work' spare' : List W)
+  pub step-leaves : (rank : ℕ) (t : code.Step) (in_work : Bool) (v : Shards ℕ) (work spare work' spare' : List ℕ)
       → pick (in_place t.kind) (pick in_work work' spare') (pick in_work spare' work')
-      ≡ with_shards mesh (stepped addAll mesh (step_of rank t) v) (pick (in_place t.kind) (pick in_work work spare) (pick in_work spare work))
+      ≡ with_shards mesh (stepped add_words mesh (step_of rank t) v) (pick (in_place t.kind) (pick in_work work spare) (pick in_work spare work))
       → pick (in_place t.kind) (pick in_work spare' work') (pick in_work work' spare')
-      ≡ pick (in_place t.kind) (pick in_work spare work) (spent_shards addAll mesh (step_of rank t) v (pick in_work work spare))
-      → record { shards = stepped addAll mesh (step_of rank t) v; in_work = stands_after t.kind in_work; work = work'; spare = spare' }
-      ≡ memory_after addAll mesh (step_of rank t) (record { shards = v; in_work = in_work; work = work; spare = spare })
+      ≡ pick (in_place t.kind) (pick in_work spare work) (spent_shards add_words mesh (step_of rank t) v (pick in_work work spare))
+      → record { shards = stepped add_words mesh (step_of rank t) v; in_work = stands_after t.kind in_work; work = work'; spare = spare' }
+      ≡ memory_after mesh (step_of rank t) (record { shards = v; in_work = in_work; work = work; spare = spare })
   unfolding memory_after
   step-leaves rank t in_work v work spare work' spare' p q =
-      put-in (in_place t.kind) in_work (step_of rank t) (stays-in rank t) (stepped addAll mesh (step_of rank t) v) v work spare work' spare' p q
-      ∙ ap (λ (b : Bool). put_in mesh (stepped addAll mesh (step_of rank t) v) (pick b in_work (not in_work))
-      (spent_in addAll mesh (step_of rank t) (record { shards = v; in_work = in_work; work = work; spare = spare }))) (stays-in rank t)
+      put-in (in_place t.kind) in_work (step_of rank t) (stays-in rank t) (stepped add_words mesh (step_of rank t) v) v work spare work' spare' p q
+      ∙ ap (λ (b : Bool). put_in mesh (stepped add_words mesh (step_of rank t) v) (pick b in_work (not in_work))
+      (spent_in mesh (step_of rank t) (record { shards = v; in_work = in_work; work = work; spare = spare }))) (stays-in rank t)
 
   -- shards stand in the buffer that is named
-  abbrev Standing : Memory W → Type 0
+  abbrev Standing : Memory → Type 0
   Standing m = Stands mesh m.shards (pick m.in_work m.work m.spare)
 
-  put-stands : (v : Shards W) (b : Bool) (m : Memory W) → Standing (put_in mesh v b m)
+  put-stands : (v : Shards ℕ) (b : Bool) (m : Memory) → Standing (put_in mesh v b m)
   put-stands v true m = with-stands mesh v m.work
   put-stands v false m = with-stands mesh v m.spare
 
-  turns-stand : (ts : List Step) (m : Memory W) → Standing m → Standing (in_turn (memory_after addAll mesh) ts m)
+  turns-stand : (ts : List Step) (m : Memory) → Standing m → Standing (in_turn (memory_after mesh) ts m)
   unfolding memory_after
   turns-stand [] m h = h
-  turns-stand (t ∷ ts) m h = turns-stand ts (memory_after addAll mesh t m) (put-stands (stepped addAll mesh t m.shards) (pick (stays_in t) m.in_work (not m.in_work)) (spent_in addAll mesh t m))
+  turns-stand (t ∷ ts) m h = turns-stand ts (memory_after mesh t m) (put-stands (stepped add_words mesh t m.shards) (pick (stays_in t) m.in_work (not m.in_work)) (spent_in mesh t m))
 
-  module _ {shape : List ℕ} (ts : List Step) (in_work : Bool) (work spare : List W) {in-work' : Bool} {work' spare' : List W}
-      (l : Leaves addAll mesh shape ts in_work work spare in-work' work' spare') where
-    pub leaves-stands : (v : Shards W) → v.shape ≡ shape → Stands mesh v (pick in_work work spare) → Stands mesh (run ts v) (pick in-work' work' spare')
+  module _ {shape : List ℕ} (ts : List Step) (in_work : Bool) (work spare : List ℕ) {in-work' : Bool} {work' spare' : List ℕ}
+      (l : Leaves mesh shape ts in_work work spare in-work' work' spare') where
+    pub leaves-stands : (v : Shards ℕ) → v.shape ≡ shape → Stands mesh v (pick in_work work spare) → Stands mesh (run ts v) (pick in-work' work' spare')
     leaves-stands v e st =
         subst Standing (sym (l v e st)) (turns-stand ts (record { shards = v; in_work = in_work; work = work; spare = spare }) st)
 
-    pub leaves-append : {shape' : List ℕ} (us : List Step) {in-work'' : Bool} {work'' spare'' : List W}
-        → ((v : Shards W) → v.shape ≡ shape → (run ts v).shape ≡ shape') → Leaves addAll mesh shape' us in-work' work' spare' in-work'' work'' spare''
-        → Leaves addAll mesh shape (ts ++ us) in_work work spare in-work'' work'' spare''
+    pub leaves-append : {shape' : List ℕ} (us : List Step) {in-work'' : Bool} {work'' spare'' : List ℕ}
+        → ((v : Shards ℕ) → v.shape ≡ shape → (run ts v).shape ≡ shape') → Leaves mesh shape' us in-work' work' spare' in-work'' work'' spare''
+        → Leaves mesh shape (ts ++ us) in_work work spare in-work'' work'' spare''
     leaves-append us {in-work''} {work''} {spare''} shaped k v e st =
-        ap (λ (x : Shards W). record { shards = x; in_work = in-work''; work = work''; spare = spare'' }) (in-turn-append (stepped addAll mesh) ts us v)
-        ∙ k (run ts v) (shaped v e) (leaves-stands v e st) ∙ ap (in_turn (memory_after addAll mesh) us) (l v e st)
-        ∙ sym (in-turn-append (memory_after addAll mesh) ts us (record { shards = v; in_work = in_work; work = work; spare = spare }))
+        ap (λ (x : Shards ℕ). record { shards = x; in_work = in-work''; work = work''; spare = spare'' }) (in-turn-append (stepped add_words mesh) ts us v)
+        ∙ k (run ts v) (shaped v e) (leaves-stands v e st) ∙ ap (in_turn (memory_after mesh) us) (l v e st)
+        ∙ sym (in-turn-append (memory_after mesh) ts us (record { shards = v; in_work = in_work; work = work; spare = spare }))

@@ -8,6 +8,7 @@ use native.Mathlib.Omega.{arith}
 use lib.ListN.{length}
 use Rattle.rules.specs.Lists.{pick, product}
 use Rattle.rules.specs.Sharding.{Sharding, shard_sizes}
+use Rattle.rules.specs.Spread.{add_words}
 use Rattle.rules.specs.Collectives.{Step, after, stepped}
 use Rattle.rules.specs.Limits.{most_bytes}
 use Rattle.rules.specs.Refusals.{accept}
@@ -38,7 +39,7 @@ plain-numbered {file} {mesh} {table} {p} g =
     plain-takes (mesh_of mesh) (sizes_of table) file p.number p.at (sharding_on table p) g.read g.accepted in
     omega (arith, t.bytes, t.some, t.inside, g.number_few, g.short)
 
-module _ {W : Type 0} {file : List ℕ} {mesh : Mesh} {table : Table} {p : Progress} (work spare : List W)
+module _ {file : List ℕ} {mesh : Mesh} {table : Table} {p : Progress} (work spare : List ℕ)
     (g : CanRun (plain_at (mesh_of mesh) (sizes_of table) file) file mesh table p (length work) (length spare)) where
   abbrev s : Sharding
   s = sharding_on table p
@@ -91,23 +92,23 @@ module _ {W : Type 0} {file : List ℕ} {mesh : Mesh} {table : Table} {p : Progr
             (less-room (mesh_of mesh) new (pick-long p.in_work spare work g.spare_room g.work_room));
       }
 
-  module _ (addAll : List W → W) {r : Taken} (work' spare' : List W) (t : Turned addAll file p.at p.number mesh table p.sharding (pick p.in_work work spare)
+  module _ {r : Taken} (work' spare' : List ℕ) (t : Turned file p.at p.number mesh table p.sharding (pick p.in_work work spare)
       (pick p.in_work spare work) (pick p.in_work work' spare') (pick p.in_work spare' work') r) where
     pub plain-read : {x : Refusal} → r.next ≡ next.Refused x → ⊥
     plain-read q = never (sym (read-stopped _ t.taken q refl) ∙ was.taken)
 
     pub plain-ran : {end : ℕ} {b : Bool} → r.next ≡ next.At end → b ≡ stands_after r.step.kind p.in_work
-        → HasRun addAll (plain_at (mesh_of mesh) (sizes_of table) file) mesh table p work spare work' spare' (record { at = end; number = p.number + 1; in_work = b; sharding = r.sharding })
+        → HasRun (plain_at (mesh_of mesh) (sizes_of table) file) mesh table p work spare work' spare' (record { at = end; number = p.number + 1; in_work = b; sharding = r.sharding })
     plain-ran {end} {b} n q w e =
         let is : taken_as was.step was.end ≡ record { value = record { step = step_of table.rank r.step; sharding = sharding_of table.rank r.sharding }; next = end } =
         accept-inj (sym was.taken ∙ read-on _ t.taken n) in
         let same : read_steps_as was.step was.end ≡ w = was.read_is ∙ accept-inj (sym g.accepted ∙ e) in
-        subst (λ (w : StepsRead). HasTaken addAll w mesh table p work spare work' spare' (record { at = end; number = p.number + 1; in_work = b; sharding = r.sharding })) same (record {
+        subst (λ (w : StepsRead). HasTaken w mesh table p work spare work' spare' (record { at = end; number = p.number + 1; in_work = b; sharding = r.sharding })) same (record {
           at_is = sym (ap (λ (x : Read StepTaken). x.next) is);
           number_is = refl;
           sharding_is = sym (ap (λ (x : Read StepTaken). x.value.sharding) is);
-          leaves = subst (λ (x : Step). Leaves addAll (mesh_of mesh) (shape_of mesh table p.sharding) (x ∷ []) p.in_work work spare b work' spare')
+          leaves = subst (λ (x : Step). Leaves (mesh_of mesh) (shape_of mesh table p.sharding) (x ∷ []) p.in_work work spare b work' spare')
               (sym (ap (λ (x : Read StepTaken). x.value.step) is)) (λ v f st.
-              ap (λ (c : Bool). record { shards = stepped addAll (mesh_of mesh) (step_of table.rank r.step) v; in_work = c; work = work'; spare = spare' }) q
-              ∙ step-leaves addAll (mesh_of mesh) table.rank r.step p.in_work v work spare work' spare' (t.leaves v f st) (t.keeps v f st));
+              ap (λ (c : Bool). record { shards = stepped add_words (mesh_of mesh) (step_of table.rank r.step) v; in_work = c; work = work'; spare = spare' }) q
+              ∙ step-leaves (mesh_of mesh) table.rank r.step p.in_work v work spare work' spare' (t.leaves v f st) (t.keeps v f st));
         })

@@ -11,6 +11,7 @@ use lib.ListN.{length, get_or, replicate}
 use Rattle.rules.specs.Lists.{in_turn, flat, product}
 use Rattle.rules.specs.Mesh.{devices}
 use Rattle.rules.specs.Sharding.{Sharding, shard_sizes}
+use Rattle.rules.specs.Spread.{add_words}
 use Rattle.rules.specs.Collectives.{Step, after, Shards, stepped}
 use Rattle.rules.specs.Limits.{every_kind}
 use Rattle.rules.specs.Refusals.{accept}
@@ -68,6 +69,12 @@ module _ (mesh : Mesh) (table : Table) (file : List ℕ) (depth : ℕ) (from : P
   abbrev words : Sharding → ℕ
   words r = product (shard_sizes (mesh_of mesh) (sizes_of table) r.dims)
 
+  abbrev run : List Step → Shards ℕ → Shards ℕ
+  run ts v = in_turn (stepped add_words (mesh_of mesh)) ts v
+
+  abbrev Shaped : Shards ℕ → Type 0
+  Shaped v = v.shape ≡ shape_of mesh table from.sharding
+
   -- where a round begins
   abbrev first : Bool → Progress
   first in_work = record { at = from.at + 3; number = from.number + 1; in_work = in_work; sharding = from.sharding }
@@ -116,90 +123,83 @@ module _ (mesh : Mesh) (table : Table) (file : List ℕ) (depth : ℕ) (from : P
           sharding_is = ap (λ (w : StepsRead). w.sharding) (sym is.whole);
         }
 
-  module _ {W : Type 0} (addAll : List W → W) where
-    abbrev run : List Step → Shards W → Shards W
-    run ts v = in_turn (stepped addAll (mesh_of mesh)) ts v
+  -- i rounds have run
+  pub record RoundsRun (rounds number : ℕ) (work₀ spare₀ : List ℕ) (i : ℕ) (here : Progress) (work spare : List ℕ) : Type 0 where
+    pub can : CanRun (block_at (mesh_of mesh) (sizes_of table) file depth) file mesh table from (length work₀) (length spare₀)
+    pub is-repeat : Repeat rounds number can.read
+    pub few : i ≤ rounds
+    pub last : 0 < i → (here.at ≡ is-repeat.block.next) × (here.number ≡ from.number + 1 + length is-repeat.block.records)
+        × (sharding_on table here ≡ is-repeat.block.sharding)
+    pub leaves : Leaves (mesh_of mesh) (shape_of mesh table from.sharding) (flat (replicate i is-repeat.block.steps))
+        from.in_work work₀ spare₀ here.in_work work spare
+    pub work-long : length work ≡ length work₀
+    pub spare-long : length spare ≡ length spare₀
 
-    abbrev Shaped : Shards W → Type 0
-    Shaped v = v.shape ≡ shape_of mesh table from.sharding
+  pub rounds-start : {rounds number : ℕ} (work spare : List ℕ)
+      → (g : CanRun (block_at (mesh_of mesh) (sizes_of table) file depth) file mesh table from (length work) (length spare))
+      → rounds ≡ get_or file (from.at + 1) 0 → number ≡ get_or file (from.at + 2) 0 → RoundsRun rounds number work spare 0 from work spare
+  rounds-start work spare g r n = record {
+    can = g;
+    is-repeat = repeated g r n;
+    few = omega arith;
+    last = λ h. absurd (omega arith);
+    leaves = λ v h st. refl;
+    work-long = refl;
+    spare-long = refl;
+  }
 
-    -- i rounds have run
-    pub record RoundsRun (rounds number : ℕ) (work₀ spare₀ : List W) (i : ℕ) (here : Progress) (work spare : List W) : Type 0 where
-      pub can : CanRun (block_at (mesh_of mesh) (sizes_of table) file depth) file mesh table from (length work₀) (length spare₀)
-      pub is-repeat : Repeat rounds number can.read
-      pub few : i ≤ rounds
-      pub last : 0 < i → (here.at ≡ is-repeat.block.next) × (here.number ≡ from.number + 1 + length is-repeat.block.records)
-          × (sharding_on table here ≡ is-repeat.block.sharding)
-      pub leaves : Leaves addAll (mesh_of mesh) (shape_of mesh table from.sharding) (flat (replicate i is-repeat.block.steps))
-          from.in_work work₀ spare₀ here.in_work work spare
-      pub work-long : length work ≡ length work₀
-      pub spare-long : length spare ≡ length spare₀
+  module _ {rounds number : ℕ} {work₀ spare₀ : List ℕ} {i : ℕ} {here : Progress} {work spare : List ℕ}
+      (g : RoundsRun rounds number work₀ spare₀ i here work spare) where
+    abbrev block : StepsRead
+    block = g.is-repeat.block
 
-    pub rounds-start : {rounds number : ℕ} (work spare : List W)
-        → (g : CanRun (block_at (mesh_of mesh) (sizes_of table) file depth) file mesh table from (length work) (length spare))
-        → rounds ≡ get_or file (from.at + 1) 0 → number ≡ get_or file (from.at + 2) 0 → RoundsRun rounds number work spare 0 from work spare
-    rounds-start work spare g r n = record {
-      can = g;
-      is-repeat = repeated g r n;
-      few = omega arith;
-      last = λ h. absurd (omega arith);
-      leaves = λ v h st. refl;
-      work-long = refl;
-      spare-long = refl;
-    }
+    pub rounds-next : CanRun (inner number) file mesh table (first here.in_work) (length work) (length spare)
+    rounds-next =
+        let e : largest_on words s g.can.read.steps ≡ largest_on words s block.steps =
+        ap (largest_on words s) g.is-repeat.steps_are ∙ largest-times words rounds block.steps s g.is-repeat.some g.is-repeat.back in
+        record {
+          ready = g.can.ready;
+          limits = g.can.limits;
+          number_few = omega (arith, g.can.number_few);
+          short = g.can.short;
+          read = block;
+          accepted = g.is-repeat.block_is here.in_work;
+          work_room = subst (λ (n : ℕ). devices (mesh_of mesh) * n ≤ length work) e (omega (arith, g.work-long, g.can.work_room));
+          spare_room = subst (λ (n : ℕ). devices (mesh_of mesh) * n ≤ length spare) e (omega (arith, g.spare-long, g.can.spare_room));
+        }
 
-    module _ {rounds number : ℕ} {work₀ spare₀ : List W} {i : ℕ} {here : Progress} {work spare : List W}
-        (g : RoundsRun rounds number work₀ spare₀ i here work spare) where
-      abbrev block : StepsRead
-      block = g.is-repeat.block
+    -- shards have the same shape again
+    same_shape : (v : Shards ℕ) → Shaped v → Shaped (run (flat (replicate i block.steps)) v)
+    same_shape v h =
+        steps-shape (mesh_of mesh) (sizes_of table) g.can.ready.fits.sized.least add_words (flat (replicate i block.steps)) s v g.can.ready.sound
+        (fine-times (mesh_of mesh) (sizes_of table) i block.steps s g.is-repeat.back g.is-repeat.told.fine) h
+        ∙ ap (λ (x : Sharding). shard_sizes (mesh_of mesh) (sizes_of table) x.dims) (in-turn-times after i block.steps s g.is-repeat.back)
 
-      pub rounds-next : CanRun (inner number) file mesh table (first here.in_work) (length work) (length spare)
-      rounds-next =
-          let e : largest_on words s g.can.read.steps ≡ largest_on words s block.steps =
-          ap (largest_on words s) g.is-repeat.steps_are ∙ largest-times words rounds block.steps s g.is-repeat.some g.is-repeat.back in
-          record {
-            ready = g.can.ready;
-            limits = g.can.limits;
-            number_few = omega (arith, g.can.number_few);
-            short = g.can.short;
-            read = block;
-            accepted = g.is-repeat.block_is here.in_work;
-            work_room = subst (λ (n : ℕ). devices (mesh_of mesh) * n ≤ length work) e (omega (arith, g.work-long, g.can.work_room));
-            spare_room = subst (λ (n : ℕ). devices (mesh_of mesh) * n ≤ length spare) e (omega (arith, g.spare-long, g.can.spare_room));
-          }
+    pub rounds-step : i < rounds → {end : Progress} (work' spare' : List ℕ) → HasRun (inner number) mesh table (first here.in_work) work spare work' spare' end
+        → length work' ≡ length work → length spare' ≡ length spare → RoundsRun rounds number work₀ spare₀ (i + 1) end work' spare'
+    rounds-step h {end} work' spare' f lw ls =
+        let ran : HasTaken block mesh table (first here.in_work) work spare work' spare' end = f block (g.is-repeat.block_is here.in_work) in
+        let l : List Step = block.steps in
+        record {
+          can = g.can;
+          is-repeat = g.is-repeat;
+          few = omega arith;
+          last = λ _. (ran.at_is, ran.number_is, ran.sharding_is);
+          leaves = subst (λ (m : List Step). Leaves (mesh_of mesh) (shape_of mesh table from.sharding) m from.in_work work₀ spare₀ end.in_work work' spare')
+              (sym (rounds-more i l)) (leaves-append (mesh_of mesh) (flat (replicate i l)) from.in_work work₀ spare₀ g.leaves l same_shape ran.leaves);
+          work-long = lw ∙ g.work-long;
+          spare-long = ls ∙ g.spare-long;
+        }
 
-      -- shards have the same shape again
-      same_shape : (v : Shards W) → Shaped v → Shaped (run (flat (replicate i block.steps)) v)
-      same_shape v h =
-          steps-shape (mesh_of mesh) (sizes_of table) g.can.ready.fits.sized.least addAll (flat (replicate i block.steps)) s v g.can.ready.sound
-          (fine-times (mesh_of mesh) (sizes_of table) i block.steps s g.is-repeat.back g.is-repeat.told.fine) h
-          ∙ ap (λ (x : Sharding). shard_sizes (mesh_of mesh) (sizes_of table) x.dims) (in-turn-times after i block.steps s g.is-repeat.back)
-
-      pub rounds-step : i < rounds → {end : Progress} (work' spare' : List W) → HasRun addAll (inner number) mesh table (first here.in_work) work spare work' spare' end
-          → length work' ≡ length work → length spare' ≡ length spare → RoundsRun rounds number work₀ spare₀ (i + 1) end work' spare'
-      rounds-step h {end} work' spare' f lw ls =
-          let ran : HasTaken addAll block mesh table (first here.in_work) work spare work' spare' end = f block (g.is-repeat.block_is here.in_work) in
-          let l : List Step = block.steps in
-          record {
-            can = g.can;
-            is-repeat = g.is-repeat;
-            few = omega arith;
-            last = λ _. (ran.at_is, ran.number_is, ran.sharding_is);
-            leaves = subst (λ (m : List Step). Leaves addAll (mesh_of mesh) (shape_of mesh table from.sharding) m from.in_work work₀ spare₀ end.in_work work' spare')
-                (sym (rounds-more i l)) (leaves-append addAll (mesh_of mesh) (flat (replicate i l)) from.in_work work₀ spare₀ g.leaves l same_shape ran.leaves);
-            work-long = lw ∙ g.work-long;
-            spare-long = ls ∙ g.spare-long;
-          }
-
-      pub rounds-done : rounds ≤ i → HasRun addAll (block_at (mesh_of mesh) (sizes_of table) file depth) mesh table from work₀ spare₀ work spare here
-      rounds-done h w a =
-          let r : Repeat rounds number g.can.read = g.is-repeat in
-          let n : i ≡ rounds = omega (arith, g.few) in
-          let l = g.last (omega (arith, r.some)) in
-          subst (λ (w : StepsRead). HasTaken addAll w mesh table from work₀ spare₀ work spare here) (accept-inj (sym g.can.accepted ∙ a)) (record {
-            at_is = l.0 ∙ sym r.next_is;
-            number_is = l.1 ∙ omega (arith, r.records-are);
-            sharding_is = l.2 ∙ sym r.sharding_is;
-            leaves = subst (λ (m : List Step). Leaves addAll (mesh_of mesh) (shape_of mesh table from.sharding) m from.in_work work₀ spare₀ here.in_work work spare)
-                (ap (λ (x : ℕ). flat (replicate x block.steps)) n ∙ sym r.steps_are) g.leaves;
-          })
+    pub rounds-done : rounds ≤ i → HasRun (block_at (mesh_of mesh) (sizes_of table) file depth) mesh table from work₀ spare₀ work spare here
+    rounds-done h w a =
+        let r : Repeat rounds number g.can.read = g.is-repeat in
+        let n : i ≡ rounds = omega (arith, g.few) in
+        let l = g.last (omega (arith, r.some)) in
+        subst (λ (w : StepsRead). HasTaken w mesh table from work₀ spare₀ work spare here) (accept-inj (sym g.can.accepted ∙ a)) (record {
+          at_is = l.0 ∙ sym r.next_is;
+          number_is = l.1 ∙ omega (arith, r.records-are);
+          sharding_is = l.2 ∙ sym r.sharding_is;
+          leaves = subst (λ (m : List Step). Leaves (mesh_of mesh) (shape_of mesh table from.sharding) m from.in_work work₀ spare₀ here.in_work work spare)
+              (ap (λ (x : ℕ). flat (replicate x block.steps)) n ∙ sym r.steps_are) g.leaves;
+        })

@@ -7,6 +7,7 @@ use native.Mathlib.Omega.{arith}
 use lib.ListN.{length, length-append}
 use Rattle.rules.specs.Lists.{in_turn, product}
 use Rattle.rules.specs.Sharding.{Sharding, shard_sizes, IsSharding}
+use Rattle.rules.specs.Spread.{add_words}
 use Rattle.rules.specs.Collectives.{Step, Shards, stepped}
 use Rattle.rules.specs.Limits.{every_kind}
 use Rattle.rules.specs.Refusals.{accept}
@@ -61,31 +62,31 @@ unfolding steps_at
 no_steps one zero k at s w h e = sym (accept-inj e)
 no_steps one (suc n) k at s w h e = absurd (omega arith)
 
-module _ (mesh : Mesh) (table : Table) (file : List ℕ) (depth : ℕ) {W : Type 0} (addAll : List W → W) where
+module _ (mesh : Mesh) (table : Table) (file : List ℕ) (depth : ℕ) where
   abbrev item : JudgesStep
   item = item_at every_kind (mesh_of mesh) (sizes_of table) file depth
 
   abbrev words : Sharding → ℕ
   words s = product (shard_sizes (mesh_of mesh) (sizes_of table) s.dims)
 
-  abbrev run : List Step → Shards W → Shards W
-  run ts v = in_turn (stepped addAll (mesh_of mesh)) ts v
+  abbrev run : List Step → Shards ℕ → Shards ℕ
+  run ts v = in_turn (stepped add_words (mesh_of mesh)) ts v
 
-  abbrev Shaped : Progress → Shards W → Type 0
+  abbrev Shaped : Progress → Shards ℕ → Type 0
   Shaped p v = v.shape ≡ shape_of mesh table p.sharding
 
   -- i of the steps have run, and the others can
-  pub record RowRun (count : ℕ) (from : Progress) (work₀ spare₀ : List W) (i : ℕ) (here : Progress) (work spare : List W) : Type 0 where
+  pub record RowRun (count : ℕ) (from : Progress) (work₀ spare₀ : List ℕ) (i : ℕ) (here : Progress) (work spare : List ℕ) : Type 0 where
     pub few : i ≤ count
     pub done : StepsRead
-    pub ran : HasTaken addAll done mesh table from work₀ spare₀ work spare here
-    pub shaped : (v : Shards W) → Shaped from v → Shaped here (run done.steps v)
+    pub ran : HasTaken done mesh table from work₀ spare₀ work spare here
+    pub shaped : (v : Shards ℕ) → Shaped from v → Shaped here (run done.steps v)
     pub rest : CanRun (steps_at item (count - i)) file mesh table here (length work) (length spare)
     pub whole : judged_from (steps_at item count) table from ≡ accept (joined done rest.read)
     pub work-long : length work ≡ length work₀
     pub spare-long : length spare ≡ length spare₀
 
-  pub row-start : {count : ℕ} {from : Progress} (work spare : List W) → CanRun (steps_at item count) file mesh table from (length work) (length spare)
+  pub row-start : {count : ℕ} {from : Progress} (work spare : List ℕ) → CanRun (steps_at item count) file mesh table from (length work) (length spare)
       → RowRun count from work spare 0 from work spare
   row-start {count} {from} work spare g =
       let q : count - 0 ≡ count = omega arith in
@@ -109,18 +110,18 @@ module _ (mesh : Mesh) (table : Table) (file : List ℕ) (depth : ℕ) {W : Type
         spare-long = refl;
       }
 
-  module _ {count : ℕ} {from : Progress} {work₀ spare₀ : List W} {i : ℕ} {here : Progress} {work spare : List W}
+  module _ {count : ℕ} {from : Progress} {work₀ spare₀ : List ℕ} {i : ℕ} {here : Progress} {work spare : List ℕ}
       (g : RowRun count from work₀ spare₀ i here work spare) where
     abbrev s : Sharding
     s = sharding_on table here
 
-    pub row_done : count ≤ i → HasRun addAll (steps_at item count) mesh table from work₀ spare₀ work spare here
+    pub row_done : count ≤ i → HasRun (steps_at item count) mesh table from work₀ spare₀ work spare here
     row_done h w a =
         let d : StepsRead = g.done in
         let e : g.rest.read ≡ none here.at s = no_steps item (count - i) here.number here.at s g.rest.read (omega arith) g.rest.accepted in
         let all : joined d g.rest.read ≡ d =
         ap (joined d) e ∙ (λ j. record { records = append-nil d.records j; steps = append-nil d.steps j; sharding = g.ran.sharding_is j; next = g.ran.at_is j }) in
-        subst (λ (w : StepsRead). HasTaken addAll w mesh table from work₀ spare₀ work spare here) (sym all ∙ accept-inj (sym g.whole ∙ a)) g.ran
+        subst (λ (w : StepsRead). HasTaken w mesh table from work₀ spare₀ work spare here) (sym all ∙ accept-inj (sym g.whole ∙ a)) g.ran
 
     module _ (h : i < count) where
       apart : Split item (count - i) here.number here.at s g.rest.read
@@ -148,8 +149,8 @@ module _ (mesh : Mesh) (table : Table) (file : List ℕ) (depth : ℕ) {W : Type
             spare_room = less-room (mesh_of mesh) l g.rest.spare_room;
           }
 
-      module _ {end : Progress} (work' spare' : List W) (f : HasRun addAll item mesh table here work spare work' spare' end) where
-        ran : HasTaken addAll apart.first mesh table here work spare work' spare' end
+      module _ {end : Progress} (work' spare' : List ℕ) (f : HasRun item mesh table here work spare work' spare' end) where
+        ran : HasTaken apart.first mesh table here work spare work' spare' end
         ran = f apart.first apart.first_is
 
         -- the others can run from there
@@ -183,8 +184,8 @@ module _ (mesh : Mesh) (table : Table) (file : List ℕ) (depth : ℕ) {W : Type
             let d : StepsRead = g.done in
             let t : StepsRead = apart.first in
             let u : StepsRead = apart.others in
-            let append : (v : Shards W) → run (d.steps ++ t.steps) v ≡ run t.steps (run d.steps v) =
-            in-turn-append (stepped addAll (mesh_of mesh)) d.steps t.steps in
+            let append : (v : Shards ℕ) → run (d.steps ++ t.steps) v ≡ run t.steps (run d.steps v) =
+            in-turn-append (stepped add_words (mesh_of mesh)) d.steps t.steps in
             record {
               few = omega arith;
               done = joined d t;
@@ -192,10 +193,10 @@ module _ (mesh : Mesh) (table : Table) (file : List ℕ) (depth : ℕ) {W : Type
                 at_is = ran.at_is;
                 number_is = omega (arith, ran.number_is, g.ran.number_is, length-append d.records t.records);
                 sharding_is = ran.sharding_is;
-                leaves = leaves-append addAll (mesh_of mesh) d.steps from.in_work work₀ spare₀ g.ran.leaves t.steps g.shaped ran.leaves;
+                leaves = leaves-append (mesh_of mesh) d.steps from.in_work work₀ spare₀ g.ran.leaves t.steps g.shaped ran.leaves;
               };
-              shaped = λ v e. ap (λ (x : Shards W). x.shape) (append v)
-                  ∙ steps-shape (mesh_of mesh) (sizes_of table) g.rest.ready.fits.sized.least addAll t.steps s (run d.steps v) g.rest.ready.sound told.fine (g.shaped v e)
+              shaped = λ v e. ap (λ (x : Shards ℕ). x.shape) (append v)
+                  ∙ steps-shape (mesh_of mesh) (sizes_of table) g.rest.ready.fits.sized.least add_words t.steps s (run d.steps v) g.rest.ready.sound told.fine (g.shaped v e)
                   ∙ ap (λ (x : Sharding). shard_sizes (mesh_of mesh) (sizes_of table) x.dims) (told.ends ∙ sym ran.sharding_is);
               rest = others lw ls (count - (i + 1)) (omega arith);
               whole = g.whole ∙ ap (λ (w : StepsRead). accept (joined d w)) (sym apart.whole)

@@ -21,7 +21,7 @@ use Rattle.rounds.specs.declared.Progress.{Progress}
 pub less-room : (mesh : List ℕ) {few most words : ℕ} → few ≤ most → devices mesh * most ≤ words → devices mesh * few ≤ words
 less-room mesh l h = le_trans (mul-le-mul_left (devices mesh) l) h
 
-pub pick-long : {W : Type 0} (b : Bool) {room : ℕ} (work spare : List W) → room ≤ length work → room ≤ length spare → room ≤ length (pick b work spare)
+pub pick-long : (b : Bool) {room : ℕ} (work spare : List ℕ) → room ≤ length work → room ≤ length spare → room ≤ length (pick b work spare)
 pick-long true work spare h l = h
 pick-long false work spare h l = l
 

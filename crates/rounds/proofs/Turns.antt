@@ -7,6 +7,7 @@ use mathlib.Core.List.{List}
 use lib.ListN.{length}
 use Rattle.rules.specs.Lists.{pick, product}
 use Rattle.rules.specs.Sharding.{shard_sizes}
+use Rattle.rules.specs.Spread.{add_words}
 use Rattle.rules.specs.Collectives.{stepped, with_shards}
 use Rattle.rules.specs.Refusals.{accept}
 use Rattle.rules.specs.PlanFile.{Read}
@@ -30,7 +31,7 @@ read-value (next.At k) e = ap (λ (x : Read _). x.value) (accept-inj e)
 read-value (next.Refused x) e = absurd (never e)
 
 -- of two buffers, the one in which the next state stands, and the other one
-next-stands : {W : Type 0} (b : Bool) (here there spent : List W) (next : List W → List W) {here' there' : List W}
+next-stands : (b : Bool) (here there spent : List ℕ) (next : List ℕ → List ℕ) {here' there' : List ℕ}
     → here' ≡ pick b (next here) spent → there' ≡ pick b there (next there) → (pick b here' there' ≡ next (pick b here there)) × (pick b there' here' ≡ pick b there spent)
 next-stands true here there spent next e f = (e, f)
 next-stands false here there spent next e f = (f, e)
@@ -46,18 +47,18 @@ module _ {file : List ℕ} {at k : ℕ} {mesh : Mesh} {table : Table} {s : code.
       (subst (λ (m : StepTaken). Stepping (mesh_of mesh) (shape_of mesh table s) m.step (product (shard_sizes (mesh_of mesh) (sizes_of table) m.sharding.dims)) old new)
       (sym (read-value r.next (e ∙ h.taken))) h.stepping)
 
-  pub turned : {W : Type 0} (addAll : List W → W) (z : W) (here there : List W) {here' there' : List W}
-      → here' ≡ pick (in_place r.step.kind) (stepped_buffer addAll z (mesh_of mesh) shape (step_of (length shape) r.step) words here here)
-      (spent_buffer addAll z (mesh_of mesh) shape (step_of (length shape) r.step) here)
-      → there' ≡ pick (in_place r.step.kind) there (stepped_buffer addAll z (mesh_of mesh) shape (step_of (length shape) r.step) words here there)
-      → Turned addAll file at k mesh table s here there here' there' r
-  turned addAll z here there p q =
-      let n = next-stands (in_place r.step.kind) here there _ (stepped_buffer addAll z (mesh_of mesh) shape (step_of (length shape) r.step) words here) p q in
+  pub turned : (here there : List ℕ) {here' there' : List ℕ}
+      → here' ≡ pick (in_place r.step.kind) (stepped_buffer add_words 0 (mesh_of mesh) shape (step_of (length shape) r.step) words here here)
+      (spent_buffer add_words 0 (mesh_of mesh) shape (step_of (length shape) r.step) here)
+      → there' ≡ pick (in_place r.step.kind) there (stepped_buffer add_words 0 (mesh_of mesh) shape (step_of (length shape) r.step) words here there)
+      → Turned file at k mesh table s here there here' there' r
+  turned here there p q =
+      let n = next-stands (in_place r.step.kind) here there _ (stepped_buffer add_words 0 (mesh_of mesh) shape (step_of (length shape) r.step) words here) p q in
       record {
         taken = e;
-        leaves = λ v f st. n.0 ∙ leaves-shards turn-asks addAll z v (f ∙ sym Shape-is) here _ st
-            ∙ ap (λ (n : ℕ). with_shards (mesh_of mesh) (stepped addAll (mesh_of mesh) (step_of n r.step) v) (pick (in_place r.step.kind) here there)) rank_is;
+        leaves = λ v f st. n.0 ∙ leaves-shards turn-asks add_words 0 v (f ∙ sym Shape-is) here _ st
+            ∙ ap (λ (n : ℕ). with_shards (mesh_of mesh) (stepped add_words (mesh_of mesh) (step_of n r.step) v) (pick (in_place r.step.kind) here there)) rank_is;
         keeps = λ v f st. n.1 ∙ ap (pick (in_place r.step.kind) there)
-            (spends-shards addAll z (mesh_of mesh) (step_of (length shape) r.step) v (f ∙ sym Shape-is) here st
-            ∙ ap (λ (n : ℕ). spent_shards addAll (mesh_of mesh) (step_of n r.step) v here) rank_is);
+            (spends-shards add_words 0 (mesh_of mesh) (step_of (length shape) r.step) v (f ∙ sym Shape-is) here st
+            ∙ ap (λ (n : ℕ). spent_shards add_words (mesh_of mesh) (step_of n r.step) v here) rank_is);
       }

@@ -1,9 +1,10 @@
 -- What the parts (src/lib.rt) ask for and leave, of no plan: one step by itself; and whatever was accepted from a sharding on, a plain step, a repeat,
--- or so many steps in turn, with both buffers whole. Words are of any type W; addAll is the sum of a group's words. Assumes nothing.
+-- or so many steps in turn, with both buffers whole. Assumes nothing.
 use Rattle.std.specs.Prelude.{ℕ, ◌+◌, ◌*◌, ◌≤◌, ◌<◌, ◌≡◌, Bool, true, false, not, List, length, take}
 use Rattle.rules.specs.Lists.{pick, in_turn, product}
 use Rattle.rules.specs.Mesh.{devices, OnMesh}
 use Rattle.rules.specs.Sharding.{Sharding, shard_sizes}
+use Rattle.rules.specs.Spread.{add_words}
 use Rattle.rules.specs.Collectives.{Step, allSlice, allGather, all_reduce, all_to_all, reduce_scatter, Shards, stepped, Stands, with_shards}
 use Rattle.rules.specs.Limits.{most_dims, most_words, most_bytes, every_kind}
 use Rattle.rules.specs.Refusals.{Judged, accept}
@@ -37,15 +38,14 @@ pub record Turning (file : List ℕ) (at k : ℕ) (mesh : Mesh) (table : Table) 
 
 -- what the step leaves, from the state in here: of any shards of that sharding's shape that stood there, those after the step, in here where it is done
 -- in place, else in there, with the words behind them as they were; and in the other buffer what the step has spent of it
-pub record Turned {W : Type 0} (addAll : List W → W) (file : List ℕ) (at k : ℕ) (mesh : Mesh) (table : Table) (s : code.Sharding)
-    (here there here' there' : List W) (r : Taken) : Type 0 where
+pub record Turned (file : List ℕ) (at k : ℕ) (mesh : Mesh) (table : Table) (s : code.Sharding) (here there here' there' : List ℕ) (r : Taken) : Type 0 where
   pub taken : taken_read table.rank r ≡ take_step (mesh_of mesh) (sizes_of table) k file at (sharding_of table.rank s)
-  pub leaves : (v : Shards W) → v.shape ≡ shape_of mesh table s → Stands (mesh_of mesh) v here
+  pub leaves : (v : Shards ℕ) → v.shape ≡ shape_of mesh table s → Stands (mesh_of mesh) v here
       → pick (in_place r.step.kind) here' there'
-      ≡ with_shards (mesh_of mesh) (stepped addAll (mesh_of mesh) (step_of table.rank r.step) v) (pick (in_place r.step.kind) here there)
-  pub keeps : (v : Shards W) → v.shape ≡ shape_of mesh table s → Stands (mesh_of mesh) v here
+      ≡ with_shards (mesh_of mesh) (stepped add_words (mesh_of mesh) (step_of table.rank r.step) v) (pick (in_place r.step.kind) here there)
+  pub keeps : (v : Shards ℕ) → v.shape ≡ shape_of mesh table s → Stands (mesh_of mesh) v here
       → pick (in_place r.step.kind) there' here'
-      ≡ pick (in_place r.step.kind) there (spent_shards addAll (mesh_of mesh) (step_of table.rank r.step) v here)
+      ≡ pick (in_place r.step.kind) there (spent_shards add_words (mesh_of mesh) (step_of table.rank r.step) v here)
 
 -- whether the state stands in work after a step: one that is not done in place leaves it in the other buffer
 abbrev pub stands_after : Kind → Bool → Bool
@@ -54,14 +54,14 @@ stands_after kind in_work = pick (in_place kind) in_work (not in_work)
 -- ---- the memory of a run
 
 -- shards, whether they stand at the front of work, else at that of spare, and both buffers whole
-pub record Memory (W : Type 0) : Type 0 where
-  pub shards : Shards W
+pub record Memory : Type 0 where
+  pub shards : Shards ℕ
   pub in_work : Bool
-  pub work : List W
-  pub spare : List W
+  pub work : List ℕ
+  pub spare : List ℕ
 
 -- shards put at the front of one of the buffers: its other words stay, and so does the other buffer
-abbrev pub put_in : {W : Type 0} → (mesh : List ℕ) → Shards W → Bool → Memory W → Memory W
+abbrev pub put_in : (mesh : List ℕ) → Shards ℕ → Bool → Memory → Memory
 put_in mesh v in_work m = record {
   shards = v;
   in_work = in_work;
@@ -78,26 +78,25 @@ stays_in (all_to_all source target L) = false
 stays_in (reduce_scatter Ss) = false
 
 -- what a step spends of the buffer in which the shards stood
-abbrev pub spent_in : {W : Type 0} → (List W → W) → (mesh : List ℕ) → Step → Memory W → Memory W
-spent_in addAll mesh t m = record {
+abbrev pub spent_in : (mesh : List ℕ) → Step → Memory → Memory
+spent_in mesh t m = record {
   shards = m.shards;
   in_work = m.in_work;
-  work = pick m.in_work (spent_shards addAll mesh t m.shards m.work) m.work;
-  spare = pick m.in_work m.spare (spent_shards addAll mesh t m.shards m.spare);
+  work = pick m.in_work (spent_shards add_words mesh t m.shards m.work) m.work;
+  spare = pick m.in_work m.spare (spent_shards add_words mesh t m.shards m.spare);
 }
 
 -- one step on it
-unfoldable pub memory_after : {W : Type 0} → (List W → W) → (mesh : List ℕ) → Step → Memory W → Memory W
-memory_after addAll mesh t m = put_in mesh (stepped addAll mesh t m.shards) (pick (stays_in t) m.in_work (not m.in_work)) (spent_in addAll mesh t m)
+unfoldable pub memory_after : (mesh : List ℕ) → Step → Memory → Memory
+memory_after mesh t m = put_in mesh (stepped add_words mesh t m.shards) (pick (stays_in t) m.in_work (not m.in_work)) (spent_in mesh t m)
 
 -- What steps leave of two buffers, of any shards of a shape that stood in the one that is named; the words that it holds are such shards (`held-stands`,
 -- laws/proofs/Stands). So every word of both buffers is fixed, and in which of them the shards after the steps stand.
-abbrev pub Leaves : {W : Type 0} → (List W → W) → (mesh shape : List ℕ) → List Step → (in_work : Bool) → (work spare : List W)
-    → (in-work' : Bool) → (work' spare' : List W) → Type 0
-Leaves {W} addAll mesh shape ts in_work work spare in-work' work' spare' =
-    (v : Shards W) → v.shape ≡ shape → Stands mesh v (pick in_work work spare)
-    → record { shards = in_turn (stepped addAll mesh) ts v; in_work = in-work'; work = work'; spare = spare' }
-    ≡ in_turn (memory_after addAll mesh) ts (record { shards = v; in_work = in_work; work = work; spare = spare })
+abbrev pub Leaves : (mesh shape : List ℕ) → List Step → (in_work : Bool) → (work spare : List ℕ) → (in-work' : Bool) → (work' spare' : List ℕ) → Type 0
+Leaves mesh shape ts in_work work spare in-work' work' spare' =
+    (v : Shards ℕ) → v.shape ≡ shape → Stands mesh v (pick in_work work spare)
+    → record { shards = in_turn (stepped add_words mesh) ts v; in_work = in-work'; work = work'; spare = spare' }
+    ≡ in_turn (memory_after mesh) ts (record { shards = v; in_work = in_work; work = work; spare = spare })
 
 -- ---- whatever was accepted
 
@@ -137,13 +136,12 @@ pub record CanRun (judges : JudgesStep) (file : List ℕ) (mesh : Mesh) (table :
   pub spare_room : room_for (mesh_of mesh) (sizes_of table) (sharding_on table from) read.steps ≤ spare
 
 -- where the run is after the steps w, and what they leave, in running order, of both buffers
-pub record HasTaken {W : Type 0} (addAll : List W → W) (w : StepsRead) (mesh : Mesh) (table : Table) (from : Progress) (work spare work' spare' : List W)
-    (end : Progress) : Type 0 where
+pub record HasTaken (w : StepsRead) (mesh : Mesh) (table : Table) (from : Progress) (work spare work' spare' : List ℕ) (end : Progress) : Type 0 where
   pub at_is : end.at ≡ w.next
   pub number_is : end.number ≡ from.number + length w.records
   pub sharding_is : sharding_on table end ≡ w.sharding
-  pub leaves : Leaves addAll (mesh_of mesh) (shape_of mesh table from.sharding) w.steps from.in_work work spare end.in_work work' spare'
+  pub leaves : Leaves (mesh_of mesh) (shape_of mesh table from.sharding) w.steps from.in_work work spare end.in_work work' spare'
 
-abbrev pub HasRun : {W : Type 0} → (List W → W) → JudgesStep → Mesh → Table → (from : Progress) → (work spare work' spare' : List W) → (end : Progress) → Type 0
-HasRun addAll judges mesh table from work spare work' spare' end =
-    (w : StepsRead) → judged_from judges table from ≡ accept w → HasTaken addAll w mesh table from work spare work' spare' end
+abbrev pub HasRun : JudgesStep → Mesh → Table → (from : Progress) → (work spare work' spare' : List ℕ) → (end : Progress) → Type 0
+HasRun judges mesh table from work spare work' spare' end =
+    (w : StepsRead) → judged_from judges table from ≡ accept w → HasTaken w mesh table from work spare work' spare' end

@@ -1,9 +1,10 @@
 // Accepted steps on two lent buffers: a plain step, a repeat in its rounds, and so many steps in turn. Nothing is unrolled: each step is read where it
 // stands, in every round again. No plan is named; specs/Rounds.antt says what each part asks for and leaves, in the judgements of
 // rules/specs/PlanFile.antt.
+#![tactic(auto)]
+
 ghost use Rattle.std.specs.Prelude.{◌≡◌, length};
 ghost use Rattle.rules.specs.Lists.{pick};
-ghost use Rattle.rules.specs.Spread.{add_words};
 ghost use Rattle.types.specs.Types.{mesh_of, sizes_of};
 ghost use Rattle.rules.specs.Limits.{every_kind};
 ghost use Rattle.rules.specs.PlanFile.{steps_at, plain_at, item_at};
@@ -18,10 +19,10 @@ use types::{Kind, Mesh, Sharding, Table};
 
 // Where a run is: the place of the next kind byte and its number, whether the state stands at the front of work (else at that of spare), and its
 // sharding.
-#[derive(Drop)]
+#[derive(Clone, Copy)]
 pub struct Progress {
     pub at: usize,
-    pub number: usize,
+    pub number: u16,
     pub in_work: bool,
     pub sharding: Sharding,
 }
@@ -31,7 +32,7 @@ pub struct Progress {
 fn do_step(
     file: &[u8],
     at: usize,
-    k: usize,
+    k: u16,
     mesh: Mesh,
     table: Table,
     sharding: Sharding,
@@ -39,7 +40,7 @@ fn do_step(
     there: &mut [u32],
 ) -> Taken
     requires { Turning file.now at k mesh table sharding (length here.old) (length there.old) }
-    ensures { Turned add_words file.now at k mesh table sharding here.old there.old here.new there.new result }
+    ensures { Turned file.now at k mesh table sharding here.old there.old here.new there.new result }
 {
     let taken = take_step(file, at, k, mesh, table, sharding);
     let before = shard_of(table, sharding.dims, mesh);
@@ -54,7 +55,7 @@ fn do_step(
 }
 
 // Whether the state stands in work after a step: one that moves words leaves it in the other buffer.
-pub fn stands_after(kind: Kind, in_work: bool) -> bool
+fn stands_after(kind: Kind, in_work: bool) -> bool
     ensures { result ≡ stands_after kind in_work }
 {
     if in_place(kind) { in_work } else { !in_work }
@@ -64,7 +65,7 @@ pub fn stands_after(kind: Kind, in_work: bool) -> bool
 fn do_turn(
     file: &[u8],
     at: usize,
-    k: usize,
+    k: u16,
     mesh: Mesh,
     table: Table,
     sharding: Sharding,
@@ -73,7 +74,7 @@ fn do_turn(
     spare: &mut [u32],
 ) -> Taken
     requires { Turning file.now at k mesh table sharding (length (pick in_work work.old spare.old)) (length (pick in_work spare.old work.old)) }
-    ensures { Turned add_words file.now at k mesh table sharding
+    ensures { Turned file.now at k mesh table sharding
         (pick in_work work.old spare.old) (pick in_work spare.old work.old)
         (pick in_work work.new spare.new) (pick in_work spare.new work.new) result }
 {
@@ -94,7 +95,7 @@ fn run_plain(
     spare: &mut [u32],
 ) -> Progress
     requires { CanRun (plain_at (mesh_of mesh) (sizes_of table) file.now) file.now mesh table from (length work.old) (length spare.old) }
-    ensures { HasRun add_words (plain_at (mesh_of mesh) (sizes_of table) file.now) mesh table from
+    ensures { HasRun (plain_at (mesh_of mesh) (sizes_of table) file.now) mesh table from
         work.old spare.old work.new spare.new result }
 {
     let taken = do_turn(
@@ -138,7 +139,7 @@ fn run_block(
     spare: &mut [u32],
 ) -> Progress
     requires { CanRun (block_at (mesh_of mesh) (sizes_of table) file.now depth) file.now mesh table from (length work.old) (length spare.old) }
-    ensures { HasRun add_words (block_at (mesh_of mesh) (sizes_of table) file.now depth) mesh table from
+    ensures { HasRun (block_at (mesh_of mesh) (sizes_of table) file.now depth) mesh table from
         work.old spare.old work.new spare.new result }
 {
     let at = from.at;
@@ -172,7 +173,7 @@ fn run_item(
     spare: &mut [u32],
 ) -> Progress
     requires { CanRun (item_at every_kind (mesh_of mesh) (sizes_of table) file.now depth) file.now mesh table from (length work.old) (length spare.old) }
-    ensures { HasRun add_words (item_at every_kind (mesh_of mesh) (sizes_of table) file.now depth) mesh table from
+    ensures { HasRun (item_at every_kind (mesh_of mesh) (sizes_of table) file.now depth) mesh table from
         work.old spare.old work.new spare.new result }
 {
     if is_repeat(file, from.at) {
@@ -196,7 +197,7 @@ pub fn run_row(
 ) -> Progress
     requires { CanRun (steps_at (item_at every_kind (mesh_of mesh) (sizes_of table) file.now depth) count) file.now mesh table from
         (length work.old) (length spare.old) }
-    ensures { HasRun add_words (steps_at (item_at every_kind (mesh_of mesh) (sizes_of table) file.now depth) count) mesh table from
+    ensures { HasRun (steps_at (item_at every_kind (mesh_of mesh) (sizes_of table) file.now depth) count) mesh table from
         work.old spare.old work.new spare.new result }
 {
     let mut here = from;

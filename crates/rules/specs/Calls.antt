@@ -1,13 +1,11 @@
 -- Document 01, "Calls": what each of the calls answers, and leaves in the memory lent to it, on any input.
 -- Assumes nothing.
-use Rattle.std.specs.Prelude.{ℕ, ◌+◌, ◌-◌, false, List, [], ◌++◌, length, take, drop, replicate, ltb, leb, Float}
-use Rattle.std.specs.Float.{nan}
+use Rattle.std.specs.Prelude.{ℕ, ◌+◌, ◌-◌, false, List, [], ◌++◌, length, take, drop, replicate, ltb, leb}
 use Rattle.rules.specs.Lists.{in_turn}
 use Rattle.rules.specs.Mesh.{devices, plain_order, device_coords, listing}
 use Rattle.rules.specs.Sharding.{Sharding, first_indexes}
 use Rattle.rules.specs.Spread.{tabulate_by, held_by, add_words}
 use Rattle.rules.specs.Collectives.{Shards, stepped}
-use Rattle.rules.specs.Floats.{add_floats, plus_zero}
 use Rattle.rules.specs.Limits.{most_devices}
 use Rattle.rules.specs.Refusals.{Judged, accept, refuse, ◌>>=◌, ◌>>◌, need}
 use Rattle.rules.specs.Moved.{words_moved}
@@ -99,67 +97,45 @@ groups_ordered_leave mesh order axes out = groups_out (groups_ordered_of mesh or
 
 -- ---- the run
 
--- Of words of any type W (document 02, Ask 13: "Add a run over f32 buffers with the same plans."): addAll is the sum of a group's words, z is read
--- where a buffer is too short, and o is left behind the last state.
-
 -- "Before the first step each device has its shard from work, in the start's shard sizes. Each later step is given the shards that the step before it
 -- left.": the shards after k plain steps run.
-unfoldable pub shards_after_by : {W : Type 0} → (List W → W) → W → Plan → List W → ℕ → Shards W
-unfolding announced_shape held_by stepped
-shards_after_by addAll z p work k =
-    in_turn (stepped addAll p.mesh) (take k p.steps) (record { shape = announced_shape p 0; words = held_by z p.order p.mesh (announced_shape p 0) work })
+unfoldable pub shards_after : Plan → List ℕ → ℕ → Shards ℕ
+unfolding announced_shape held_by stepped add_words
+shards_after p work k =
+    in_turn (stepped add_words p.mesh) (take k p.steps) (record { shape = announced_shape p 0; words = held_by 0 p.order p.mesh (announced_shape p 0) work })
 
 -- the buffer of the shards that the last step left
-unfoldable pub last_state_by : {W : Type 0} → (List W → W) → W → Plan → List W → List W
-unfolding shards_after_by tabulate_by
-last_state_by addAll z p work = tabulate_by p.order p.mesh
-    (shards_after_by addAll z p work (length p.steps)).shape (shards_after_by addAll z p work (length p.steps)).words
+unfoldable pub last_state : Plan → List ℕ → List ℕ
+unfolding shards_after tabulate_by
+last_state p work = tabulate_by p.order p.mesh (shards_after p work (length p.steps)).shape (shards_after p work (length p.steps)).words
 
--- "The run takes a file and two lent buffers, work and spare." "Then .. 30, 31.": of so many words
-unfoldable pub runnable : List ℕ → (work spare : ℕ) → Judged Plan
+-- "The run takes a file and two lent buffers, work and spare." "Then .. 30, 31."
+unfoldable pub runnable : List ℕ → (work spare : List ℕ) → Judged Plan
 unfolding judge_by room
 runnable file work spare = do
   p ← judge file
-  need (leb (room p) work) 30
-  need (leb (room p) spare) 31
+  need (leb (room p) (length work)) 30
+  need (leb (room p) (length spare)) 31
   accept p
 
 -- What a run answers, and what the two buffers hold after it.
-pub record Ran (W : Type 0) : Type 0 where
+pub record Ran : Type 0 where
   pub outcome : Judged (Unit {0})
   pub moved : ℕ
-  pub work : List W
-  pub spare : List W
+  pub work : List ℕ
+  pub spare : List ℕ
 
 -- "Afterwards the first D times m words of work are the last state; the rest of work and all of spare are 0."
 -- "All lent memory is then as it was.": of a refusal. "The run's answer gains one number. .. A refused run moves nothing and says 0." (document 02, Ask 7)
-abbrev pub run_leaves_by : {W : Type 0} → (List W → W) → (z o : W) → Judged Plan → (work spare : List W) → Ran W
-run_leaves_by addAll z o (accept p) work spare = record {
+abbrev pub run_leaves : Judged Plan → (work spare : List ℕ) → Ran
+run_leaves (accept p) work spare = record {
   outcome = accept tt;
   moved = words_moved p;
-  work = last_state_by addAll z p work ++ replicate (length work - length (last_state_by addAll z p work)) o;
-  spare = replicate (length spare) o;
+  work = last_state p work ++ replicate (length work - length (last_state p work)) 0;
+  spare = replicate (length spare) 0;
 }
-run_leaves_by addAll z o (refuse n k) work spare = record { outcome = refuse n k; moved = 0; work = work; spare = spare }
+run_leaves (refuse n k) work spare = record { outcome = refuse n k; moved = 0; work = work; spare = spare }
 
-unfoldable pub run_of_by : {W : Type 0} → (List W → W) → (z o : W) → List ℕ → (work spare : List W) → Ran W
-unfolding runnable last_state_by words_moved
-run_of_by addAll z o file work spare = run_leaves_by addAll z o (runnable file (length work) (length spare)) work spare
-
--- Of 32-bit unsigned words: "the rest of work and all of spare are 0."
-abbrev pub shards_after : Plan → List ℕ → ℕ → Shards ℕ
-shards_after p work k = shards_after_by add_words 0 p work k
-
-abbrev pub last_state : Plan → List ℕ → List ℕ
-last_state p work = last_state_by add_words 0 p work
-
-abbrev pub run_leaves : Judged Plan → (work spare : List ℕ) → Ran ℕ
-run_leaves j work spare = run_leaves_by add_words 0 0 j work spare
-
-abbrev pub run_of : List ℕ → (work spare : List ℕ) → Ran ℕ
-run_of file work spare = run_of_by add_words 0 0 file work spare
-
--- Of 32-bit floats (document 02, Ask 13): "Refusals, tails (plus zero) and counts are as for integers." Sums are in halves. What is read where a buffer
--- is too short, which no run does, is not a number.
-abbrev pub run_floats_of : List ℕ → (work spare : List Float) → Ran Float
-run_floats_of file work spare = run_of_by add_floats nan plus_zero file work spare
+unfoldable pub run_of : List ℕ → (work spare : List ℕ) → Ran
+unfolding runnable last_state words_moved
+run_of file work spare = run_leaves (runnable file work spare) work spare

@@ -5,8 +5,7 @@
 use Rattle.std.specs.Prelude.{ℕ, ◌+◌, ◌-◌, ◌*◌, ◌/◌, ◌%◌, ◌≡◌, refl, List, [], ◌∷◌, ◌++◌, length, replicate}
 use Rattle.rules.specs.Lists.{tab, flat, All, done, ◌&◌}
 use Rattle.rules.specs.Refusals.{Judged, accept, refuse}
-use Rattle.rules.specs.Spread.{add_words}
-use Rattle.rules.specs.Calls.{CheckAnswer, check_of, PlaceAnswer, place_of, groups_of, groups_leave, groups_ordered_of, groups_ordered_leave, Ran, run_of, run_of_by}
+use Rattle.rules.specs.Calls.{CheckAnswer, check_of, PlaceAnswer, place_of, groups_of, groups_leave, groups_ordered_of, groups_ordered_leave, Ran, run_of}
 
 -- ---- files
 
@@ -83,7 +82,7 @@ pub data Case : Type 0 where
   placed : (file : List ℕ) → (state device : ℕ) → Judged PlaceAnswer → Case
   listed : (mesh axes out : List ℕ) → Listed → Case
   ordered : (mesh order axes out : List ℕ) → Listed → Case
-  ran : (file work spare : List ℕ) → Ran ℕ → Case
+  ran : (file work spare : List ℕ) → Ran → Case
 
 abbrev pub Holds : Case → Type 0
 Holds (checked file a) = check_of file ≡ a
@@ -175,7 +174,7 @@ ledger =
     ∷ []
 
 pub worked : All Holds ledger
-unfolding file_of check_of place_of groups_of groups_leave run_of_by add_words
+unfolding file_of check_of place_of groups_of groups_leave run_of
 worked =
     refl & refl & refl & refl & refl & refl & refl & refl & refl & refl & refl & refl
     & refl & refl & refl & refl & done
@@ -243,7 +242,7 @@ beside =
     ∷ []
 
 pub worked_beside : All Holds beside
-unfolding file_of check_of place_of run_of_by add_words
+unfolding file_of check_of place_of run_of
 worked_beside =
     refl & refl & refl & refl & refl & refl & refl & refl & refl & refl & refl & refl
     & refl & refl & refl & refl & refl & refl & refl & refl & refl & refl & refl & refl

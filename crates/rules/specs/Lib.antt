@@ -8,7 +8,6 @@ pub mod Limits
 pub mod Refusals
 pub mod PlanFile
 pub mod Moved
-pub mod Floats
 pub mod Calls
 pub mod Factor
 pub mod Ledger
@@ -22,4 +21,3 @@ pub mod WorkedScatters
 pub mod WorkedFactors
 pub mod WorkedRoutes
 pub mod WorkedMoves
-pub mod WorkedFloats

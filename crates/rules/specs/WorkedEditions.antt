@@ -8,7 +8,7 @@ use Rattle.rules.specs.Sharding.{Sharding, IsSharding}
 use Rattle.rules.specs.Spread.{held, Faithful, add_words}
 use Rattle.rules.specs.Refusals.{Judged, accept, refuse}
 use Rattle.rules.specs.PlanFile.{judge_by}
-use Rattle.rules.specs.Calls.{CheckAnswer, check_of, PlaceAnswer, place_of, run_of, run_of_by}
+use Rattle.rules.specs.Calls.{CheckAnswer, check_of, PlaceAnswer, place_of, run_of}
 use Rattle.rules.specs.Limits.{up_to}
 use Rattle.rules.specs.Ledger.{Case, checked, placed, Holds, file_in, file_of, leaves}
 
@@ -129,7 +129,7 @@ editions =
     ∷ []
 
 pub in_editions : All Holds editions
-unfolding file_in check_of place_of run_of_by add_words
+unfolding file_in check_of place_of run_of
 in_editions =
     refl & refl & refl & refl & refl & refl & refl & refl & refl & refl & refl & refl
     & refl & refl & refl & refl & refl & refl & refl & refl & refl & refl & refl & refl

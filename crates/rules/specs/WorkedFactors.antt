@@ -5,8 +5,7 @@ use Rattle.rules.specs.Lists.{tab, All, done, ◌&◌}
 use Rattle.rules.specs.Collectives.{allSlice, allGather, all_to_all}
 use Rattle.rules.specs.Refusals.{Judged, accept, refuse, ◌>>=◌}
 use Rattle.rules.specs.PlanFile.{judge, judge_by}
-use Rattle.rules.specs.Spread.{add_words}
-use Rattle.rules.specs.Calls.{check_of, run_of, run_of_by}
+use Rattle.rules.specs.Calls.{check_of, run_of}
 use Rattle.rules.specs.Factor.{scaled, reduced_axes, factor_after}
 use Rattle.rules.specs.Ledger.{Case, checked, Holds, file_in, file_of, passed, leaves, w7}
 use Rattle.rules.specs.WorkedEditions.{second}
@@ -87,7 +86,7 @@ factors =
     ∷ []
 
 pub factored : All Holds factors
-unfolding file_in file_of check_of run_of_by add_words
+unfolding file_in file_of check_of run_of
 factored =
     refl & refl & refl & refl & refl & refl & refl & refl & refl & refl
     & refl & refl & refl & refl & refl & refl & refl & refl & refl & refl

@@ -4,8 +4,7 @@ use Rattle.std.specs.Prelude.{ℕ, ◌≡◌, refl, List, [], ◌∷◌, map, re
 use Rattle.rules.specs.Lists.{tab}
 use Rattle.rules.specs.Collectives.{Place, allSlice, allGather, all_reduce, all_to_all, reduce_scatter, sources}
 use Rattle.rules.specs.Refusals.{Judged, accept, ◌>>=◌}
-use Rattle.rules.specs.Spread.{add_words}
-use Rattle.rules.specs.Calls.{check_of, run_of, run_of_by}
+use Rattle.rules.specs.Calls.{check_of, run_of}
 use Rattle.rules.specs.Moved.{other_devices, moved_at, moved_by, charge_of, most_moved}
 use Rattle.rules.specs.Ledger.{file_in, file_of, w1, w8, nines}
 use Rattle.rules.specs.WorkedRepeats.{times, square, slice_rows, to_columns, gather_columns}
@@ -79,7 +78,7 @@ pub record MovesCounted : Type 0 where
   pub refused : (run_of (2 ∷ []) [] []).moved ≡ 0
 
 pub moves_counted : MovesCounted
-unfolding file_in file_of other_devices sources moved_by charge_of check_of run_of_by add_words
+unfolding file_in file_of other_devices sources moved_by charge_of check_of run_of
 moves_counted = record {
   none = refl;
   own = refl;

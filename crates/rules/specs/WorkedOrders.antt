@@ -5,8 +5,7 @@ use Rattle.rules.specs.Lists.{tab, flat, All, done, ◌&◌}
 use Rattle.rules.specs.Collectives.{allSlice, allGather, all_reduce}
 use Rattle.rules.specs.Refusals.{accept, refuse}
 use Rattle.rules.specs.PlanFile.{plain, judge_by}
-use Rattle.rules.specs.Spread.{add_words}
-use Rattle.rules.specs.Calls.{check_of, place_of, groups_ordered_of, groups_ordered_leave, run_of, run_of_by}
+use Rattle.rules.specs.Calls.{check_of, place_of, groups_ordered_of, groups_ordered_leave, run_of}
 use Rattle.rules.specs.Limits.{up_to}
 use Rattle.rules.specs.Ledger.{Case, checked, placed, ordered, Holds, file_in, passed, found, nines, leaves}
 use Rattle.rules.specs.WorkedEditions.{there}
@@ -113,7 +112,7 @@ orders =
     ∷ []
 
 pub in_order : All Holds orders
-unfolding file_in check_of place_of groups_ordered_of groups_ordered_leave run_of_by add_words
+unfolding file_in check_of place_of groups_ordered_of groups_ordered_leave run_of
 in_order =
     refl & refl & refl & refl & refl & refl & refl & refl & refl & refl & refl & refl
     & refl & refl & refl & refl & refl & refl & refl & refl & refl & refl & refl & refl

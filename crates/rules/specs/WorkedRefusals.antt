@@ -4,8 +4,7 @@
 use Rattle.std.specs.Prelude.{ℕ, refl, List, [], ◌∷◌, ◌++◌, set, take, replicate}
 use Rattle.rules.specs.Lists.{All, done, ◌&◌}
 use Rattle.rules.specs.Refusals.{refuse}
-use Rattle.rules.specs.Spread.{add_words}
-use Rattle.rules.specs.Calls.{check_of, place_of, groups_of, groups_leave, run_of, run_of_by}
+use Rattle.rules.specs.Calls.{check_of, place_of, groups_of, groups_leave, run_of}
 use Rattle.rules.specs.Ledger.{Case, checked, placed, listed, ran, Holds, file_of, w1, w4, nines}
 
 -- ---- files
@@ -205,7 +204,7 @@ refusals =
     ∷ []
 
 pub refused : All Holds refusals
-unfolding file_of check_of place_of groups_of groups_leave run_of_by add_words
+unfolding file_of check_of place_of groups_of groups_leave run_of
 refused =
     refl & refl & refl & refl & refl & refl & refl & refl & refl & refl & refl & refl
     & refl & refl & refl & refl & refl & refl & refl & refl & refl & refl & refl & refl

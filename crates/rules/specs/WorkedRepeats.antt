@@ -5,8 +5,7 @@ use Rattle.rules.specs.Lists.{tab, flat, All, done, ◌&◌}
 use Rattle.rules.specs.Collectives.{Step, allSlice, allGather}
 use Rattle.rules.specs.Refusals.{Judged, accept, refuse, ◌>>=◌}
 use Rattle.rules.specs.PlanFile.{plain, repeat, same_sharding, repeat_at, judge, judge_by}
-use Rattle.rules.specs.Spread.{add_words}
-use Rattle.rules.specs.Calls.{check_of, place_of, run_of, run_of_by}
+use Rattle.rules.specs.Calls.{check_of, place_of, run_of}
 use Rattle.rules.specs.Limits.{without_repeats, original}
 use Rattle.rules.specs.Ledger.{Case, checked, placed, Holds, file_in, file_of, on2x2, passed, found, leaves}
 use Rattle.rules.specs.WorkedRefusals.{refused_run}
@@ -206,7 +205,7 @@ repeats =
     ∷ []
 
 pub repeated : All Holds repeats
-unfolding file_in file_of check_of place_of run_of_by add_words
+unfolding file_in file_of check_of place_of run_of
 repeated =
     refl & refl & refl & refl & refl & refl & refl & refl & refl & refl & refl & refl
     & refl & refl & refl & refl & refl & refl & refl & refl & refl & refl & refl & refl

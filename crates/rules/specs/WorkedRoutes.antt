@@ -5,8 +5,7 @@ use Rattle.rules.specs.Lists.{tab, All, done, ◌&◌}
 use Rattle.rules.specs.Sharding.{Sharding}
 use Rattle.rules.specs.Refusals.{Judged, accept, ◌>>=◌}
 use Rattle.rules.specs.PlanFile.{judge, judge_by, announced}
-use Rattle.rules.specs.Spread.{add_words}
-use Rattle.rules.specs.Calls.{run_of, run_of_by}
+use Rattle.rules.specs.Calls.{run_of}
 use Rattle.rules.specs.Factor.{factor_after}
 use Rattle.rules.specs.Ledger.{Case, Holds, file_in, file_of, leaves}
 use Rattle.rules.specs.WorkedRepeats.{whole, parts, square, slice, gather, reduce, slice_rows, slice_columns, to_columns, times}
@@ -62,7 +61,7 @@ routes =
     ∷ []
 
 pub routed : All Holds routes
-unfolding file_in file_of run_of_by add_words
+unfolding file_in file_of run_of
 routed =
     refl & refl & refl & refl & refl & refl & refl & refl & refl & refl & refl & refl
     & refl & refl & refl & refl & refl & refl & refl & refl & refl & refl & refl & done

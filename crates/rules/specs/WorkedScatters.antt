@@ -8,8 +8,7 @@ use Rattle.rules.specs.Collectives as changes
 use Rattle.rules.specs.Sharding.{Sharding}
 use Rattle.rules.specs.Refusals.{accept, refuse}
 use Rattle.rules.specs.PlanFile.{plain, judge, judge_by}
-use Rattle.rules.specs.Spread.{add_words}
-use Rattle.rules.specs.Calls.{check_of, place_of, run_of, run_of_by}
+use Rattle.rules.specs.Calls.{check_of, place_of, run_of}
 use Rattle.rules.specs.Limits.{without_repeats, without_scatters}
 use Rattle.rules.specs.Ledger.{Case, checked, placed, Holds, file_in, file_of, on2x2, passed, found, leaves}
 use Rattle.rules.specs.WorkedRefusals.{one, whole, parts, half, refused_run}
@@ -109,7 +108,7 @@ scatters =
     ∷ []
 
 pub scattered : All Holds scatters
-unfolding file_in file_of check_of place_of run_of_by add_words
+unfolding file_in file_of check_of place_of run_of
 scattered =
     refl & refl & refl & refl & refl & refl & refl & refl & refl & refl & refl & refl
     & refl & refl & refl & refl & refl & refl & refl & refl & refl & refl & refl & refl

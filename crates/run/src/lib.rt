@@ -1,9 +1,10 @@
 // The run of a plan: its judgement, the tests of the two buffers, the steps in turn, and zeros behind the last state.
 // What it answers and leaves is defined in rules/specs/Calls.antt (runOf); types/specs/Promises.antt has its promise, specs/Runs.antt what the parts
 // ask for and leave.
+#![tactic(auto)]
+
 ghost use Rattle.std.specs.Prelude.{◌≡◌, ◌*◌, ◌≤◌, ◌++◌, length, take, drop, replicate};
 ghost use Rattle.rules.specs.Lists.{pick, product};
-ghost use Rattle.rules.specs.Spread.{add_words};
 ghost use Rattle.rules.specs.Limits.{most_devices, most_words};
 ghost use Rattle.types.specs.Types.{WithinPlaces};
 ghost use Rattle.types.specs.Promises.{RunPromise};
@@ -56,7 +57,7 @@ fn run_steps(
     spare: &mut [u32],
 ) -> bool
     requires { Runs file.now at whole (length work.old) (length spare.old) }
-    ensures { StepsTaken add_words file.now (pick home work.old spare.old) (pick result work.new spare.new) }
+    ensures { StepsTaken file.now (pick home work.old spare.old) (pick result work.new spare.new) }
 {
     let sharding = whole.start;
     let first = Progress {
@@ -79,7 +80,7 @@ fn run_steps(
 }
 
 // The words of one shard of a sharding.
-pub fn words_of(whole: Whole, sharding: Sharding) -> usize
+fn words_of(whole: Whole, sharding: Sharding) -> usize
     requires { WithinPlaces whole.mesh whole.table }
     ensures { result ≡ product (shape_of whole.mesh whole.table sharding) }
 {
@@ -111,7 +112,7 @@ fn run_by_place(
     spare: &mut [u32],
 ) -> bool
     requires { RunsOrdered file.now at whole (length work.old) (length spare.old) × (length order.old ≡ whole.devices) × (length places.old ≡ whole.devices) }
-    ensures { BeginsWithLast add_words 0 file.now work.old (pick result work.new spare.new) }
+    ensures { BeginsWithLast file.now work.old (pick result work.new spare.new) }
 {
     read_order(file, PlanFile::LEAST + 2 * whole.mesh.n, order);
     invert(order, places);
@@ -125,7 +126,7 @@ fn run_by_place(
 
 fn run_ordered(file: &[u8], at: usize, whole: Whole, work: &mut [u32], spare: &mut [u32]) -> bool
     requires { RunsOrdered file.now at whole (length work.old) (length spare.old) }
-    ensures { BeginsWithLast add_words 0 file.now work.old (pick result work.new spare.new) }
+    ensures { BeginsWithLast file.now work.old (pick result work.new spare.new) }
 {
     let devices = whole.devices;
     let mut order = [0u16; Device::MOST];
@@ -144,7 +145,7 @@ fn run_ordered(file: &[u8], at: usize, whole: Whole, work: &mut [u32], spare: &m
 // The whole plan, from the words of work. Answers whether the last state stands at the front of work; else it stands at that of spare.
 fn run_plan(file: &[u8], at: usize, whole: Whole, work: &mut [u32], spare: &mut [u32]) -> bool
     requires { Runs file.now at whole (length work.old) (length spare.old) }
-    ensures { BeginsWithLast add_words 0 file.now work.old (pick result work.new spare.new) }
+    ensures { BeginsWithLast file.now work.old (pick result work.new spare.new) }
 {
     if carries_order(file) {
         run_ordered(file, at, whole, work, spare)
@@ -168,7 +169,7 @@ fn bring_home(in_work: bool, last: usize, work: &mut [u32], spare: &mut [u32])
 }
 
 // The words of the last state.
-pub fn last_words(whole: Whole) -> usize
+fn last_words(whole: Whole) -> usize
     requires { Bounded whole × (whole.devices * product (answer_of whole).shard ≤ most_devices * most_words) }
     ensures { result ≡ whole.devices * product (answer_of whole).shard }
 {
@@ -177,7 +178,7 @@ pub fn last_words(whole: Whole) -> usize
 }
 
 // Refused, with no words moved.
-pub fn refused(refusal: Refusal) -> Ran
+fn refused(refusal: Refusal) -> Ran
     ensures { result ≡ record { outcome = RunOutcome.Refused refusal; moved = 0 } }
 {
     Ran {

@@ -1,4 +1,6 @@
 // The judgement of axes in turn and of a starting sharding. Order and numbers are those of Rattle.rules.specs.PlanFile.
+#![tactic(auto)]
+
 ghost use Rattle.std.specs.Prelude.{◌≡◌, false, [], ◌+◌, ◌≤◌, length, take};
 ghost use Rattle.rules.specs.Lists.{flat, pick};
 ghost use Rattle.rules.specs.Limits.{most_axes, most_dims};
@@ -13,14 +15,14 @@ use axes::{is_marked, mark};
 use dims::divisible;
 use types::{Axis, AxisList, Dim, DimLists, Mesh, Reason, Refusal, Sharding, Table};
 
-#[derive(Drop)]
+#[derive(Clone, Copy)]
 pub enum Verdict {
     Fine,
     Refused(Refusal),
 }
 
 // The refusal of a reason.
-pub fn refused(reason: Reason, step: usize) -> Verdict
+pub fn refused(reason: Reason, step: u16) -> Verdict
     ensures { meaning result ≡ refuse (number_of reason) step }
 {
     Verdict::Refused(Refusal { reason, step })

@@ -39,7 +39,6 @@ use Rattle.laws.proofs.Shapes.{Cut, cut-lengths, piece-below}
 use Rattle.laws.proofs.Sources.{made-single, made_then}
 use Rattle.laws.proofs.Steps.{only_at, AcceptedStep, facts, sharding-cut, shape-length, reduce-sharding, scatter-slices}
 use Rattle.laws.proofs.Next.{step-ready}
-use Rattle.laws.specs.Demands as demands
 use Rattle.laws.proofs.Moves as bridge
 use Rattle.mesh.proofs.Sizes.{size_pos}
 use Rattle.moves.specs.Moves.{Moving, Along, moved_shape, moved_buffer, first_buffer, lists}
@@ -98,7 +97,7 @@ module _ {mesh shape : List ℕ} {t : Step} {words : ℕ} (h : Accepts mesh shap
   no-lists : (none : DimLists) → dims_of none ≡ replicate most_dims [] → lists shape none ≡ replicate (length shape) []
   no-lists none z = ap (λ (l : List (List ℕ)). take (length shape) l) z ∙ take-replicate {A = List ℕ} [] (length shape) most_dims few-dims
 
-  module _ (m : demands.Moving t) (off on : DimLists)
+  module _ (m : bridge.Moving t) (off on : DimLists)
       (p : lists shape off ≡ bridge.gathers t (length shape)) (q : lists shape on ≡ bridge.slices t (length shape)) where
     asked : bridge.Moves mesh h.sizes (bridge.gathers t (length shape)) (bridge.slices t (length shape)) shape (shape_after mesh t shape)
     asked = subst
@@ -227,7 +226,7 @@ module _ {mesh shape : List ℕ} {words old new : ℕ} (on : DimLists) (h : Step
           )
 
 -- a step that only moves words reads the old buffer
-moving-spends : {W : Type 0} (addAll : List W → W) (z : W) (mesh shape : List ℕ) (t : Step) → demands.Moving t → (olds : List W)
+moving-spends : {W : Type 0} (addAll : List W → W) (z : W) (mesh shape : List ℕ) (t : Step) → bridge.Moving t → (olds : List W)
     → spent_buffer addAll z mesh shape t olds ≡ olds
 moving-spends addAll z mesh shape (allSlice Ss) m olds = refl
 moving-spends addAll z mesh shape (allGather Gs) m olds = refl
@@ -259,7 +258,7 @@ module _ {mesh shape : List ℕ} (step : code_step.Step) {words old new : ℕ} (
         let p : b ≡ in_place step.kind = q ∙ ap in_place (sym e) in
         transport (λ i. Left addAll z (p i) (of_kind (sym e i) (length shape) step) olds news here there)
 
-    module _ (m : demands.Moving (of_kind k (length shape) step)) (off on : DimLists)
+    module _ (m : bridge.Moving (of_kind k (length shape) step)) (off on : DimLists)
         (p : lists shape off ≡ bridge.gathers (of_kind k (length shape) step) (length shape))
         (q : lists shape on ≡ bridge.slices (of_kind k (length shape) step) (length shape)) where
       pub move-requires : Moving mesh shape (lists shape off) (lists shape on)

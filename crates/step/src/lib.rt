@@ -1,6 +1,8 @@
 // One step of a plan: from the words of the old state to those of the new one, by the step's kind. A reduction keeps the shape of the shards and is
 // done in place; a step that moves words goes over to another buffer; a reduce-scatter sums in place, once a group, and slices each sum over to the
 // other buffer. specs/Stepping.antt says what a step asks for and leaves.
+#![tactic(auto)]
+
 ghost use Rattle.std.specs.Prelude.{◌≡◌, length, take};
 ghost use Rattle.rules.specs.Lists.{pick};
 ghost use Rattle.rules.specs.Spread.{add_words};

@@ -9,9 +9,9 @@ use native.Mathlib.Omega.{arith}
 use lib.ListN.{length, get_or}
 use lib.Arith.{digits_div, digits_mod}
 use Rattle.laws.proofs.Positions.{pos_of_lt}
-use Rattle.strided.specs.Strided.{counted, offset, Nested, Copy, plane_digits}
+use Rattle.strided.specs.Strided.{counted, offset, Nested, Copy, Alike, plane_digits}
 use Rattle.strided.proofs.Laws.{last-offset, one-digit, words_are, two_digits, three-digits}
-use Rattle.strided.proofs.Joins.{Alike, behind-alike, alike_then}
+use Rattle.strided.proofs.Joins.{behind-alike, alike_then}
 
 -- nothing behind a digit whose inner is 1 counts
 last-alike : (l : List ℕ) → 3 ≤ length l → get_or l 1 0 ≡ 1 → Alike l (get_or l 0 0 ∷ 1 ∷ get_or l 2 0 ∷ [])

@@ -1,23 +1,20 @@
--- Laws of words that are repeated: one word more (`repeat-start`, `repeat-word`), one part more (`part-is`, `repeat-part`), and that a digit of stride 0 repeats
+-- Laws of words that are repeated: one word more (`repeat-start`, `repeat-word`), one part more (`repeat-part`), and that a digit of stride 0 repeats
 -- the words of the digits after it (`repeats-digit`). For elements of any type. Assumes nothing.
 use Prim.Native.Nat.{ℕ, ◌+◌, ◌*◌, ◌-◌, ◌/◌, ◌%◌, ◌≤◌, ◌<◌}
 use mathlib.Core.Path.{◌≡◌, refl, sym, ap, ◌∙◌}
-use mathlib.Core.Bool.{Bool, true, false}
 use mathlib.Core.List.{List, [], ◌∷◌, ◌++◌}
 use mathlib.Core.Logic.{◌≢◌}
 use native.Mathlib.Nat.{zero-add, add-zero, zero-mul, mul-zero, mul_comm, mod-lt, mod-eq_of_lt, mod-eq-sub-mod, mod-mod_of_dvd, dvd_of_mod-eq-zero, mod-eq-zero_of_dvd, dvd-add, dvd-sub}
 use native.Mathlib.Omega.{arith}
-use borrow.Author.Tests.{ltb-true}
 use borrow.Rule.Slice.PartMut.{put_mid, same_len_mid}
 use lib.ListN.{length, get_or, take, drop, length-drop, take-append-drop, get_or-append}
 use lib.Seq.{get_or-take, drop_at, drop-drop}
 use lib.Arith.{digits_mod}
-use lib.Dec.{ltb}
-use Rattle.rules.specs.Lists.{pick, tab}
+use Rattle.rules.specs.Lists.{tab}
 use Rattle.laws.proofs.Lists.{length-tab, getD-tab, tab-cong}
 use Rattle.laws.proofs.Positions.{pos_of_lt}
 use Rattle.laws.proofs.Fronts.{Filled, part-tab, lent_length, lent-put}
-use Rattle.strided.specs.Strided.{offset, Copy, Period, repeated, copied, near_words, part_words}
+use Rattle.strided.specs.Strided.{offset, Copy, Period, repeated, copied}
 use Rattle.strided.proofs.Laws.{Turn, one-digit, two_digits, words_are, turn}
 
 -- ---- whole periods
@@ -29,25 +26,6 @@ whole-more a b p e f =
 pub whole-left : (a b period : ℕ) → a % period ≡ 0 → b % period ≡ 0 → (a - b) % period ≡ 0
 whole-left a b p e f =
     mod-eq-zero_of_dvd p {n = a - b} (dvd-sub p {m = a} {n = b} (dvd_of_mod-eq-zero p {n = a} e) (dvd_of_mod-eq-zero p {n = b} f))
-
--- the words of one turn are some of those that are left, and whole periods where the others are
-pub record Part (done last left part : ℕ) : Type 0 where
-  pub some : 0 < part
-  pub within : part ≤ left
-  pub whole : (period : ℕ) → done % period ≡ 0 → last % period ≡ 0 → left % period ≡ 0 → part % period ≡ 0
-
-pub part-is : (done last left : ℕ) → 0 < done → 0 < last → 0 < left → Part done last left (part_words done last left)
-unfolding part_words
-part-is done last left d l h = go (ltb done near_words)
-  where
-    least : (part : ℕ) → 0 < part → ((period : ℕ) → done % period ≡ 0 → last % period ≡ 0 → part % period ≡ 0) → (t : Bool) → ltb part left ≡ t
-        → Part done last left (pick t part left)
-    least part p w true e = record { some = p; within = omega (arith, ltb-true part left e); whole = λ period a b c. w period a b }
-    least part p w false e = record { some = h; within = omega arith; whole = λ period a b c. c }
-
-    go : (t : Bool) → (let part = pick t done last in Part done last left (pick (ltb part left) part left))
-    go true = least done d (λ period a b. a) (ltb done left) refl
-    go false = least last l (λ period a b. b) (ltb last left) refl
 
 module _ {W : Type 0} (z : W) where
   -- ---- a front that is filled

@@ -1,9 +1,9 @@
 -- A copy with strides, of elements of any type. Its digits stand outer to inner in one list, three numbers each: a size, an inner and a stride. The
 -- inner is the number of words that the digits after it count; one step of the digit goes a stride further in the words that are copied. Word t of
--- the copy is at `offset digits t` there. Joined digits copy the same words (`joined_digits`): fewer of them, with longer runs. Knows nothing of meshes.
+-- the copy is at `offset digits t` there. Other digits can copy the same words (`Alike`): fewer of them, with longer runs. Knows nothing of meshes.
 -- Assumes nothing.
-use Rattle.std.specs.Prelude.{ℕ, ◌+◌, ◌*◌, ◌/◌, ◌%◌, ◌^◌, ◌≤◌, ◌<◌, ◌≡◌, List, [], ◌∷◌, length, get_or, ltb, eqb}
-use Rattle.rules.specs.Lists.{pick, tab}
+use Rattle.std.specs.Prelude.{ℕ, ◌+◌, ◌*◌, ◌/◌, ◌%◌, ◌^◌, ◌≤◌, ◌<◌, ◌≡◌, List, [], ◌∷◌, length, get_or}
+use Rattle.rules.specs.Lists.{tab}
 
 -- the words that the digits count
 abbrev pub counted : List ℕ → ℕ
@@ -72,33 +72,20 @@ repeated z period words old = tab words (λ t. get_or old (t % period) z)
 unfoldable pub copied : {W : Type 0} → W → List ℕ → ℕ → ℕ → List W → List W
 copied z digits words at old = tab words (λ t. get_or old (at + offset digits t) z)
 
--- as many words as stay near the processor when they are read again and again
-abbrev pub near_words : ℕ
-near_words = 4096
-
--- How many words the next turn repeats: all that are done where these stay near, else as many as the last turn, and no more than are left.
-unfoldable pub part_words : (done last left : ℕ) → ℕ
-part_words done last left =
-    let part = pick (ltb done near_words) done last in
-    pick (ltb part left) part left
+-- some of the words that are left, as many as whole periods have where the others are whole periods
+pub record Part (done last left part : ℕ) : Type 0 where
+  pub some : 0 < part
+  pub within : part ≤ left
+  pub whole : (period : ℕ) → done % period ≡ 0 → last % period ≡ 0 → left % period ≡ 0 → part % period ≡ 0
 
 -- ---- digits that are joined
 
--- One digit before others: in the place of one of size 1, not at all where its own size is 1, as one with the next where it goes on from that one's
--- end.
-unfoldable pub joined_digit : (size inner stride : ℕ) → List ℕ → List ℕ
-joined_digit s m z [] = s ∷ m ∷ z ∷ []
-joined_digit s m z (k ∷ []) = s ∷ m ∷ z ∷ k ∷ []
-joined_digit s m z (k ∷ n ∷ []) = s ∷ m ∷ z ∷ k ∷ n ∷ []
-joined_digit s m z (k ∷ n ∷ y ∷ r) =
-    pick (eqb k 1) (s ∷ m ∷ z ∷ r) (pick (eqb s 1) (k ∷ n ∷ y ∷ r) (pick (eqb z (k * y)) (s * k ∷ n ∷ y ∷ r) (s ∷ m ∷ z ∷ k ∷ n ∷ y ∷ r)))
-
--- The digits joined, from the last one to the first, before a digit of size 1.
-unfoldable pub joined_digits : List ℕ → List ℕ
-joined_digits [] = 1 ∷ 1 ∷ 1 ∷ []
-joined_digits (s ∷ []) = 1 ∷ 1 ∷ 1 ∷ []
-joined_digits (s ∷ m ∷ []) = 1 ∷ 1 ∷ 1 ∷ []
-joined_digits (s ∷ m ∷ z ∷ r) = joined_digit s m z (joined_digits r)
+-- digits that copy the same words: as many, from the same places
+pub record Alike (digits others : List ℕ) : Type 0 where
+  pub some : 0 < length others
+  pub nested : Nested others
+  pub count : counted others ≡ counted digits
+  pub places : (t : ℕ) → t < counted digits → offset others t ≡ offset digits t
 
 -- more words than a slice can have: its bytes are fewer than 2 ^ 63
 abbrev pub most_places : ℕ

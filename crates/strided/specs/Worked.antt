@@ -1,6 +1,6 @@
 -- Worked cases of the copy with strides. Assumes nothing.
 use Rattle.std.specs.Prelude.{ℕ, ◌≡◌, refl, [], ◌∷◌}
-use Rattle.strided.specs.Strided.{plane_digits, repeated, copied, part_words, joined_digit, joined_digits}
+use Rattle.strided.specs.Strided.{plane_digits, repeated, copied}
 
 -- two rows of two words, the rows 1 apart and their words 3 apart, from word 1 on
 pub rows-case : copied {W = ℕ} 0 (2 ∷ 2 ∷ 1 ∷ 2 ∷ 1 ∷ 3 ∷ []) 4 1 (10 ∷ 11 ∷ 12 ∷ 13 ∷ 14 ∷ 15 ∷ []) ≡ 11 ∷ 14 ∷ 12 ∷ 15 ∷ []
@@ -21,13 +21,3 @@ planes-case = refl
 pub repeated-case : repeated {W = ℕ} 0 2 5 (7 ∷ 8 ∷ 9 ∷ []) ≡ 7 ∷ 8 ∷ 7 ∷ 8 ∷ 7 ∷ []
 unfolding repeated
 repeated-case = refl
-
--- all words that are done, no more than are left, and as many as the last turn where those that are done are no longer near
-pub part-case : (part_words 3 2 9 ≡ 3) × (part_words 3 2 1 ≡ 1) × (part_words 4096 2 9 ≡ 2) × (part_words 4095 2 9999 ≡ 4095)
-unfolding part_words
-part-case = (refl, refl, refl, refl)
-
--- Two rows of three words that follow each other are one of six, a digit of size 1 is left out, and words that are repeated stay a digit.
-pub joined-case : joined_digits (2 ∷ 6 ∷ 0 ∷ 2 ∷ 3 ∷ 3 ∷ 1 ∷ 3 ∷ 9 ∷ 3 ∷ 1 ∷ 1 ∷ []) ≡ 2 ∷ 6 ∷ 0 ∷ 6 ∷ 1 ∷ 1 ∷ []
-unfolding joined_digits joined_digit
-joined-case = refl

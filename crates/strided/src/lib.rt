@@ -1,10 +1,11 @@
 // A copy of words with strides: the words that digits name, in row-major order of the digits. Nothing is divided. Digits are joined first where
 // one goes on from the other, so that the innermost loops are long, and words that a digit names again are repeated by long copies. specs/Strided.antt
 // says what digits are.
+#![tactic(auto)]
+
 ghost use Rattle.std.specs.Prelude.{◌≡◌, ◌∷◌, ◌++◌, ◌+◌, ◌≤◌, ◌<◌, length, get_or, take, drop};
 ghost use Rattle.rules.specs.Lists.{tab};
-ghost use Rattle.strided.specs.Strided.{digit_room, Row, Rows, Copy, Period, Joining, Putting, plane_digits, row, rows, repeated, copied};
-ghost use Rattle.strided.specs.Strided.{part_words, joined_digit, joined_digits};
+ghost use Rattle.strided.specs.Strided.{digit_room, Row, Rows, Copy, Period, Part, Joining, Putting, Alike, plane_digits, row, rows, repeated, copied};
 
 // The most numbers of a copy's digits, and of one more.
 const ROOM: usize = 3 * 17;
@@ -229,8 +230,9 @@ fn repeat_words(to: &mut [u32], period: usize)
 }
 
 // How many words the next turn repeats: all that are done, or as many as the last turn where these no longer stay near, and no more than are left.
-pub fn part_words(done: usize, last: usize, left: usize) -> usize
-    ensures { result ≡ part_words done last left }
+fn part_words(done: usize, last: usize, left: usize) -> usize
+    requires { (0 < done) × (0 < last) × (0 < left) }
+    ensures { Part done last left result }
 {
     if done < NEAR {
         if done < left {
@@ -312,8 +314,7 @@ pub fn put_digit(digits: &mut [usize], first: usize, size: usize, inner: usize, 
 // it goes on from that one's end. Answers where the digits begin.
 fn put_joined(joined: &mut [usize], first: usize, size: usize, inner: usize, stride: usize) -> usize
     requires { Putting joined.old first (size ∷ inner ∷ stride ∷ drop first joined.old) }
-    ensures joined_value { result + length (joined_digit size inner stride (drop first joined.old)) ≡ length joined.old }
-    ensures joined_after { joined.new ≡ take result joined.old ++ joined_digit size inner stride (drop first joined.old) }
+    ensures { (first ≤ result + 3) × Alike (size ∷ inner ∷ stride ∷ drop first joined.old) (drop result joined.new) }
 {
     let next = joined[first];
     let apart = joined[first + 2];
@@ -334,12 +335,10 @@ fn put_joined(joined: &mut [usize], first: usize, size: usize, inner: usize, str
     before
 }
 
-// Joins digits, from the last one to the first, at the end of another slice, where a digit of size 1 stands first; what is before them stays. Answers
-// where they begin.
-pub fn join_digits(joined: &mut [usize], digits: &[usize]) -> usize
+// Joins digits, from the last one to the first, at the end of another slice, where a digit of size 1 stands first. Answers where they begin.
+fn join_digits(joined: &mut [usize], digits: &[usize]) -> usize
     requires { Joining digits.now × (length digits.now + 3 ≤ length joined.old) }
-    ensures digits_value { result + length (joined_digits digits.now) ≡ length joined.old }
-    ensures joined_after { joined.new ≡ take result joined.old ++ joined_digits digits.now }
+    ensures { Alike digits.now (drop result joined.new) }
 {
     let mut first = joined.len() - 3;
     put_digit(joined, first, 1, 1, 1);

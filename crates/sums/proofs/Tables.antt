@@ -1,7 +1,6 @@
 -- The tables of a reduction. A device's first place and a member's shift make up the place of that member's shard (`place_is`); so the groups are
 -- as the code asks (`groups-asked`), and what it leaves has the sums of the rules (`summed-is`, `reduced-all`). Assumes nothing.
-use Rattle.std.proofs.Common.{◌≡◌, ℕ, zero, suc, ◌+◌, ◌-◌, ◌*◌, ◌/◌, ◌%◌, ◌<◌, ◌≤◌, Bool, true, false, ◌⊎◌, List, [], ◌∷◌, ◌++◌, map, length, get_or, take, drop, set, sym, refl, ap, ◌∙◌, subst, ap₂, inl, inr, le_refl, add-zero, mul-le-mul_right, mod-lt, mul-le-mul, mul-zero, div-add-mod', zero-add, zero-mul, mul-one, div-one, arith, length-take-le, get_or-drop, get_or-set_other, take_at, get_or-append-add, ext_get_or, le-ltb, lt-ltb}
-use native.Mathlib.Nat.{sub-zero}
+use Rattle.std.proofs.Common.{◌≡◌, ℕ, zero, suc, ◌+◌, ◌-◌, ◌*◌, ◌/◌, ◌%◌, ◌<◌, ◌≤◌, Bool, true, false, ◌⊎◌, List, [], ◌∷◌, ◌++◌, map, length, get_or, drop, set, sym, refl, ap, ◌∙◌, subst, ap₂, inl, inr, le_refl, add-zero, mul-le-mul_right, mod-lt, mul-le-mul, mul-zero, div-add-mod', zero-add, zero-mul, mul-one, div-one, arith, length-take-le, get_or-drop, get_or-set_other, get_or-append-add, ext_get_or, le-ltb, lt-ltb}
 use native.Mathlib.Decide.{ℕ_discrete, dec_lt}
 use lib.ListN.{get_or-append}
 use lib.Seq.{set_comm, length_front}
@@ -269,13 +268,6 @@ module _ (mesh L : List ℕ) (m : ℕ) (some : 0 < product mesh) (once : Distinc
   getting : (all : Bool) → Some (pick all (span mesh L) 1) (shift_words mesh L m)
   getting true = record { some = group-pos mesh L some; members = omega (arith, shifts-length mesh L m some once) }
   getting false = record { some = omega arith; members = omega (arith, shifts-length mesh L m some once, group-pos mesh L some) }
-
-  -- the front of the second table, as it is lent
-  pub shifts-lent : {shifts : List ℕ} {k : ℕ} (rest : List ℕ) → k ≡ span mesh L → shifts ≡ shift_words mesh L m ++ rest
-      → take (k - 0) shifts ≡ shift_words mesh L m
-  shifts-lent {shifts} {k} rest ek es =
-      ap₂ (λ (n : ℕ) (l : List ℕ). take n l) (sub-zero k) es
-      ∙ take_at (shift_words mesh L m) rest k (shifts-length mesh L m some once ∙ sym ek)
 
   pub groups-asked : (words : ℕ) → product mesh * m ≤ words → (all : Bool) {firsts shifts : List ℕ} {k n : ℕ} → firsts ≡ first_words mesh L m
       → shifts ≡ shift_words mesh L m → k ≡ span mesh L → n ≡ pick all k 1 → Groups firsts shifts m words × Some n shifts

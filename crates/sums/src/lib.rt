@@ -2,13 +2,15 @@
 // which touches half the memory of two buffers: each group is added once, into its first member's shard, and the other members repeat that sum at
 // once, while it is in the cache. A reduce-scatter needs the sum at the first member alone. Nothing is divided. specs/Sums.antt says what the tables
 // hold.
-ghost use Rattle.std.specs.Prelude.{◌≡◌, ◌+◌, ◌*◌, ◌<◌, ◌≤◌, [], ◌++◌, length, drop, slice_index};
+#![tactic(auto)]
+
+ghost use Rattle.std.specs.Prelude.{◌≡◌, ◌+◌, ◌*◌, ◌<◌, ◌≤◌, [], length, take, slice_index};
 ghost use Rattle.rules.specs.Lists.{tab, pick, product};
 ghost use Rattle.rules.specs.Mesh.{span};
 ghost use Rattle.rules.specs.Spread.{add_words};
 ghost use Rattle.types.specs.Types.{axes_of};
 ghost use Rattle.strided.specs.Strided.{offset, most_places, Counts};
-ghost use Rattle.digits.specs.Digits.{mesh_strides, cleared, axis_digits, mesh_digits};
+ghost use Rattle.digits.specs.Digits.{cleared, axis_digits, mesh_digits};
 ghost use Rattle.sums.specs.Sums.{written, added_word, group_word, reduced_buffer, summed_buffer, first_words, shift_words};
 ghost use Rattle.sums.specs.Sums.{Behind, Group, Next, Some, Shared, Groups, Summed, Shifting, Firsts, Tables, Reducing};
 
@@ -219,8 +221,7 @@ fn list_shifts(
 ) -> usize
     requires { Shifting shifts.old strides.old mesh.now (axes_of axes) }
     ensures value { result ≡ span mesh.now (axes_of axes) }
-    ensures shifts_after { shifts.new ≡ tab result (offset (axis_digits mesh.now (axes_of axes) strides.old []))
-        ++ drop result shifts.old }
+    ensures shifts_after { take result shifts.new ≡ tab result (offset (axis_digits mesh.now (axes_of axes) strides.old [])) }
     ensures strides_after { strides.new ≡ cleared (axes_of axes) strides.old }
 {
     let mut digits = [0usize; ROOM];
@@ -241,9 +242,8 @@ fn list_firsts(firsts: &mut [usize], strides: &[usize], mesh: &[u16])
     list_offsets(firsts, &digits[first..], 0);
 }
 
-// Both tables: where the shard of each device's first member begins, for shards of m words, and at the front of shifts how far after it that of the
-// member at each position does; the strides are the mesh's, those of the group's axes cleared. Answers the number of members of a group.
-pub fn fill_tables(
+// Both tables. Answers the number of members of a group.
+fn fill_tables(
     firsts: &mut [usize],
     shifts: &mut [usize],
     strides: &mut [usize],
@@ -254,8 +254,7 @@ pub fn fill_tables(
     requires { Tables firsts.old shifts.old strides.old mesh.now (axes_of axes) m }
     ensures value { result ≡ span mesh.now (axes_of axes) }
     ensures firsts_after { firsts.new ≡ first_words mesh.now (axes_of axes) m }
-    ensures shifts_after { shifts.new ≡ shift_words mesh.now (axes_of axes) m ++ drop result shifts.old }
-    ensures strides_after { strides.new ≡ cleared (axes_of axes) (mesh_strides mesh.now m) }
+    ensures shifts_after { take result shifts.new ≡ shift_words mesh.now (axes_of axes) m }
 {
     fill_strides(strides, mesh, m);
     let members = list_shifts(shifts, strides, mesh, axes);
@@ -264,7 +263,7 @@ pub fn fill_tables(
 }
 
 // How many members of a group get its sum: all of them, or the first one alone.
-pub fn getters(all: bool, members: usize) -> usize
+fn getters(all: bool, members: usize) -> usize
     ensures { result ≡ pick all members 1 }
 {
     if all { members } else { 1 }

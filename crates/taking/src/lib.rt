@@ -1,5 +1,7 @@
 // One step of a plan, read and judged; the words of a shard after it, and the words that it moves between devices. specs/Taking.antt says what a step
 // taken is, specs/Charges.antt what is asked of one that is charged.
+#![tactic(auto)]
+
 ghost use Rattle.std.specs.Prelude.{◌≡◌, ℕ, ◌*◌, ◌≤◌, max, length, take};
 ghost use Rattle.rules.specs.Lists.{product};
 ghost use Rattle.types.specs.Answers.{refused_with};
@@ -21,7 +23,7 @@ use start::{Verdict, refusal_of};
 use types::{AxisList, Dim, DimLists, Kind, Mesh, Refusal, Sharding, Step, Table};
 
 // A step that was read and judged, the sharding after it, and where the next byte is.
-#[derive(Drop)]
+#[derive(Clone, Copy)]
 pub struct Taken {
     pub next: Next,
     pub step: Step,
@@ -53,7 +55,7 @@ impl Taken {
 pub fn take_step(
     file: &[u8],
     at: usize,
-    k: usize,
+    k: u16,
     mesh: Mesh,
     table: Table,
     sharding: Sharding,
@@ -97,7 +99,7 @@ pub fn shard_words(total: usize, mesh: Mesh, table: Table, sharding: Sharding) -
 }
 
 // The devices of a mesh, and the words of a table.
-#[derive(Drop)]
+#[derive(Clone, Copy)]
 pub struct Extent {
     pub devices: usize,
     pub words: usize,

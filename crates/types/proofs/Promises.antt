@@ -1,52 +1,46 @@
--- The promises of a run that is the definition's (`run-promise`, `run-floats-promise`), which are one (`promised`). Assumes nothing.
+-- The promise of a run that is the definition's (`run-promise`). Assumes nothing.
 use Prim.Native.Nat.{ℕ, ◌≤◌}
 use mathlib.Core.Path.{◌≡◌, refl, sym, ap, ◌∙◌, subst}
 use mathlib.Core.Logic.{◌↔◌}
 use mathlib.Core.List.{List}
 use lib.ListN.{length}
-use lib.Ieee.{Float, nan, add, binary32}
 use Rattle.rules.specs.Mesh.{devices}
-use Rattle.rules.specs.Spread.{add_words}
 use Rattle.rules.specs.Refusals.{Judged, accept, refuse, ◌>>=◌}
 use Rattle.rules.specs.PlanFile.{Plan, judge, announced, announced_shape, room}
 use Rattle.rules.specs.Moved.{added_on, words_moved, charge_from}
-use Rattle.rules.specs.Floats.{add_floats, plus_zero}
-use Rattle.rules.specs.Calls.{CheckAnswer, check_of, runnable, Ran, run_leaves_by, run_of_by, run_of, run_floats_of}
+use Rattle.rules.specs.Calls.{CheckAnswer, check_of, runnable, Ran, run_leaves, run_of}
 use Rattle.types.specs.Answers.{run_meaning}
-use Rattle.laws.specs.Demands.{Words, Demand3, Demand3Moves}
-use Rattle.types.specs.Promises.{RunPromiseBy, RunPromise, RunFloatsPromise}
+use Rattle.laws.specs.Demands.{Words, Demand3}
+use Rattle.types.specs.Promises.{RunPromise}
 use Rattle.types.specs.declared.Refusal.{Refusal}
 use Rattle.types.specs.declared.Ran as code
 use Rattle.types.specs.declared.RunOutcome.{RunOutcome}
 use Rattle.types.specs.declared.RunOutcome.TheVariants as run
 use Rattle.laws.proofs.Judging.{never, accept-inj, bind_inv}
-use Rattle.laws.proofs.Halves.{halves-one}
-use Rattle.laws.proofs.Runs.{run_ends}
-use Rattle.laws.proofs.Whole.{whole_plan, whole_plan_moves}
+use Rattle.laws.proofs.Whole as whole
 use Rattle.laws.proofs.Moved as charges
 
 -- ---- the run
 
-module _ {W : Type 0} (addAll : List W → W) (z o : W) (file : List ℕ) (work spare : List W) where
-  -- a run that finishes has judged its file
-  run-judged : (run_of_by addAll z o file work spare).outcome ≡ accept tt → (p : Plan) × (judge file ≡ accept p)
-  unfolding run_of_by runnable
-  run-judged e = go _ (judge file) e
-    where
-      go : (f : Plan → Judged Plan) (j : Judged Plan) → (run_leaves_by addAll z o (◌>>=◌ j f) work spare).outcome ≡ accept tt → (p : Plan) × (j ≡ accept p)
-      go f (accept p) e = (p, refl)
-      go f (refuse n k) e = absurd (never e)
+-- a run that finishes has judged its file
+run-judged : (file work spare : List ℕ) → (run_of file work spare).outcome ≡ accept tt → (p : Plan) × (judge file ≡ accept p)
+unfolding run_of runnable
+run-judged file work spare e = go _ (judge file) e
+  where
+    go : (f : Plan → Judged Plan) (j : Judged Plan) → (run_leaves (◌>>=◌ j f) work spare).outcome ≡ accept tt → (p : Plan) × (j ≡ accept p)
+    go f (accept p) e = (p, refl)
+    go f (refuse n k) e = absurd (never e)
 
-  -- a run that is refused leaves both buffers
-  run-kept : {n k : ℕ} → (run_of_by addAll z o file work spare).outcome ≡ refuse n k
-      → ((run_of_by addAll z o file work spare).work ≡ work) × ((run_of_by addAll z o file work spare).spare ≡ spare)
-  unfolding run_of_by
-  run-kept e = go (runnable file (length work) (length spare)) e
-    where
-      go : {n k : ℕ} (j : Judged Plan) → (run_leaves_by addAll z o j work spare).outcome ≡ refuse n k
-          → ((run_leaves_by addAll z o j work spare).work ≡ work) × ((run_leaves_by addAll z o j work spare).spare ≡ spare)
-      go (accept p) e = absurd (never (sym e))
-      go (refuse n k) e = (refl, refl)
+-- a run that is refused leaves both buffers
+run-kept : (file work spare : List ℕ) {n k : ℕ} → (run_of file work spare).outcome ≡ refuse n k
+    → ((run_of file work spare).work ≡ work) × ((run_of file work spare).spare ≡ spare)
+unfolding run_of
+run-kept file work spare e = go (runnable file work spare) e
+  where
+    go : {n k : ℕ} (j : Judged Plan) → (run_leaves j work spare).outcome ≡ refuse n k
+        → ((run_leaves j work spare).work ≡ work) × ((run_leaves j work spare).spare ≡ spare)
+    go (accept p) e = absurd (never (sym e))
+    go (refuse n k) e = (refl, refl)
 
 -- what a check that passed has judged
 check-judged : (file : List ℕ) (c : CheckAnswer) → check_of file ≡ accept c → (p : Plan) × (judge file ≡ accept p) × (room p ≡ c.room)
@@ -74,54 +68,50 @@ finished : (o : RunOutcome) → run_meaning o ≡ accept tt → o ≡ run.Finish
 finished run.Finished e = refl
 finished (run.Refused r) e = absurd (never e)
 
-module _ {W : Type 0} (addAll : List W → W) (z o : W) (Demand : Plan → (work spare : List W) → Ran W → Type 0)
-    (file : List ℕ) (work spare : List W) (r : code.Ran) {work' spare' : List W}
-    (whole : (p : Plan) → judge file ≡ accept p → Demand p work spare (run_of_by addAll z o file work spare))
-    (ran : run_of_by addAll z o file work spare ≡ record { outcome = run_meaning r.outcome; moved = r.moved; work = work'; spare = spare' }) where
-  abbrev was : Ran W
-  was = run_of_by addAll z o file work spare
+module _ (file work spare : List ℕ) (r : code.Ran) {work' spare' : List ℕ} (words : Words work)
+    (ran : run_of file work spare ≡ record { outcome = run_meaning r.outcome; moved = r.moved; work = work'; spare = spare' }) where
+  abbrev answers : run_meaning r.outcome ≡ (run_of file work spare).outcome
+  answers = ap (λ (x : Ran). x.outcome) (sym ran)
 
-  abbrev answers : run_meaning r.outcome ≡ was.outcome
-  answers = ap (λ (x : Ran W). x.outcome) (sym ran)
+  abbrev moved_is : r.moved ≡ (run_of file work spare).moved
+  moved_is = ap (λ (x : Ran). x.moved) (sym ran)
 
-  abbrev moved_is : r.moved ≡ was.moved
-  moved_is = ap (λ (x : Ran W). x.moved) (sym ran)
+  abbrev work_is : work' ≡ (run_of file work spare).work
+  work_is = ap (λ (x : Ran). x.work) (sym ran)
 
-  abbrev work_is : work' ≡ was.work
-  work_is = ap (λ (x : Ran W). x.work) (sym ran)
+  abbrev spare_is : spare' ≡ (run_of file work spare).spare
+  spare_is = ap (λ (x : Ran). x.spare) (sym ran)
 
-  abbrev spare_is : spare' ≡ was.spare
-  spare_is = ap (λ (x : Ran W). x.spare) (sym ran)
+  demand_3 : (p : Plan) → judge file ≡ accept p
+      → Demand3 p work spare (record { outcome = run_meaning r.outcome; moved = r.moved; work = work'; spare = spare' })
+  demand_3 p e = subst (Demand3 p work spare) ran (whole.whole_plan file p e work spare words)
 
   kept : (why : Refusal) → r.outcome ≡ run.Refused why → (r.moved ≡ 0) × (work' ≡ work) × (spare' ≡ spare)
   kept why q =
       let e = sym answers ∙ ap run_meaning q in
-      let k = run-kept addAll z o file work spare e in
-      (moved_is ∙ (charges.one_number).refused W addAll z o file work spare _ _ e, work_is ∙ k.0, spare_is ∙ k.1)
+      let k = run-kept file work spare e in
+      (moved_is ∙ (charges.one_number).refused file work spare _ _ e, work_is ∙ k.0, spare_is ∙ k.1)
 
   moves : r.outcome ≡ run.Finished → (p : Plan) → judge file ≡ accept p
       → (r.moved ≡ words_moved p) × (r.moved ≡ added_on (charge_from p.mesh p.sizes) p.start p.steps)
   moves q p e =
       let c = judged-check file p e in
-      let m : r.moved ≡ words_moved p =
-      moved_is ∙ (charges.one_number).finished W addAll z o file work spare c.0 c.1 (sym answers ∙ ap run_meaning q) ∙ c.3 in
+      let m : r.moved ≡ words_moved p = moved_is ∙ (charges.one_number).finished file work spare c.0 c.1 (sym answers ∙ ap run_meaning q) ∙ c.3 in
       (m, m ∙ (charges.plans_charged file p e).added)
 
   ends : (r.outcome ≡ run.Finished) ↔ ((c : CheckAnswer) × (check_of file ≡ accept c) × (c.room ≤ length work) × (c.room ≤ length spare))
   ends = (
-    (λ q. let h = sym answers ∙ ap run_meaning q in
-        let j = run-judged addAll z o file work spare h in
-        let f = (run_ends addAll z o file j.0 j.1 work spare).0 h in
+    (λ q. let j = run-judged file work spare (sym answers ∙ ap run_meaning q) in
+        let f = (demand_3 j.0 j.1).ends.0 (ap run_meaning q) in
         let c = judged-check file j.0 j.1 in
         (c.0, c.1, subst (λ (n : ℕ). n ≤ length work) (sym c.2) f.0, subst (λ (n : ℕ). n ≤ length spare) (sym c.2) f.1)),
     λ x. let j = check-judged file x.0 x.1 in
-        finished r.outcome (answers ∙ (run_ends addAll z o file j.0 j.1 work spare).1
+        finished r.outcome ((demand_3 j.0 j.1).ends.1
         (subst (λ (n : ℕ). n ≤ length work) (sym j.2) x.2, subst (λ (n : ℕ). n ≤ length spare) (sym j.2) x.3)),
   )
 
-  -- OF WORDS OF ANY TYPE
-  pub promised : RunPromiseBy (run_of_by addAll z o) Demand file work spare r work' spare'
-  promised = record {
+  pub run-promise : RunPromise file work spare r work' spare'
+  run-promise = record {
     answers = answers;
     moved_is = moved_is;
     work_is = work_is;
@@ -129,16 +119,5 @@ module _ {W : Type 0} (addAll : List W → W) (z o : W) (Demand : Plan → (work
     refused = kept;
     moves = moves;
     ends = ends;
-    demand_3 = λ p e. subst (Demand p work spare) ran (whole p e);
+    demand_3 = demand_3;
   }
-
-pub run-promise : (file work spare : List ℕ) (r : code.Ran) {work' spare' : List ℕ} → Words work
-    → run_of file work spare ≡ record { outcome = run_meaning r.outcome; moved = r.moved; work = work'; spare = spare' }
-    → RunPromise file work spare r work' spare'
-run-promise file work spare r words = promised add_words 0 0 Demand3 file work spare r (λ p e. whole_plan file p e work spare words)
-
-pub run-floats-promise : (file : List ℕ) (work spare : List Float) (r : code.Ran) {work' spare' : List Float}
-    → run_floats_of file work spare ≡ record { outcome = run_meaning r.outcome; moved = r.moved; work = work'; spare = spare' }
-    → RunFloatsPromise file work spare r work' spare'
-run-floats-promise file work spare r = promised add_floats nan plus_zero (Demand3Moves add_floats nan) file work spare r
-    (λ p e. whole_plan_moves Float add_floats nan plus_zero (halves-one (add binary32) plus_zero) file p e work spare)

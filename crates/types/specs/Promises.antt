@@ -1,16 +1,13 @@
 -- The promises: what each call answers and leaves, on any input, as the `ensures` of its function and of the library's.
 -- `file`, `mesh`, `order` and `axes` are lent with `&`, so no call can change them. Assumes nothing.
-use Rattle.std.specs.Prelude.{ℕ, ◌≤◌, ◌≡◌, ◌↔◌, List, length, take, drop, Float}
-use Rattle.std.specs.Float.{nan}
+use Rattle.std.specs.Prelude.{ℕ, ◌≤◌, ◌≡◌, ◌↔◌, List, length, take, drop}
 use Rattle.rules.specs.Mesh.{devices, Rearrangement}
 use Rattle.rules.specs.Refusals.{Judged, accept, refuse}
 use Rattle.rules.specs.PlanFile.{Plan, judge}
 use Rattle.rules.specs.Moved.{added_on, words_moved, charge_from}
-use Rattle.rules.specs.Floats.{add_floats}
-use Rattle.rules.specs.Calls.{CheckAnswer, check_of, place_of, groups_of, groups_leave, groups_ordered_of, groups_ordered_leave, run_of, run_floats_of}
-use Rattle.rules.specs.Calls as rules
+use Rattle.rules.specs.Calls.{CheckAnswer, check_of, place_of, groups_of, groups_leave, groups_ordered_of, groups_ordered_leave, run_of}
 use Rattle.types.specs.Answers.{checked_of, placed_of, groups_meaning, run_meaning}
-use Rattle.laws.specs.Demands.{Demand3, Demand3Moves}
+use Rattle.laws.specs.Demands.{Demand3}
 use Rattle.types.specs.declared.Refusal.{Refusal}
 use Rattle.types.specs.declared.Checked.{Checked}
 use Rattle.types.specs.declared.Placed.{Placed}
@@ -51,17 +48,15 @@ GroupsOrderedPromise mesh order axes out r outAfter =
 
 -- ---- the run
 
--- Of any file and any two buffers of words of a type: what the run answers, and what the buffers hold after it. `runs` is the definition's run of such
--- words, `Demand` what demand 3 says of it.
-pub record RunPromiseBy {W : Type 0} (runs : List ℕ → (work spare : List W) → rules.Ran W) (Demand : Plan → (work spare : List W) → rules.Ran W → Type 0)
-    (file : List ℕ) (work spare : List W) (r : Ran) (workAfter spareAfter : List W) : Type 0 where
+-- Of any file and any two buffers of words: what the run answers, and what the buffers hold after it.
+pub record RunPromise (file work spare : List ℕ) (r : Ran) (workAfter spareAfter : List ℕ) : Type 0 where
   -- "a bad plan gets the refusal number and step number that the rules name": the outcome is the definition's
-  pub answers : run_meaning r.outcome ≡ (runs file work spare).outcome
+  pub answers : run_meaning r.outcome ≡ (run_of file work spare).outcome
   -- "The run's answer gains one number.": it is the definition's
-  pub moved_is : r.moved ≡ (runs file work spare).moved
+  pub moved_is : r.moved ≡ (run_of file work spare).moved
   -- "the words are fixed for unfaithful buffers as well": both buffers at the return are the definition's
-  pub work_is : workAfter ≡ (runs file work spare).work
-  pub spare_is : spareAfter ≡ (runs file work spare).spare
+  pub work_is : workAfter ≡ (run_of file work spare).work
+  pub spare_is : spareAfter ≡ (run_of file work spare).spare
   -- "and no word of a borrowed buffer is changed"; "A refused run moves nothing and says 0."
   pub refused : (why : Refusal) → r.outcome ≡ run.Refused why → (r.moved ≡ 0) × (workAfter ≡ work) × (spareAfter ≡ spare)
   -- a run that reaches the end says the plan's number, which is the check's and the sum of the steps' closed forms
@@ -71,13 +66,4 @@ pub record RunPromiseBy {W : Type 0} (runs : List ℕ → (work spare : List W) 
   pub ends : (r.outcome ≡ run.Finished) ↔ ((c : CheckAnswer) × (check_of file ≡ accept c) × (c.room ≤ length work) × (c.room ≤ length spare))
   -- demand 3, of what the run answered and left
   pub demand_3 : (p : Plan) → judge file ≡ accept p
-      → Demand p work spare (record { outcome = run_meaning r.outcome; moved = r.moved; work = workAfter; spare = spareAfter })
-
--- of 32-bit unsigned words
-abbrev pub RunPromise : (file work spare : List ℕ) → Ran → (workAfter spareAfter : List ℕ) → Type 0
-RunPromise file work spare r workAfter spareAfter = RunPromiseBy run_of Demand3 file work spare r workAfter spareAfter
-
--- of 32-bit floats (document 02, Ask 13). The logic has one not-a-number: of every other float the contract fixes all bits.
-abbrev pub RunFloatsPromise : (file : List ℕ) → (work spare : List Float) → Ran → (workAfter spareAfter : List Float) → Type 0
-RunFloatsPromise file work spare r workAfter spareAfter =
-    RunPromiseBy run_floats_of (Demand3Moves add_floats nan) file work spare r workAfter spareAfter
+      → Demand3 p work spare (record { outcome = run_meaning r.outcome; moved = r.moved; work = workAfter; spare = spareAfter })

@@ -5,8 +5,7 @@ use Rattle.std.specs.Prelude.{ℕ, ◌-◌, ◌≡◌, refl, List, [], ◌∷◌
 use Rattle.rules.specs.Collectives.{allSlice, allGather, all_reduce, all_to_all, reduce_scatter}
 use Rattle.rules.specs.Limits.{most_axes, most_dims}
 use Rattle.types.specs.Types.{dims_of, step_of}
-use Rattle.rules.specs.Spread.{add_words}
-use Rattle.rules.specs.Calls.{groups_of, run_of, run_of_by}
+use Rattle.rules.specs.Calls.{groups_of, run_of}
 use Rattle.types.specs.Answers.{groups_meaning, run_meaning}
 use Rattle.rules.specs.Ledger.{w1, nines}
 use Rattle.types.specs.declared.Axis.{Axis}
@@ -54,5 +53,5 @@ pub meanings :
     × (step_of 1 (step AllReduce 9 9 [] (0 ∷ [])) ≡ all_reduce (0 ∷ []))
     × (step_of 2 (step AllToAll 0 1 [] (0 ∷ [])) ≡ all_to_all 0 1 (0 ∷ []))
     × (step_of 1 (step ReduceScatter 9 9 ((1 ∷ 0 ∷ []) ∷ []) (nines 1)) ≡ reduce_scatter ((1 ∷ 0 ∷ []) ∷ []))
-unfolding groups_of run_of_by add_words dims_of
+unfolding groups_of run_of dims_of
 meanings = (refl, refl, refl, refl, refl, refl, refl, refl, refl)

@@ -1,11 +1,12 @@
 // The types of plans on a device mesh, their limits, the refusals, and the outcomes of the calls. What they stand for in the rules is in specs/.
+#![tactic(auto)]
+
 ghost use Rattle.std.specs.Prelude.{◌≡◌, List, [], ◌∷◌, ◌++◌, ℕ, ◌+◌, ◌<◌, ◌≤◌, length, get_or, set, replicate};
 ghost use Rattle.rules.specs.Limits.{most_axes, most_devices, most_dims, most_words, most_steps, most_run, most_depth, least_bytes, most_bytes};
 ghost use Rattle.types.specs.Types.{axes_of, mesh_of, dims_of, list_from};
 
 // An axis number of a mesh.
-#[repr(C)]
-#[derive(Drop)]
+#[derive(Clone, Copy)]
 pub struct Axis(pub u8);
 
 impl Axis {
@@ -20,7 +21,7 @@ impl Axis {
 }
 
 // A dimension of a tensor.
-#[derive(Drop)]
+#[derive(Clone, Copy)]
 pub struct Dim(pub u8);
 
 impl Dim {
@@ -35,7 +36,7 @@ impl Dim {
 }
 
 // A device number.
-#[derive(Drop)]
+#[derive(Clone, Copy)]
 pub struct Device(pub u16);
 
 impl Device {
@@ -50,21 +51,18 @@ impl Device {
 }
 
 // A list of axes: the first `count` places; what the others hold is free, and 0 in an answer of a call. Eight bytes in all, so that lists are cheap to hand on.
-#[repr(C)]
-#[derive(Drop)]
+#[derive(Clone, Copy)]
 pub struct AxisList {
     pub count: u16,
     pub axes: [Axis; Axis::MOST],
 }
 
 // A list of axes for each dimension.
-#[repr(C)]
-#[derive(Drop)]
+#[derive(Clone, Copy)]
 pub struct DimLists(pub [AxisList; Dim::MOST]);
 
 // A sharding: the lists that split the dimensions, the unreduced axes, and the axes that must stay replicated.
-#[repr(C)]
-#[derive(Drop)]
+#[derive(Clone, Copy)]
 pub struct Sharding {
     pub dims: DimLists,
     pub unreduced: AxisList,
@@ -72,7 +70,7 @@ pub struct Sharding {
 }
 
 // A mesh: the sizes of its axes are the first `n` places.
-#[derive(Drop)]
+#[derive(Clone, Copy)]
 pub struct Mesh {
     pub n: usize,
     pub sizes: [u16; Axis::MOST],
@@ -95,7 +93,7 @@ impl Mesh {
 }
 
 // The sizes of a table: the first `rank` places.
-#[derive(Drop)]
+#[derive(Clone, Copy)]
 pub struct Table {
     pub rank: usize,
     pub sizes: [u16; Dim::MOST],
@@ -113,7 +111,7 @@ impl Table {
 }
 
 // The kinds of step.
-#[derive(Drop)]
+#[derive(Clone, Copy)]
 pub enum Kind {
     AllSlice,
     AllGather,
@@ -124,7 +122,7 @@ pub enum Kind {
 }
 
 // A step: all-slice, all-gather and reduce-scatter have lists by dimension, all-reduce and all-to-all have one list.
-#[derive(Drop)]
+#[derive(Clone, Copy)]
 pub struct Step {
     pub kind: Kind,
     pub source: Dim,
@@ -163,7 +161,7 @@ impl Step {
 }
 
 // A plan file, by its number of bytes.
-#[derive(Drop)]
+#[derive(Clone, Copy)]
 pub struct PlanFile(pub usize);
 
 impl PlanFile {
@@ -186,7 +184,7 @@ impl PlanFile {
 }
 
 // Why a call is refused, a variant for each refusal number.
-#[derive(Drop)]
+#[derive(Clone, Copy)]
 pub enum Reason {
     FileTooShort,
     FileTooLong,
@@ -230,14 +228,14 @@ pub enum Reason {
 }
 
 // A refusal: a reason, and the step that it is given in, counted from 1; 0 outside the steps.
-#[derive(Drop)]
+#[derive(Clone, Copy)]
 pub struct Refusal {
     pub reason: Reason,
-    pub step: usize,
+    pub step: u16,
 }
 
 // The check's totals; `moved` is the words that a run moves between devices.
-#[derive(Drop)]
+#[derive(Clone, Copy)]
 pub struct Totals {
     pub room: u32,
     pub devices: u16,
@@ -246,7 +244,7 @@ pub struct Totals {
     pub moved: u64,
 }
 
-#[derive(Drop)]
+#[derive(Clone, Copy)]
 pub enum CheckOutcome {
     Passed(Totals),
     Refused(Refusal),
@@ -254,7 +252,7 @@ pub enum CheckOutcome {
 
 // The check's answer: beside the outcome, the final sharding and its shard sizes. Past the rank there are no axes, and sizes are 0; so it is in every
 // place beside a refusal. Places of a list that are not used are 0.
-#[derive(Drop)]
+#[derive(Clone, Copy)]
 pub struct Checked {
     pub outcome: CheckOutcome,
     pub sharding: Sharding,
@@ -262,14 +260,14 @@ pub struct Checked {
 }
 
 // The rank of the table, or the refusal.
-#[derive(Drop)]
+#[derive(Clone, Copy)]
 pub enum PlaceOutcome {
     Found(usize),
     Refused(Refusal),
 }
 
 // The placement's answer: beside the outcome, the state's sharding and shard sizes, and the device's first indexes; past the rank as the check's.
-#[derive(Drop)]
+#[derive(Clone, Copy)]
 pub struct Placed {
     pub outcome: PlaceOutcome,
     pub sharding: Sharding,
@@ -278,20 +276,20 @@ pub struct Placed {
 }
 
 // The number of devices listed, or the refusal.
-#[derive(Drop)]
+#[derive(Clone, Copy)]
 pub enum GroupsOutcome {
     Listed(usize),
     Refused(Refusal),
 }
 
-#[derive(Drop)]
+#[derive(Clone, Copy)]
 pub enum RunOutcome {
     Finished,
     Refused(Refusal),
 }
 
 // The run's answer: beside the outcome, the words that it moved between devices, 0 beside a refusal.
-#[derive(Drop)]
+#[derive(Clone, Copy)]
 pub struct Ran {
     pub outcome: RunOutcome,
     pub moved: u64,

@@ -1,4 +1,4 @@
--- The check of a whole file, as its header's judgement and the rest (`check-is`), and the header's judgement by its 18 bytes and the length of the file
+-- The check of a whole file, but for the words moved, as its header's judgement and the rest (`check-is`), and the header's judgement by its 18 bytes and the length of the file
 -- alone (`header-same`). Assumes nothing.
 use Prim.Native.Nat.{ℕ, ◌+◌, ◌*◌, ◌≤◌, ◌<◌, max}
 use mathlib.Core.Path.{◌≡◌, refl, sym, ap, ap₂, ◌∙◌}
@@ -18,9 +18,8 @@ use Rattle.rules.specs.Collectives.{Step, after}
 use Rattle.rules.specs.Refusals.{Judged, accept, refuse, ◌>>=◌, ◌>>◌, need}
 use Rattle.rules.specs.PlanFile.{Read, u16_at, edition, axis_count, rank_count, step_count, mesh_offset, tensor_offset, sharding_offset, steps_offset, total_length}
 use Rattle.rules.specs.PlanFile.{edition_known, axes_allowed, rank_allowed, judge_header, judge_header_by, sizes_at, carries_order, order_at, MeshAndTable, mesh_and_table_at, mesh_and_table_at_by}
-use Rattle.rules.specs.PlanFile.{carries_replicated, sharding_at, judge_start, one_meaning, Front, judge_front, judge_front_by, Outermost, outermost_at, Plan, judge_by, announced, announced_shape, room}
+use Rattle.rules.specs.PlanFile.{carries_replicated, sharding_at, judge_start, one_meaning, Front, judge_front, judge_front_by, Outermost, outermost_at, Plan, judge, judge_by, announced, announced_shape, room}
 use Rattle.rules.specs.Calls.{CheckAnswer, check_of}
-use Rattle.rules.specs.Moved.{added_on, moved_from, words_moved}
 use Rattle.laws.specs.Demands.{largest_on}
 use Rattle.laws.proofs.Judging.{need-inv, then-assoc, bind_assoc}
 use Rattle.laws.proofs.Turns.{first-largest}
@@ -30,7 +29,7 @@ use Rattle.reader.specs.Reading.{numbers_of, header_of}
 use Rattle.reader.specs.declared.Header.{Header}
 use Rattle.opening.specs.Opening.{judge_opening}
 use Rattle.blocks.specs.Blocks.{shard_words}
-use Rattle.units.specs.Units.{in_mesh, headed}
+use Rattle.units.specs.Units.{in_mesh, headed, unpriced}
 use Rattle.units.proofs.Steps.{bind-same, outer_rest}
 use Rattle.units.proofs.Rests.{after-need, steps_from, start_from, tableFrom, order_rest_from, mesh_rest, rest_of}
 
@@ -40,6 +39,11 @@ use Rattle.units.proofs.Rests.{after-need, steps_from, start_from, tableFrom, or
 then-bind : {A B C : Type 0} (m : Judged A) (j : Judged B) (f : B → Judged C) → ◌>>=◌ (◌>>◌ m j) f ≡ ◌>>◌ m (◌>>=◌ j f)
 then-bind (accept a) j f = refl
 then-bind (refuse n k) j f = refl
+
+-- a refusal has no words moved
+unpriced-bind : {A : Type 0} (j : Judged A) (f : A → Judged CheckAnswer) → unpriced (◌>>=◌ j f) ≡ ◌>>=◌ j (λ a. unpriced (f a))
+unpriced-bind (accept a) f = refl
+unpriced-bind (refuse n k) f = refl
 
 -- the offset is tested before the section
 sizes-offset : (most z o count offset : ℕ) (file : List ℕ) (at : ℕ)
@@ -61,7 +65,7 @@ module _ (file : List ℕ) where
     rank = length p.sizes;
     sharding = announced p (length p.steps);
     shard = announced_shape p (length p.steps);
-    moved = words_moved p;
+    moved = 0;
   }
 
   -- the steps, to the answer
@@ -70,8 +74,8 @@ module _ (file : List ℕ) where
       (accept (record { mesh = f.mesh; order = f.order; sizes = f.sizes; start = f.start; records = ts.records; steps = ts.steps; runs = ts.runs }))))
       (λ (p : Plan). accept (answer_of p))
 
-  steps-of : (f : Front) → steps_of f ≡ outer_rest (step_count file) file f.mesh f.sizes (step_count file) 1 0 0 (shard_words f.mesh f.sizes f.start) f.next f.start
-  unfolding announced announced_shape words_moved
+  steps-of : (f : Front) → steps_of f ≡ outer_rest (step_count file) file f.mesh f.sizes (step_count file) 1 0 (shard_words f.mesh f.sizes f.start) f.next f.start
+  unfolding announced announced_shape
   steps-of f =
       bind_assoc (outermost_at every_kind f.mesh f.sizes file 0 (step_count file) 1 f.next f.start) _ _
       ∙ bind-same (outermost_at every_kind f.mesh f.sizes file 0 (step_count file) 1 f.next f.start) _ _ (λ ts e.
@@ -90,14 +94,13 @@ module _ (file : List ℕ) where
             rank = length f.sizes;
             sharding = in_turn after ts.steps f.start;
             shard = shard_sizes f.mesh f.sizes (in_turn after ts.steps f.start).dims;
-            moved = 0 + added_on (moved_from f.mesh f.sizes) f.start ts.steps;
+            moved = 0;
           })
       go ts g =
           let p : Plan = record { mesh = f.mesh; order = f.order; sizes = f.sizes; start = f.start; records = ts.records; steps = ts.steps; runs = ts.runs } in
           let m : largest_on words f.start ts.steps ≡ max (words f.start) (largest_on words f.start ts.steps) = omega (arith, first-largest words f.start ts.steps) in
           let r : room p ≡ devices f.mesh * max (words f.start) (largest_on words f.start ts.steps) = room-running p ∙ ap (λ (x : ℕ). devices f.mesh * x) m in
           let s : announced p (length ts.steps) ≡ in_turn after ts.steps f.start = ap (λ (l : List Step). in_turn after l f.start) (take-length ts.steps) in
-          let w : words_moved p ≡ 0 + added_on (moved_from f.mesh f.sizes) f.start ts.steps = omega arith in
           λ i. accept (record {
             room = r i;
             devices = devices f.mesh;
@@ -105,7 +108,7 @@ module _ (file : List ℕ) where
             rank = length f.sizes;
             sharding = s i;
             shard = shard_sizes f.mesh f.sizes (s i).dims;
-            moved = w i;
+            moved = 0;
           })
 
   abbrev h : Header
@@ -163,16 +166,16 @@ module _ (file : List ℕ) where
       ∙ after-need (eqb (mesh_offset file) least_bytes) 6 _ _
 
   -- THE CHECK IS THE HEADER AND THE REST
-  pub check-is : check_of file ≡ ◌>>◌ (judge_header file) (◌>>◌ (need (eqb (mesh_offset file) least_bytes) 6) (rest_of h file in_mesh least_bytes))
+  pub check-is : unpriced (check_of file) ≡ ◌>>◌ (judge_header file) (◌>>◌ (need (eqb (mesh_offset file) least_bytes) 6) (rest_of h file in_mesh least_bytes))
   unfolding check_of judge_by judge_front_by mesh_and_table_at_by
   check-is =
-      bind_assoc (judge_front file) _ _ ∙ then-bind (judge_header file) _ _ ∙ ap (◌>>◌ (judge_header file)) (
+      unpriced-bind (judge file) _ ∙ bind_assoc (judge_front file) _ _ ∙ then-bind (judge_header file) _ _ ∙ ap (◌>>◌ (judge_header file)) (
       bind_assoc (mesh_and_table_at (carries_order (edition file)) (axis_count file) (rank_count file) file) _ _
       ∙ bind-same (mesh_and_table_at (carries_order (edition file)) (axis_count file) (rank_count file) file) _ _ (λ m e. sharding-of m.value m.next)
       ∙ mesh-of)
 
 -- a header that is refused
-pub check-stops : (file : List ℕ) {a k : ℕ} → judge_header file ≡ refuse a k → check_of file ≡ refuse a k
+pub check-stops : (file : List ℕ) {a k : ℕ} → judge_header file ≡ refuse a k → unpriced (check_of file) ≡ refuse a k
 check-stops file e = check-is file ∙ ap (λ (j : Judged (Unit {0})). ◌>>◌ j (◌>>◌ (need (eqb (mesh_offset file) least_bytes) 6) (rest_of (numbers_of file) file in_mesh least_bytes))) e
 
 -- ---- the header's judgement, by its bytes and the length
@@ -251,20 +254,20 @@ too_long file h = let l : least_bytes ≤ length file = omega arith in simp (le-
 pub header-long : (head : List ℕ) (n : ℕ) → most_bytes < n → judge_header (headed head n) ≡ refuse 2 0
 header-long head n h = too_long (headed head n) (omega (arith, headed-long head n))
 
-pub check-long : (file : List ℕ) → most_bytes < length file → check_of file ≡ refuse 2 0
+pub check-long : (file : List ℕ) → most_bytes < length file → unpriced (check_of file) ≡ refuse 2 0
 check-long file h = check-stops file (too_long file h)
 
 -- 1
 pub header-short : (head : List ℕ) (n : ℕ) → n < least_bytes → judge_header (headed head n) ≡ refuse 1 0
 header-short head n h = too_short (headed head n) (omega (arith, headed-long head n))
 
-pub check-short : (file : List ℕ) → length file < least_bytes → check_of file ≡ refuse 1 0
+pub check-short : (file : List ℕ) → length file < least_bytes → unpriced (check_of file) ≡ refuse 1 0
 check-short file h = check-stops file (too_short file h)
 
 -- the length is what the header says
-pub total-is : (file : List ℕ) → judge_header file ≡ accept tt → total_length file ≡ length file
+pub total_is : (file : List ℕ) → judge_header file ≡ accept tt → total_length file ≡ length file
 unfolding judge_header_by
-total-is file e =
+total_is file e =
     let a = need-inv 0 (leb least_bytes (length file)) 1 _ tt e in
     let b = need-inv 0 (leb (length file) most_bytes) 2 _ tt a.1 in
     let c = need-inv 0 (edition_known present (edition file)) 3 _ tt b.1 in

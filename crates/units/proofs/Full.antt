@@ -34,7 +34,7 @@ use Rattle.rules.specs.PlanFile.{
 use Rattle.laws.proofs.Judging.{never, accept-inj}
 use Rattle.reader.proofs.Listing.{ByteIs, count-above}
 use Rattle.blocks.specs.Blocks.{head_at}
-use Rattle.blocks.proofs.Heads.{positive-zero, positive-is, count-stops, number-stops, too-deep, head_is}
+use Rattle.blocks.proofs.Heads.{positive-zero, positive-is, count-stops, number-stops, too-deep, head-is}
 use Rattle.units.proofs.Parts.{number_of, list-is, sizes-not-seven}
 
 -- a reading that 7 does not refuse, and that ends by k
@@ -146,4 +146,4 @@ head-short depth k f {b} e = go (dec_lt (length f) 3) (ℕ_discrete (get_or f 1 
     go (no l) (no c) (no n) (yes d) =
         absurd (other {n = 42} (λ q. omega (arith, q)) (too-deep depth k f 1 (positive-is k f 1 (omega (arith, l)) c) (positive-is k f 2 (omega (arith, l)) n) d))
     go (no l) (no c) (no n) (no d) =
-        absurd (never (sym (sym (head_is depth k f 1 (positive-is k f 1 (omega (arith, l)) c) (positive-is k f 2 (omega (arith, l)) n) d) ∙ e)))
+        absurd (never (sym (sym (head-is depth k f 1 (positive-is k f 1 (omega (arith, l)) c) (positive-is k f 2 (omega (arith, l)) n) d) ∙ e)))

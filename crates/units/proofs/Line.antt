@@ -19,7 +19,6 @@ use Rattle.rules.specs.Refusals.{Judged, accept, refuse, ◌>>=◌, ◌>>◌, ne
 use Rattle.rules.specs.PlanFile.{Read, u16_at, edition, axis_count, rank_count, step_count, mesh_offset, tensor_offset, sharding_offset, steps_offset, total_length}
 use Rattle.rules.specs.PlanFile.{judge_header, sizes_at, carries_order, carries_replicated, list_read_at, lists_at, sharding_at, step_at, judge_step, same_sharding, is_repeat}
 use Rattle.rules.specs.Calls.{CheckAnswer, check_of}
-use Rattle.rules.specs.Moved.{moved_from}
 use Rattle.laws.proofs.Lists.{in-turn-append}
 use Rattle.laws.proofs.Judging.{never}
 use Rattle.laws.proofs.Accepted.{header-facts, section-facts}
@@ -70,6 +69,7 @@ use Rattle.units.specs.Units.{
   closed,
   answer_in,
   end_of,
+  unpriced,
   state_after,
   SlowLine,
 }
@@ -94,7 +94,7 @@ use Rattle.units.proofs.Parts.{
   item-none,
 }
 use Rattle.units.proofs.Rests.{head_read, after_item, after-need, rest_of, steps_on, start-on, table_on, number-on, mesh-on}
-use Rattle.units.proofs.Checks.{check-is, check-stops, numbers-same, total-same, total-is, header-same, header-short, check-short, header-long, check-long}
+use Rattle.units.proofs.Checks.{check-is, check-stops, numbers-same, total-same, total_is, header-same, header-short, check-short, header-long, check-long}
 
 -- a reader that reads a part as it reads the file around it
 abbrev Unitary : {A : Type 0} → (List ℕ → ℕ → Judged (Read A)) → Type 0
@@ -149,7 +149,7 @@ module _ (file : List ℕ) (header_is : judge_header file ≡ accept tt) where
   Sound (in_table mesh) = Unit {0}
   Sound (in_the_start mesh sizes) = Unit {0}
   Sound (in_steps mesh sizes q) = shard_words mesh sizes q.sharding ≤ q.largest
-  Sound (at_end mesh sizes largest moved s) = Unit {0}
+  Sound (at_end mesh sizes largest s) = Unit {0}
   Sound (stopped a k) = Unit {0}
 
   -- the unit is not whole
@@ -160,7 +160,7 @@ module _ (file : List ℕ) (header_is : judge_header file ≡ accept tt) where
   Waits (in_table mesh) u = sizes_at most_words 12 13 (rank_count head) 0 u 0 ≡ refuse 7 0
   Waits (in_the_start mesh sizes) u = sharding_at (carries_replicated (edition head)) (axis_count head) (rank_count head) 0 u 0 ≡ refuse 7 0
   Waits (in_steps mesh sizes q) u = item_read (depth_in q.frames) (length mesh) (length sizes) q.number u 0 ≡ refuse 7 0
-  Waits (at_end mesh sizes largest moved s) u = u ≡ []
+  Waits (at_end mesh sizes largest s) u = u ≡ []
   Waits (stopped a k) u = u ≡ []
 
   abbrev Ready : Judged Phase → Type 0
@@ -281,32 +281,32 @@ module _ (file : List ℕ) (header_is : judge_header file ≡ accept tt) where
       go true = (tt, no-lists (carries_replicated (edition head)) (axis_count head) (rank_count head))
       go false = tt
 
-  ready-outermost : (mesh sizes : List ℕ) (left ran moved number largest : ℕ) (s : Sharding) → shard_words mesh sizes s ≤ largest
-      → Ready (accept (outermost mesh sizes left ran moved number largest s))
-  ready-outermost mesh sizes zero ran moved number largest s l = (tt, refl)
-  ready-outermost mesh sizes (suc left) ran moved number largest s l = (l, item-none most_depth (length mesh) (length sizes) number [] 0 (omega arith))
+  ready-outermost : (mesh sizes : List ℕ) (left ran number largest : ℕ) (s : Sharding) → shard_words mesh sizes s ≤ largest
+      → Ready (accept (outermost mesh sizes left ran number largest s))
+  ready-outermost mesh sizes zero ran number largest s l = (tt, refl)
+  ready-outermost mesh sizes (suc left) ran number largest s l = (l, item-none most_depth (length mesh) (length sizes) number [] 0 (omega arith))
 
   ready-steps : (n : ℕ) (mesh sizes : List ℕ) (s : Sharding) → Ready (after_start head n mesh sizes s)
   unfolding after_start
   ready-steps n mesh sizes s = go (eqb (steps_offset head) n) (judge_opening (edition head) mesh sizes s)
     where
-      go : (b : Bool) (j : Judged (Unit {0})) → Ready (◌>>◌ (need b 6) (◌>>◌ j (accept (outermost mesh sizes (step_count head) 0 0 1 (shard_words mesh sizes s) s))))
-      go true (accept t) = ready-outermost mesh sizes (step_count head) 0 0 1 (shard_words mesh sizes s) s (omega arith)
+      go : (b : Bool) (j : Judged (Unit {0})) → Ready (◌>>◌ (need b 6) (◌>>◌ j (accept (outermost mesh sizes (step_count head) 0 1 (shard_words mesh sizes s) s))))
+      go true (accept t) = ready-outermost mesh sizes (step_count head) 0 1 (shard_words mesh sizes s) s (omega arith)
       go true (refuse a k) = tt
       go false j = tt
 
-  ready-next : (mesh sizes : List ℕ) (number largest : ℕ) (s : Sharding) (frames : List Frame) (k left ran moved : ℕ) → shard_words mesh sizes s ≤ largest
-      → Ready (after_step mesh sizes number largest s frames k left ran moved)
+  ready-next : (mesh sizes : List ℕ) (number largest : ℕ) (s : Sharding) (frames : List Frame) (k left ran : ℕ) → shard_words mesh sizes s ≤ largest
+      → Ready (after_step mesh sizes number largest s frames k left ran)
   unfolding after_step
-  ready-next mesh sizes number largest s [] k left ran moved l = go (leb ran most_run)
+  ready-next mesh sizes number largest s [] k left ran l = go (leb ran most_run)
     where
-      go : (b : Bool) → Ready (◌>>◌ (need_at k b 43) (accept (outermost mesh sizes left ran moved number largest s)))
-      go true = ready-outermost mesh sizes left ran moved number largest s l
+      go : (b : Bool) → Ready (◌>>◌ (need_at k b 43) (accept (outermost mesh sizes left ran number largest s)))
+      go true = ready-outermost mesh sizes left ran number largest s l
       go false = tt
-  ready-next mesh sizes number largest s (f ∷ frames) k (suc left) ran moved l = (l, item-none (depth_in (f ∷ frames)) (length mesh) (length sizes) number [] 0 (omega arith))
-  ready-next mesh sizes number largest s (f ∷ frames) k zero ran moved l =
-      go (same_sharding s f.sharding) (leb (f.count * ran) most_run) (after_step mesh sizes number largest s frames f.number f.behind (f.ran + f.count * ran) (f.moved + f.count * moved))
-      (ready-next mesh sizes number largest s frames f.number f.behind (f.ran + f.count * ran) (f.moved + f.count * moved) l)
+  ready-next mesh sizes number largest s (f ∷ frames) k (suc left) ran l = (l, item-none (depth_in (f ∷ frames)) (length mesh) (length sizes) number [] 0 (omega arith))
+  ready-next mesh sizes number largest s (f ∷ frames) k zero ran l =
+      go (same_sharding s f.sharding) (leb (f.count * ran) most_run) (after_step mesh sizes number largest s frames f.number f.behind (f.ran + f.count * ran))
+      (ready-next mesh sizes number largest s frames f.number f.behind (f.ran + f.count * ran) l)
     where
       go : (a b : Bool) (j : Judged Phase) → Ready j → Ready (◌>>◌ (need_at f.number a 41) (◌>>◌ (need_at f.number b 43) j))
       go true true j r = r
@@ -319,11 +319,8 @@ module _ (file : List ℕ) (header_is : judge_header file ≡ accept tt) where
   ready-item mesh sizes q l (takes t) = go (judge_step mesh sizes q.number t q.sharding)
     where
       go : (j : Judged Sharding) → Ready (◌>>=◌ j (λ (s : Sharding).
-          after_step mesh sizes (q.number + 1) (max q.largest (shard_words mesh sizes s)) s q.frames q.number q.behind (q.ran + 1)
-          (q.moved + moved_from mesh sizes t q.sharding)))
-      go (accept s) =
-          ready-next mesh sizes (q.number + 1) (max q.largest (shard_words mesh sizes s)) s q.frames q.number q.behind (q.ran + 1)
-          (q.moved + moved_from mesh sizes t q.sharding) (omega arith)
+          after_step mesh sizes (q.number + 1) (max q.largest (shard_words mesh sizes s)) s q.frames q.number q.behind (q.ran + 1)))
+      go (accept s) = ready-next mesh sizes (q.number + 1) (max q.largest (shard_words mesh sizes s)) s q.frames q.number q.behind (q.ran + 1) (omega arith)
       go (refuse a k) = tt
 
   -- ---- any phase
@@ -395,7 +392,7 @@ module _ (file : List ℕ) (header_is : judge_header file ≡ accept tt) where
       (turn (item_in mesh sizes q) (λ pre part rest. item-part pre part rest (depth_in q.frames) (length mesh) (length sizes) q.number)
       (in_steps mesh sizes q) (λ m. after_item mesh sizes q) a.pre u more b n a.file-is e a.sound a.waits (λ w. w) (λ r x. ready-item mesh sizes q a.sound r.value) a.same
       (steps_on h file mesh sizes q a.sound (length a.pre)))
-  byte-in (at_end mesh sizes largest moved s) u more b n a e = record {
+  byte-in (at_end mesh sizes largest s) u more b n a e = record {
     pre = a.pre ++ (u ++ b ∷ []);
     file-is = a.file-is ∙ snoc-whole a.pre u more b ∙ sym (append_assoc a.pre (u ++ b ∷ []) more);
     sound = tt;
@@ -427,11 +424,11 @@ module _ (file : List ℕ) (header_is : judge_header file ≡ accept tt) where
   end-in (in_steps mesh sizes q) u a =
       end (item_in mesh sizes q) (λ pre part rest. item-part pre part rest (depth_in q.frames) (length mesh) (length sizes) q.number)
       (in_steps mesh sizes q) (λ m. after_item mesh sizes q) a.pre u a.file-is a.waits a.same (steps_on h file mesh sizes q a.sound (length a.pre))
-  end-in (at_end mesh sizes largest moved s) u a =
+  end-in (at_end mesh sizes largest s) u a =
       a.same ∙ rw (eq-eqb (length a.pre) (length file) (sym (ap length a.file-is ∙ whole_long a.pre u [] ∙ omega (arith, ap length a.waits)))) refl
   end-in (stopped x k) u a = a.same
 
-  check-behind : check_of file ≡ behind
+  check-behind : unpriced (check_of file) ≡ behind
   check-behind =
       check-is file ∙ ap (λ (j : Judged (Unit {0})). ◌>>◌ j (◌>>◌ (need (eqb (mesh_offset file) least_bytes) 6) (rest_of (numbers_of file) file in_mesh least_bytes))) header_is
       ∙ ap (λ (x : Header). ◌>>◌ (need (eqb x.mesh_at least_bytes) 6) (rest_of x file in_mesh least_bytes)) (sym (numbers-same file))
@@ -463,7 +460,7 @@ module _ (file : List ℕ) (few : length file ≤ most_bytes) where
 
   -- the header is judged: the rest as it comes
   walk : (e : judge_header file ≡ accept tt) → least_bytes ≤ length first → (rest : List ℕ) (n : ℕ) (w : Waiting) → n + length rest ≡ length file → AtW file e w rest
-      → end_of (pushed (knows first n w) rest) ≡ check_of file
+      → end_of (pushed (knows first n w) rest) ≡ unpriced (check_of file)
   unfolding end_of
   walk e l [] n w c a =
       let z : n ≡ length file = omega (arith, c) in
@@ -476,7 +473,7 @@ module _ (file : List ℕ) (few : length file ≤ most_bytes) where
       (omega (arith, ap length a.file-is, whole_long a.pre w.unit (b ∷ rest), length-append w.unit (b ∷ []), c)))
 
   -- the header is whole
-  header_read : (bytes rest : List ℕ) → file ≡ bytes ++ rest → length bytes ≡ least_bytes → end_of (pushed (knows bytes least_bytes (turned (after_header bytes))) rest) ≡ check_of file
+  header_read : (bytes rest : List ℕ) → file ≡ bytes ++ rest → length bytes ≡ least_bytes → end_of (pushed (knows bytes least_bytes (turned (after_header bytes))) rest) ≡ unpriced (check_of file)
   unfolding after_header
   header_read bytes rest f l = go (judge_header file) refl
     where
@@ -496,7 +493,7 @@ module _ (file : List ℕ) (few : length file ≤ most_bytes) where
       ready : (e : judge_header file ≡ accept tt) → AtW file e (turned (after_header first)) rest
       ready e =
           let j : judge_header (headed first (total_length first)) ≡ accept tt =
-          ap (λ (m : ℕ). judge_header (headed first m)) (total-same file ∙ total-is file e) ∙ header-same file ∙ e in
+          ap (λ (m : ℕ). judge_header (headed first m)) (total-same file ∙ total_is file e) ∙ header-same file ∙ e in
           let k : after_header first ≡ ◌>>◌ (need (eqb (mesh_offset first) least_bytes) 6) (accept in_mesh) =
           ap (λ (i : Judged (Unit {0})). ◌>>◌ i (◌>>◌ (need (eqb (mesh_offset first) least_bytes) 6) (accept in_mesh))) j in
           let z : least_bytes ≡ length first + 0 = omega (arith, ap length first_is) in
@@ -506,7 +503,7 @@ module _ (file : List ℕ) (few : length file ≤ most_bytes) where
           (ap (λ (n : ℕ). ◌>>◌ (need (eqb (mesh_offset first) least_bytes) 6) (rest_of (numbers_of first) file in_mesh n)) z
           ∙ sym (after-need (eqb (mesh_offset first) least_bytes) 6 (accept in_mesh) (λ p. rest_of (numbers_of first) file p (length first + 0)))))
 
-      go : (j : Judged (Unit {0})) → judge_header file ≡ j → end_of (pushed (knows bytes least_bytes (turned (after_header bytes))) rest) ≡ check_of file
+      go : (j : Judged (Unit {0})) → judge_header file ≡ j → end_of (pushed (knows bytes least_bytes (turned (after_header bytes))) rest) ≡ unpriced (check_of file)
       go (accept t) e = ap (λ (x : List ℕ). end_of (pushed (knows x least_bytes (turned (after_header x))) rest)) first_is ∙ walk e long rest least_bytes (turned (after_header first)) count (ready e)
       go (refuse a k) e =
           ap (λ (x : List ℕ). end_of (pushed (knows x least_bytes (turned (after_header x))) rest)) first_is ∙ walk_refused e long rest least_bytes (turned (after_header first)) count
@@ -516,7 +513,7 @@ module _ (file : List ℕ) (few : length file ≤ most_bytes) where
   abbrev begins : List ℕ → State
   begins bytes = record { over = false; seen = length bytes; head = bytes; unit = []; phase = in_header }
 
-  walk-header : (rest bytes : List ℕ) → file ≡ bytes ++ rest → length bytes < least_bytes → end_of (pushed (begins bytes) rest) ≡ check_of file
+  walk-header : (rest bytes : List ℕ) → file ≡ bytes ++ rest → length bytes < least_bytes → end_of (pushed (begins bytes) rest) ≡ unpriced (check_of file)
   unfolding end_of fed unit_in
   walk-header [] bytes f l =
       let z : length file ≡ length bytes = ap length (f ∙ append-nil bytes) in
@@ -533,8 +530,8 @@ module _ (file : List ℕ) (few : length file ≤ most_bytes) where
           (length (bytes ++ b ∷ [])) (bytes ++ b ∷ [])
       fed-is = rw (le-ltb most_bytes (length bytes) (omega arith), lt-ltb (length bytes) least_bytes l, n_is) refl
 
-      go : Dec (length (bytes ++ b ∷ []) < least_bytes) → (length (bytes ++ b ∷ []) < least_bytes → end_of (pushed (begins (bytes ++ b ∷ [])) rest) ≡ check_of file)
-          → end_of (pushed (begins bytes) (b ∷ rest)) ≡ check_of file
+      go : Dec (length (bytes ++ b ∷ []) < least_bytes) → (length (bytes ++ b ∷ []) < least_bytes → end_of (pushed (begins (bytes ++ b ∷ [])) rest) ≡ unpriced (check_of file))
+          → end_of (pushed (begins bytes) (b ∷ rest)) ≡ unpriced (check_of file)
       go (yes s) on =
           ap (λ (s : State). end_of (pushed s rest)) (fed-is ∙ ap (λ (t : Bool). held (tried (need t 7) (record { unit = []; phase = in_header }) (λ t. after_header (bytes ++ b ∷ [])))
           (length (bytes ++ b ∷ [])) (bytes ++ b ∷ [])) (lt-leb least_bytes (length (bytes ++ b ∷ [])) s))
@@ -561,10 +558,10 @@ walk-long (b ∷ rest) n head w l = go (dec_lt most_bytes n) (walk-long rest n h
     go (yes s) stay on = ap (λ (t : Bool). end_of (pushed (fed_if t b (held w n head)) rest)) (lt-ltb most_bytes n s) ∙ stay (omega arith)
     go (no d) stay on = ap (λ (t : Bool). end_of (pushed (fed_if t b (held w n head)) rest)) (le-ltb most_bytes n (omega (arith, d))) ∙ on (omega arith)
 
-answers : (bytes : List ℕ) → end_of (state_after bytes) ≡ check_of bytes
+answers : (bytes : List ℕ) → end_of (state_after bytes) ≡ unpriced (check_of bytes)
 answers bytes = go (dec_lt most_bytes (length bytes))
   where
-    go : Dec (most_bytes < length bytes) → end_of (state_after bytes) ≡ check_of bytes
+    go : Dec (most_bytes < length bytes) → end_of (state_after bytes) ≡ unpriced (check_of bytes)
     go (yes l) = walk-long bytes 0 [] (record { unit = []; phase = in_header }) (omega arith) ∙ sym (check-long bytes l)
     go (no d) = walk-header bytes (omega (arith, d)) bytes [] refl (omega arith)
 

@@ -19,14 +19,12 @@ use Rattle.rules.specs.Refusals.{Judged, accept, refuse, ◌>>=◌, ◌>>◌, ne
 use Rattle.rules.specs.PlanFile.{Read, u16_at, edition, axis_count, rank_count, step_count, tensor_offset, sharding_offset, steps_offset, sizes_at, carries_order, order_allowed, order_at, carries_replicated, sharding_at, step_at, judge_step}
 use Rattle.rules.specs.PlanFile.{plain, repeat, StepsRead, steps_at, plain_at, positive_at, same_sharding, is_repeat, item_at, outermost_at}
 use Rattle.rules.specs.Calls.{CheckAnswer}
-use Rattle.rules.specs.Moved.{added_on, moved_from}
 use Rattle.laws.specs.Demands.{largest_on}
 use Rattle.laws.proofs.Lists.{n_t→false, T?, length-tab, tab-cong}
 use Rattle.laws.proofs.Judging.{bind_assoc}
 use Rattle.laws.proofs.Accepted.{section-facts}
 use Rattle.laws.proofs.Steps.{facts}
 use Rattle.laws.proofs.Turns.{length-times, largest-times}
-use Rattle.laws.proofs.Moved.{added-times}
 use Rattle.laws.proofs.Repeats.{sharding-eq, steps-tell, item-tells}
 use Rattle.reader.specs.Reading.{numbers_of}
 use Rattle.reader.specs.declared.Header.{Header}
@@ -99,7 +97,7 @@ module _ (h : Header) (file : List ℕ) where
   steps_from mesh sizes s at = do
     need (eqb h.steps_at at) 6
     judge_opening h.edition mesh sizes s
-    steps_rest h.steps file mesh sizes [] (accept tt) h.steps 1 0 0 (shard_words mesh sizes s) at s
+    steps_rest h.steps file mesh sizes [] (accept tt) h.steps 1 0 (shard_words mesh sizes s) at s
 
   abbrev pub start_rest : (mesh sizes : List ℕ) → ℕ → Judged CheckAnswer
   start_rest mesh sizes at = do
@@ -145,8 +143,8 @@ module _ (h : Header) (file : List ℕ) where
   rest_of (in_table mesh) at = table_rest mesh at
   rest_of (in_the_start mesh sizes) at = start_rest mesh sizes at
   rest_of (in_steps mesh sizes q) at =
-      steps_rest h.steps file mesh sizes q.frames (accept tt) (suc q.behind) q.number q.ran q.moved q.largest at q.sharding
-  rest_of (at_end mesh sizes largest moved s) at = passes h.steps file mesh sizes largest moved at s
+      steps_rest h.steps file mesh sizes q.frames (accept tt) (suc q.behind) q.number q.ran q.largest at q.sharding
+  rest_of (at_end mesh sizes largest s) at = passes h.steps file mesh sizes largest at s
   rest_of (stopped a k) at = refuse a k
 
   -- ---- steps
@@ -155,43 +153,34 @@ module _ (h : Header) (file : List ℕ) where
     abbrev words : Sharding → ℕ
     words = shard_words mesh sizes
 
-    abbrev moves : Sharding → List Step → ℕ
-    moves = added_on (moved_from mesh sizes)
-
-    outermost-on : (left ran moved number largest at : ℕ) (s : Sharding) → words s ≤ largest
-        → rest_of (outermost mesh sizes left ran moved number largest s) at
-        ≡ outer_rest h.steps file mesh sizes left number ran moved largest at s
+    outermost-on : (left ran number largest at : ℕ) (s : Sharding) → words s ≤ largest
+        → rest_of (outermost mesh sizes left ran number largest s) at
+        ≡ outer_rest h.steps file mesh sizes left number ran largest at s
     unfolding outermost_at
-    outermost-on zero ran moved number largest at s l =
+    outermost-on zero ran number largest at s l =
         let z : largest ≡ max largest (words s) = omega (arith, l) in
-        let m : moved ≡ moved + 0 = omega arith in
-        ap₂ (λ (y x : ℕ). passes h.steps file mesh sizes y x at s) z m
-    outermost-on (suc behind) ran moved number largest at s l = refl
+        ap (λ (m : ℕ). passes h.steps file mesh sizes m at s) z
+    outermost-on (suc behind) ran number largest at s l = refl
 
     -- a step is done
-    pub step-done : (fs : List Frame) (k left ran moved number largest at : ℕ) (s : Sharding) → words s ≤ largest
-        → ◌>>=◌ (after_step mesh sizes number largest s fs k left ran moved) (λ (p : Phase). rest_of p at)
-        ≡ steps_rest h.steps file mesh sizes fs (so_far h.steps file mesh sizes k ran) left number ran moved largest at s
+    pub step-done : (fs : List Frame) (k left ran number largest at : ℕ) (s : Sharding) → words s ≤ largest
+        → ◌>>=◌ (after_step mesh sizes number largest s fs k left ran) (λ (p : Phase). rest_of p at)
+        ≡ steps_rest h.steps file mesh sizes fs (so_far h.steps file mesh sizes k ran) left number ran largest at s
     unfolding after_step steps_at
-    step-done [] k left ran moved number largest at s l = go (leb ran most_run)
+    step-done [] k left ran number largest at s l = go (leb ran most_run)
       where
-        go : (b : Bool) → ◌>>=◌ (◌>>◌ (need_at k b 43) (accept (outermost mesh sizes left ran moved number largest s))) (λ (p : Phase). rest_of p at)
-            ≡ ◌>>◌ (need_at k b 43) (outer_rest h.steps file mesh sizes left number ran moved largest at s)
-        go true = outermost-on left ran moved number largest at s l
+        go : (b : Bool) → ◌>>=◌ (◌>>◌ (need_at k b 43) (accept (outermost mesh sizes left ran number largest s))) (λ (p : Phase). rest_of p at)
+            ≡ ◌>>◌ (need_at k b 43) (outer_rest h.steps file mesh sizes left number ran largest at s)
+        go true = outermost-on left ran number largest at s l
         go false = refl
-    step-done (f ∷ fs) k (suc behind) ran moved number largest at s l = refl
-    step-done (f ∷ fs) k zero ran moved number largest at s l =
-        go (same_sharding s f.sharding) (leb (f.count * ran) most_run) (after_step mesh sizes number largest s fs f.number f.behind (f.ran + f.count * ran) (f.moved + f.count * moved))
-        (step-done fs f.number f.behind (f.ran + f.count * ran) (f.moved + f.count * moved) number largest at s l)
+    step-done (f ∷ fs) k (suc behind) ran number largest at s l = refl
+    step-done (f ∷ fs) k zero ran number largest at s l =
+        go (same_sharding s f.sharding) (leb (f.count * ran) most_run) (after_step mesh sizes number largest s fs f.number f.behind (f.ran + f.count * ran)) (step-done fs f.number f.behind (f.ran + f.count * ran) number largest at s l)
         ∙ (λ i. ◌>>◌ (need_at f.number (same_sharding s f.sharding) 41) (◌>>◌ (need_at f.number (leb (f.count * r i) most_run) 43)
-        (steps_rest h.steps file mesh sizes fs (so_far h.steps file mesh sizes f.number (f.ran + f.count * r i)) f.behind (n i) (f.ran + f.count * r i)
-        (f.moved + f.count * w i) (m i) at s)))
+        (steps_rest h.steps file mesh sizes fs (so_far h.steps file mesh sizes f.number (f.ran + f.count * r i)) f.behind (n i) (f.ran + f.count * r i) (m i) at s)))
       where
         r : ran ≡ ran + 0
         r = omega arith
-
-        w : moved ≡ moved + 0
-        w = omega arith
 
         n : number ≡ number + 0
         n = omega arith
@@ -208,7 +197,7 @@ module _ (h : Header) (file : List ℕ) where
 
     module _ (q : Standing) (counts : words q.sharding ≤ q.largest) where
       abbrev done : StepsRead → Judged CheckAnswer
-      done w = item_done h.steps file mesh sizes q.frames q.behind q.number q.ran q.moved q.largest q.sharding w
+      done w = item_done h.steps file mesh sizes q.frames q.behind q.number q.ran q.largest q.sharding w
 
       -- a plain step
       plain-on : (t : Step) (at : ℕ) → ◌>>=◌ (after_plain mesh sizes q t) (λ (p : Phase). rest_of p at)
@@ -217,13 +206,10 @@ module _ (h : Header) (file : List ℕ) where
       plain-on t at =
           bind_assoc (judge_step mesh sizes q.number t q.sharding) _ _
           ∙ bind-same (judge_step mesh sizes q.number t q.sharding) _ _ (λ s e.
-          step-done q.frames q.number q.behind (q.ran + 1) (q.moved + moved_from mesh sizes t q.sharding) (q.number + 1) (max q.largest (words s)) at s (omega arith)
-          ∙ ap₂ (λ (w m : ℕ). steps_rest h.steps file mesh sizes q.frames (so_far h.steps file mesh sizes q.number (q.ran + 1)) q.behind (q.number + 1) (q.ran + 1) w m at s)
-          one (most s (facts mesh sizes q.number t q.sharding s e).1))
+          step-done q.frames q.number q.behind (q.ran + 1) (q.number + 1) (max q.largest (words s)) at s (omega arith)
+          ∙ ap (λ (m : ℕ). steps_rest h.steps file mesh sizes q.frames (so_far h.steps file mesh sizes q.number (q.ran + 1)) q.behind (q.number + 1) (q.ran + 1) m at s)
+          (most s (facts mesh sizes q.number t q.sharding s e).1))
         where
-          one : q.moved + moved_from mesh sizes t q.sharding ≡ q.moved + (moved_from mesh sizes t q.sharding + 0)
-          one = omega arith
-
           most : (s : Sharding) → after t q.sharding ≡ s → max q.largest (words s) ≡ max q.largest (max (words q.sharding) (words (after t q.sharding)))
           most s e = ap (λ (z : Sharding). max q.largest (words z)) (sym e) ∙ omega (arith, counts)
 
@@ -239,7 +225,7 @@ module _ (h : Header) (file : List ℕ) where
           ∙ sym (bind_assoc (steps_at (item_at every_kind mesh sizes file (depth_in q.frames - 1)) a.number (q.number + 1) (at + 2) q.sharding) _ _)
         where
           frame : Frame
-          frame = record { number = q.number; count = a.count; behind = q.behind; ran = q.ran; moved = q.moved; sharding = q.sharding }
+          frame = record { number = q.number; count = a.count; behind = q.behind; ran = q.ran; sharding = q.sharding }
 
           d : depth_in (frame ∷ q.frames) ≡ depth_in q.frames - 1
           d = omega arith
@@ -249,14 +235,13 @@ module _ (h : Header) (file : List ℕ) where
 
           shut : StepsRead → Judged CheckAnswer
           shut w =
-              close_rest h.steps file mesh sizes frame q.frames (q.number + 1 + length w.records) (0 + length w.steps) (0 + moves q.sharding w.steps)
+              close_rest h.steps file mesh sizes frame q.frames (q.number + 1 + length w.records) (0 + length w.steps)
               (max q.largest (largest_on words q.sharding w.steps)) w.next w.sharding
 
-          close : (w : StepsRead) → (b : Bool) → (ran number all words largest : ℕ) → Judged CheckAnswer
-          close w b ran number all words largest =
+          close : (w : StepsRead) → (b : Bool) → (ran number all largest : ℕ) → Judged CheckAnswer
+          close w b ran number all largest =
               ◌>>◌ (need_at q.number b 41) (◌>>◌ (need_at q.number (leb (a.count * ran) most_run) 43)
-              (steps_rest h.steps file mesh sizes q.frames (so_far h.steps file mesh sizes q.number (q.ran + all)) q.behind number (q.ran + all)
-              (q.moved + words) largest w.next w.sharding))
+              (steps_rest h.steps file mesh sizes q.frames (so_far h.steps file mesh sizes q.number (q.ran + all)) q.behind number (q.ran + all) largest w.next w.sharding))
 
           rounds : StepsRead → StepsRead
           rounds w = record {
@@ -281,12 +266,9 @@ module _ (h : Header) (file : List ℕ) where
               let k : q.number + 1 + length w.records ≡ q.number + suc (length w.records) = omega arith in
               let l : a.count * (0 + length w.steps) ≡ length (flat (replicate a.count w.steps)) =
               ap (λ (x : ℕ). a.count * x) r ∙ sym (length-times a.count w.steps) in
-              let z : 0 + moves q.sharding w.steps ≡ moves q.sharding w.steps = omega arith in
-              let v : a.count * (0 + moves q.sharding w.steps) ≡ moves q.sharding (flat (replicate a.count w.steps)) =
-              ap (λ (x : ℕ). a.count * x) z ∙ sym (added-times (moved_from mesh sizes) a.count w.steps q.sharding back) in
               let g : max q.largest (largest_on words q.sharding w.steps) ≡ max q.largest (largest_on words q.sharding (flat (replicate a.count w.steps))) =
               ap (max q.largest) (sym (largest-times words a.count w.steps q.sharding c back)) in
-              (λ i. close w (same_sharding w.sharding q.sharding) (r i) (k i) (l i) (v i) (g i))
+              (λ i. close w (same_sharding w.sharding q.sharding) (r i) (k i) (l i) (g i))
               ∙ sym (flatten w (same_sharding w.sharding q.sharding) (leb (a.count * length w.steps) most_run))
           go w e (inr t) =
               let f : same_sharding w.sharding q.sharding ≡ false = n_t→false (same_sharding w.sharding q.sharding) (T_not (same_sharding w.sharding q.sharding) t) in
@@ -299,7 +281,7 @@ module _ (h : Header) (file : List ℕ) where
       pub steps_on : (at : ℕ) → rest_of (in_steps mesh sizes q) at
           ≡ ◌>>=◌ (item_read (depth_in q.frames) (length mesh) (length sizes) q.number file at) onward
       unfolding plain_at
-      steps_on at = first h.steps file mesh sizes q.frames q.behind q.number q.ran q.moved q.largest at q.sharding ∙ go (is_repeat file at) refl
+      steps_on at = first h.steps file mesh sizes q.frames q.behind q.number q.ran q.largest at q.sharding ∙ go (is_repeat file at) refl
         where
           item : Judged StepsRead
           item = item_at every_kind mesh sizes file (depth_in q.frames) q.number at q.sharding
@@ -356,9 +338,9 @@ module _ (head file : List ℕ) where
       ∙ ap (◌>>◌ (need (eqb (steps_offset head) r.next) 6)) (go r.value r.next (judge_opening (edition head) mesh sizes r.value))))
     where
       go : (s : Sharding) (end : ℕ) (j : Judged (Unit {0}))
-          → ◌>>=◌ (◌>>◌ j (accept (outermost mesh sizes (step_count head) 0 0 1 (shard_words mesh sizes s) s))) (rest end)
-          ≡ ◌>>◌ j (outer_rest (step_count head) file mesh sizes (step_count head) 1 0 0 (shard_words mesh sizes s) end s)
-      go s end (accept t) = outermost-on h file mesh sizes (step_count head) 0 0 1 (shard_words mesh sizes s) end s (omega arith)
+          → ◌>>=◌ (◌>>◌ j (accept (outermost mesh sizes (step_count head) 0 1 (shard_words mesh sizes s) s))) (rest end)
+          ≡ ◌>>◌ j (outer_rest (step_count head) file mesh sizes (step_count head) 1 0 (shard_words mesh sizes s) end s)
+      go s end (accept t) = outermost-on h file mesh sizes (step_count head) 0 1 (shard_words mesh sizes s) end s (omega arith)
       go s end (refuse a k) = refl
 
   -- THE SIZES OF THE TABLE, AND THE REST

@@ -1,12 +1,10 @@
--- EVERY STATE FROM THE OPENING CALL IS SOUND (`always-sound`); what is asked of a phase, with all bytes but the unit's before it (`phase-sound`). Assumes
--- nothing.
+-- EVERY STATE FROM THE OPENING CALL IS SOUND (`always-sound`). Assumes nothing.
 use Prim.Native.Nat.{ℕ, zero, suc, ◌+◌, ◌-◌, ◌*◌, ◌≤◌, ◌<◌, max}
 use mathlib.Core.Path.{◌≡◌, refl, sym, ap, ◌∙◌, subst}
 use mathlib.Core.Bool.{Bool, true, false, not, ◌&&◌}
 use mathlib.Core.List.{List, [], ◌∷◌, ◌++◌}
 use native.Mathlib.Omega.{arith}
 use native.Mathlib.Decide.{dec_lt, ℕ_discrete}
-use native.Mathlib.Nat.{mul_assoc, mul-le-mul_left}
 use borrow.Author.Tests.{lt-ltb, le-ltb, le-leb, lt-leb, eq-eqb, ne_eqb}
 use lib.ListN.{length, length-set, length-append, length-replicate}
 use lib.Dec.{T, ltb, leb, eqb, ltb→lt, leb→le, lit≤, lit<}
@@ -16,12 +14,10 @@ use Rattle.rules.specs.Limits.{most_devices, most_words, most_run, most_depth, l
 use Rattle.rules.specs.Sharding.{Sharding, IsSharding}
 use Rattle.rules.specs.Collectives.{Step}
 use Rattle.rules.specs.Refusals.{Judged, accept, refuse, ◌>>=◌, ◌>>◌, need, need_at}
-use Rattle.rules.specs.Moved.{moved_from, most_moved}
 use Rattle.rules.specs.PlanFile.{u16_at, edition, axis_count, rank_count, step_count, mesh_offset, tensor_offset, sharding_offset, steps_offset, total_length}
 use Rattle.rules.specs.PlanFile.{judge_header, sizes_at, carries_order, carries_replicated, sharding_at, judge_start, step_at, judge_step, same_sharding, is_repeat}
 use Rattle.laws.proofs.Judging.{never}
 use Rattle.laws.proofs.Steps.{facts, after-sharding}
-use Rattle.laws.proofs.Moved.{step-charged}
 use Rattle.laws.proofs.Accepted.{SizesFacts, section-facts, start-sharding}
 use Rattle.laws.proofs.Room.{shard-words}
 use Rattle.opening.specs.Opening.{judge_opening}
@@ -80,13 +76,7 @@ After head seen (refuse a k) = Unit {0}
 
 pub framed-more : (m n : ℕ) (frames : List Frame) → m ≤ n → Framed m frames → Framed n frames
 framed-more m n [] l f = tt
-framed-more m n (g ∷ frames) l f = (omega (arith, f.0), f.1, f.2, f.3)
-
--- so many rounds of a block, added to what the list around it has, move no more than each of their plain steps may
-pub rounds-few : (count ran moved before with : ℕ) → moved ≤ ran * most_moved → with ≤ before * most_moved → with + count * moved ≤ (before + count * ran) * most_moved
-rounds-few count ran moved before with m w =
-    let all : count * moved ≤ count * (ran * most_moved) = mul-le-mul_left count m in
-    omega (arith, all, w, mul_assoc count ran most_moved)
+framed-more m n (g ∷ frames) l f = (omega (arith, f.0), f.1, f.2)
 
 -- the header is whole
 abbrev Past : Phase → Type 0
@@ -96,7 +86,7 @@ Past (in_the_order mesh t) = Unit {0}
 Past (in_table mesh) = Unit {0}
 Past (in_the_start mesh sizes) = Unit {0}
 Past (in_steps mesh sizes q) = Unit {0}
-Past (at_end mesh sizes largest moved s) = Unit {0}
+Past (at_end mesh sizes largest s) = Unit {0}
 Past (stopped a k) = Unit {0}
 
 -- a phase and the bytes of its unit, of which the last is the newest
@@ -105,25 +95,6 @@ record Held (head : List ℕ) (seen : ℕ) (w : Waiting) : Type 0 where
   short : length w.unit < most_unit
   bytes : before + length w.unit ≤ seen
   phase : SoundIn head before w.phase
-
--- a table of a mesh that is within its limits
-pub tabled : (head mesh sizes : List ℕ) → Meshed head mesh → length sizes ≡ rank_count head → SizesFacts most_words 1 sizes → Tabled head mesh sizes
-tabled head mesh sizes m l f = record {
-  meshed = m;
-  many = l;
-  within = record {
-    axes_some = omega (arith, m.many, m.known.axes_some);
-    axes_few = omega (arith, m.many, m.known.axes_few);
-    sizes_pos = m.sizes.each_pos;
-    sizes_few = m.sizes.each_few;
-    devices_pos = omega (arith, m.sizes.pos);
-    devices_few = omega (arith, m.sizes.few);
-    rank_some = omega (arith, l, m.known.rank_some);
-    rank_few = omega (arith, l, m.known.rank_few);
-    words_pos = omega (arith, f.pos);
-    words_few = omega (arith, f.few);
-  };
-}
 
 module _ (head : List ℕ) (seen : ℕ) where
   turned-held : (j : Judged Phase) → After head seen j → Held head seen (turned j)
@@ -178,45 +149,42 @@ module _ (head : List ℕ) (seen : ℕ) where
       go false = tt
 
   module _ (mesh sizes : List ℕ) (t : Tabled head mesh sizes) where
-    after-outermost : (left ran moved number largest : ℕ) (s : Sharding) → Sharded mesh sizes largest s → number ≤ seen → ran ≤ number * most_run → moved ≤ ran * most_moved
-        → SoundIn head seen (outermost mesh sizes left ran moved number largest s)
-    after-outermost zero ran moved number largest s h n r m = (t, h)
-    after-outermost (suc behind) ran moved number largest s h n r m =
-        (t, record { sharded = h; deep = omega arith; number_few = n; ran_few = r; moved_few = m; framed = tt })
+    after-outermost : (left ran number largest : ℕ) (s : Sharding) → Sharded mesh sizes largest s → number ≤ seen → ran ≤ number * most_run
+        → SoundIn head seen (outermost mesh sizes left ran number largest s)
+    after-outermost zero ran number largest s h n r = (t, h)
+    after-outermost (suc behind) ran number largest s h n r = (t, record { sharded = h; deep = omega arith; number_few = n; ran_few = r; framed = tt })
 
     after-steps : (s : Sharding) → 1 ≤ seen → After head seen (after_start head seen mesh sizes s)
     unfolding after_start judge_opening
     after-steps s l = go (eqb (steps_offset head) seen) (judge_start mesh sizes s) refl _
       where
         go : (b : Bool) (j : Judged (Unit {0})) → judge_start mesh sizes s ≡ j → (c : Judged (Unit {0}))
-            → After head seen (◌>>◌ (need b 6) (◌>>◌ (◌>>◌ j c) (accept (outermost mesh sizes (step_count head) 0 0 1 (shard_words mesh sizes s) s))))
+            → After head seen (◌>>◌ (need b 6) (◌>>◌ (◌>>◌ j c) (accept (outermost mesh sizes (step_count head) 0 1 (shard_words mesh sizes s) s))))
         go false j e c = tt
         go true (refuse a k) e c = tt
         go true (accept u) e (refuse a k) = tt
         go true (accept u) e (accept v) =
             let i : IsSharding mesh sizes s = start-sharding mesh sizes s e in
-            after-outermost (step_count head) 0 0 1 (shard_words mesh sizes s) s
-            (record { is = i; counted = omega arith; few = (shard-words mesh sizes t.within s i).words_few }) l (omega arith) (omega arith)
+            after-outermost (step_count head) 0 1 (shard_words mesh sizes s) s
+            (record { is = i; counted = omega arith; few = (shard-words mesh sizes t.within s i).words_few }) l (omega arith)
 
-    after_next : (number largest : ℕ) (s : Sharding) (frames : List Frame) (k left ran moved : ℕ) → Sharded mesh sizes largest s → number ≤ seen → length frames ≤ most_depth
-        → ran ≤ number * most_run → moved ≤ ran * most_moved → Framed number frames → After head seen (after_step mesh sizes number largest s frames k left ran moved)
+    after_next : (number largest : ℕ) (s : Sharding) (frames : List Frame) (k left ran : ℕ) → Sharded mesh sizes largest s → number ≤ seen → length frames ≤ most_depth
+        → ran ≤ number * most_run → Framed number frames → After head seen (after_step mesh sizes number largest s frames k left ran)
     unfolding after_step
-    after_next number largest s [] k left ran moved h n d r m f = go (leb ran most_run)
+    after_next number largest s [] k left ran h n d r f = go (leb ran most_run)
       where
-        go : (b : Bool) → After head seen (◌>>◌ (need_at k b 43) (accept (outermost mesh sizes left ran moved number largest s)))
-        go true = after-outermost left ran moved number largest s h n r m
+        go : (b : Bool) → After head seen (◌>>◌ (need_at k b 43) (accept (outermost mesh sizes left ran number largest s)))
+        go true = after-outermost left ran number largest s h n r
         go false = tt
-    after_next number largest s (f ∷ frames) k (suc behind) ran moved h n d r m g =
-        (t, record { sharded = h; deep = d; number_few = n; ran_few = r; moved_few = m; framed = g })
-    after_next number largest s (f ∷ frames) k zero ran moved h n d r m g =
-        go (same_sharding s f.sharding) (leb (f.count * ran) most_run) refl (λ few.
-        after_next number largest s frames f.number f.behind (f.ran + f.count * ran) (f.moved + f.count * moved) h n (omega arith) (omega (arith, few, g.0, g.1))
-        (rounds-few f.count ran moved f.ran f.moved m g.2) (framed-more f.number number frames (omega (arith, g.0)) g.3))
+    after_next number largest s (f ∷ frames) k (suc behind) ran h n d r g = (t, record { sharded = h; deep = d; number_few = n; ran_few = r; framed = g })
+    after_next number largest s (f ∷ frames) k zero ran h n d r g =
+        go (same_sharding s f.sharding) (leb (f.count * ran) most_run) refl
+        (λ few. after_next number largest s frames f.number f.behind (f.ran + f.count * ran) h n (omega arith) (omega (arith, few, g.0, g.1)) (framed-more f.number number frames (omega (arith, g.0)) g.2))
       where
         go : (a b : Bool) → leb (f.count * ran) most_run ≡ b
-            → (f.count * ran ≤ most_run → After head seen (after_step mesh sizes number largest s frames f.number f.behind (f.ran + f.count * ran) (f.moved + f.count * moved)))
+            → (f.count * ran ≤ most_run → After head seen (after_step mesh sizes number largest s frames f.number f.behind (f.ran + f.count * ran)))
             → After head seen (◌>>◌ (need_at f.number a 41) (◌>>◌ (need_at f.number b 43)
-            (after_step mesh sizes number largest s frames f.number f.behind (f.ran + f.count * ran) (f.moved + f.count * moved))))
+            (after_step mesh sizes number largest s frames f.number f.behind (f.ran + f.count * ran))))
         go false b e on = tt
         go true false e on = tt
         go true true e on = on (leb→le (f.count * ran) most_run (subst T (sym e) tt))
@@ -227,18 +195,15 @@ module _ (head : List ℕ) (seen : ℕ) where
       after-plain x = go (judge_step mesh sizes q.number x q.sharding) refl
         where
           go : (j : Judged Sharding) → judge_step mesh sizes q.number x q.sharding ≡ j → After head seen (◌>>=◌ j (λ (s : Sharding).
-              after_step mesh sizes (q.number + 1) (max q.largest (shard_words mesh sizes s)) s q.frames q.number q.behind (q.ran + 1)
-              (q.moved + moved_from mesh sizes x q.sharding)))
+              after_step mesh sizes (q.number + 1) (max q.largest (shard_words mesh sizes s)) s q.frames q.number q.behind (q.ran + 1)))
           go (refuse a k) e = tt
           go (accept s) e =
               let f = facts mesh sizes q.number x q.sharding s e in
               let i : IsSharding mesh sizes s =
               subst (IsSharding mesh sizes) f.1 (after-sharding mesh sizes t.within.sizes_pos x q.sharding g.sharded.is f.0) in
-              let c = step-charged mesh sizes t.within x q.sharding g.sharded.is f.0 in
               after_next (q.number + 1) (max q.largest (shard_words mesh sizes s)) s q.frames q.number q.behind (q.ran + 1)
-              (q.moved + moved_from mesh sizes x q.sharding)
               (record { is = i; counted = omega arith; few = omega (arith, g.sharded.few, (shard-words mesh sizes t.within s i).words_few) })
-              (omega (arith, g.number_few)) g.deep (omega (arith, g.ran_few)) (omega (arith, g.moved_few, c.most)) (framed-more q.number (q.number + 1) q.frames (omega arith) g.framed)
+              (omega (arith, g.number_few)) g.deep (omega (arith, g.ran_few)) (framed-more q.number (q.number + 1) q.frames (omega arith) g.framed)
 
       after-head : (a : Head) → length q.frames < most_depth → After head seen (after_head mesh sizes q a)
       after-head a d = (
@@ -248,8 +213,7 @@ module _ (head : List ℕ) (seen : ℕ) where
           deep = omega (arith, d);
           number_few = omega (arith, g.number_few);
           ran_few = omega arith;
-          moved_few = omega arith;
-          framed = (omega arith, g.ran_few, g.moved_few, g.framed);
+          framed = (omega arith, g.ran_few, g.framed);
         },
       )
 
@@ -263,6 +227,24 @@ module _ (head : List ℕ) (seen : ℕ) where
       go (no d) =
           let a : number_in u ≡ accept (u16_at u 0) = simp (le-leb 2 (length u) (omega (arith, d))) in
           absurd (never (sym (sym a ∙ e)))
+
+  tabled : (mesh sizes : List ℕ) → Meshed head mesh → length sizes ≡ rank_count head → SizesFacts most_words 1 sizes → Tabled head mesh sizes
+  tabled mesh sizes m l f = record {
+    meshed = m;
+    many = l;
+    within = record {
+      axes_some = omega (arith, m.many, m.known.axes_some);
+      axes_few = omega (arith, m.many, m.known.axes_few);
+      sizes_pos = m.sizes.each_pos;
+      sizes_few = m.sizes.each_few;
+      devices_pos = omega (arith, m.sizes.pos);
+      devices_few = omega (arith, m.sizes.few);
+      rank_some = omega (arith, l, m.known.rank_some);
+      rank_few = omega (arith, l, m.known.rank_few);
+      words_pos = omega (arith, f.pos);
+      words_few = omega (arith, f.few);
+    };
+  }
 
   -- the unit with its newest byte, which is not whole
   waits : (p : Phase) (u : List ℕ) (before : ℕ) → length u < most_unit → before + length u ≤ seen → SoundIn head before p → Held head seen (record { unit = u; phase = p })
@@ -278,7 +260,7 @@ module _ (head : List ℕ) (seen : ℕ) where
       tried-held (number_in u) _ _ (λ x e. waits (in_the_order mesh t) u before (number_short u e) b h) (λ a e. after-number mesh t a h.0 h.2)
   unit-held (in_table mesh) u before s b h n =
       tried-held (sizes_at most_words 12 13 (rank_count head) 0 u 0) _ _ (λ x e. waits (in_table mesh) u before (sizes-short most_words 12 13 (rank_count head) u (omega (arith, h.known.rank_few)) (λ q. omega (arith, q)) (λ q. omega (arith, q)) e) b h)
-      (λ r e. let f = section-facts most_words 12 13 (rank_count head) 0 u 0 r (lit≤ tt) e in after-start mesh r.value (tabled head mesh r.value h f.many f.sizes))
+      (λ r e. let f = section-facts most_words 12 13 (rank_count head) 0 u 0 r (lit≤ tt) e in after-start mesh r.value (tabled mesh r.value h f.many f.sizes))
   unit-held (in_the_start mesh sizes) u before s b h n =
       tried-held (sharding_at (carries_replicated (edition head)) (axis_count head) (rank_count head) 0 u 0) _ _
       (λ x e. waits (in_the_start mesh sizes) u before (sharding-short (carries_replicated (edition head)) (axis_count head) (rank_count head) u h.meshed.known.axes_few h.meshed.known.rank_few e) b h)
@@ -293,7 +275,7 @@ module _ (head : List ℕ) (seen : ℕ) where
           tried-held (step_at (length mesh) (length sizes) q.number u 0) _ _
           (λ x e. waits (in_steps mesh sizes q) u before (step-short (length mesh) (length sizes) q.number u h.0.within.axes_few h.0.within.rank_few e) b h)
           (λ r e. after-plain mesh sizes h.0 q before h.1 (omega arith) r.value)
-  unit-held (at_end mesh sizes largest moved x) u before s b h n = record { before = seen; short = lit< tt; bytes = omega arith; phase = tt }
+  unit-held (at_end mesh sizes largest x) u before s b h n = record { before = seen; short = lit< tt; bytes = omega arith; phase = tt }
   unit-held (stopped a k) u before s b h n = record { before = seen; short = lit< tt; bytes = omega arith; phase = tt }
 
 -- ---- the state
@@ -360,7 +342,7 @@ module _ (unit : List ℕ) (seen before b : ℕ) (few : seen ≤ most_bytes) (by
   sound-next head (in_table mesh) l h = sound-known head (in_table mesh) h.known.long h tt
   sound-next head (in_the_start mesh sizes) l h = sound-known head (in_the_start mesh sizes) h.meshed.known.long h tt
   sound-next head (in_steps mesh sizes q) l h = sound-known head (in_steps mesh sizes q) h.0.meshed.known.long h tt
-  sound-next head (at_end mesh sizes largest moved s) l h = sound-known head (at_end mesh sizes largest moved s) h.0.meshed.known.long h tt
+  sound-next head (at_end mesh sizes largest s) l h = sound-known head (at_end mesh sizes largest s) h.0.meshed.known.long h tt
   sound-next head (stopped a k) l h = sound-past (head_from head b) (stopped a k) (head_in head l) tt tt
 
 -- A BYTE KEEPS A STATE SOUND, whether it came from the opening call or not
@@ -377,33 +359,6 @@ sound-fed b s h = go s.over refl (dec_lt most_bytes s.seen)
 pub sound-pushed : (piece : List ℕ) (s : State) → Sound s → Sound (pushed s piece)
 sound-pushed [] s h = h
 sound-pushed (b ∷ piece) s h = sound-pushed piece (fed b s) (sound-fed b s h)
-
--- ---- what stands before the unit
-
--- the more bytes stand before it, the more kind bytes may
-in-more : (head : List ℕ) (m n : ℕ) (p : Phase) → m ≤ n → SoundIn head m p → SoundIn head n p
-in-more head m n in_header l h = h
-in-more head m n in_mesh l h = h
-in-more head m n (in_the_order mesh t) l h = h
-in-more head m n (in_table mesh) l h = h
-in-more head m n (in_the_start mesh sizes) l h = h
-in-more head m n (in_steps mesh sizes q) l h = (
-  h.0,
-  record {
-    sharded = h.1.sharded;
-    deep = h.1.deep;
-    number_few = omega (arith, h.1.number_few);
-    ran_few = h.1.ran_few;
-    moved_few = h.1.moved_few;
-    framed = h.1.framed;
-  },
-)
-in-more head m n (at_end mesh sizes largest moved s) l h = h
-in-more head m n (stopped a k) l h = h
-
--- all bytes but the unit's stand before it
-pub phase-sound : (s : State) → Sound s → SoundIn s.head (s.seen - length s.unit) s.phase
-phase-sound s h = in-more s.head h.before (s.seen - length s.unit) s.phase (omega (arith, h.bytes)) h.phase
 
 -- EVERY STATE FROM THE OPENING CALL IS SOUND
 pub always-sound : AlwaysSound

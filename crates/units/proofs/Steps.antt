@@ -2,7 +2,7 @@
 -- The first of them (`first`), the end of one (`step-done`), the head of a block (`block-open`): so the steps go on as the state does (`steps_on`).
 -- Assumes nothing.
 use Prim.Native.Nat.{ℕ, suc, ◌+◌, ◌-◌, ◌*◌, max}
-use mathlib.Core.Path.{◌≡◌, refl, ap, ◌∙◌}
+use mathlib.Core.Path.{◌≡◌, refl, ap, ap₂, ◌∙◌}
 use mathlib.Core.Bool.{Bool, true, false}
 use mathlib.Core.List.{List, [], ◌∷◌, ◌++◌}
 use native.Mathlib.Omega.{arith}
@@ -16,12 +16,10 @@ use Rattle.rules.specs.Collectives.{Step, after}
 use Rattle.rules.specs.Refusals.{Judged, accept, refuse, ◌>>=◌, ◌>>◌, need, need_at}
 use Rattle.rules.specs.PlanFile.{StepsRead, steps_at, same_sharding, item_at, Outermost, outermost_at}
 use Rattle.rules.specs.Calls.{CheckAnswer}
-use Rattle.rules.specs.Moved.{added_on, moved_from}
 use Rattle.laws.specs.Demands.{largest_on}
 use Rattle.laws.proofs.Lists.{in-turn-append}
 use Rattle.laws.proofs.Judging.{bind_assoc}
 use Rattle.laws.proofs.Turns.{largest-append}
-use Rattle.laws.proofs.Moved.{added-append}
 use Rattle.laws.proofs.Repeats.{item-tells}
 use Rattle.blocks.specs.Blocks.{shard_words}
 use Rattle.units.specs.Units.{Frame, depth_in}
@@ -33,8 +31,8 @@ bind-same (refuse n k) f g h = refl
 
 module _ (count : ℕ) (file mesh sizes : List ℕ) where
   -- "After the last step 9.": what is answered then
-  abbrev pub passes : (largest moved at : ℕ) → Sharding → Judged CheckAnswer
-  passes largest moved at s = do
+  abbrev pub passes : (largest at : ℕ) → Sharding → Judged CheckAnswer
+  passes largest at s = do
     need (eqb at (length file)) 9
     accept (record {
       room = devices mesh * largest;
@@ -43,49 +41,45 @@ module _ (count : ℕ) (file mesh sizes : List ℕ) where
       rank = length sizes;
       sharding = s;
       shard = shard_sizes mesh sizes s.dims;
-      moved = moved;
+      moved = 0;
     })
 
   abbrev words : Sharding → ℕ
   words = shard_words mesh sizes
 
-  abbrev moves : Sharding → List Step → ℕ
-  moves = added_on (moved_from mesh sizes)
-
   -- so many outermost steps are left
-  abbrev pub outer_rest : (left number ran moved largest at : ℕ) → Sharding → Judged CheckAnswer
-  outer_rest left number ran moved largest at s = do
+  abbrev pub outer_rest : (left number ran largest at : ℕ) → Sharding → Judged CheckAnswer
+  outer_rest left number ran largest at s = do
     ts ← outermost_at every_kind mesh sizes file ran left number at s
-    passes (max largest (largest_on words s ts.steps)) (moved + moves s ts.steps) ts.next (in_turn after ts.steps s)
+    passes (max largest (largest_on words s ts.steps)) ts.next (in_turn after ts.steps s)
 
   -- so many of the innermost list, whose repeats are open; `tested` is the test of the plan so far, where the list is the outermost one
-  abbrev pub steps_rest : List Frame → (tested : Judged (Unit {0})) → (left number ran moved largest at : ℕ) → Sharding → Judged CheckAnswer
-  steps_rest [] tested left number ran moved largest at s = ◌>>◌ tested (outer_rest left number ran moved largest at s)
-  steps_rest (f ∷ fs) tested left number ran moved largest at s = do
+  abbrev pub steps_rest : List Frame → (tested : Judged (Unit {0})) → (left number ran largest at : ℕ) → Sharding → Judged CheckAnswer
+  steps_rest [] tested left number ran largest at s = ◌>>◌ tested (outer_rest left number ran largest at s)
+  steps_rest (f ∷ fs) tested left number ran largest at s = do
     w ← steps_at (item_at every_kind mesh sizes file (depth_in (f ∷ fs))) left number at s
     need_at f.number (same_sharding w.sharding f.sharding) 41
     need_at f.number (leb (f.count * (ran + length w.steps)) most_run) 43
     steps_rest fs (need_at f.number (leb (f.ran + f.count * (ran + length w.steps)) most_run) 43) f.behind (number + length w.records)
-        (f.ran + f.count * (ran + length w.steps)) (f.moved + f.count * (moved + moves s w.steps)) (max largest (largest_on words s w.steps))
-        w.next w.sharding
+        (f.ran + f.count * (ran + length w.steps)) (max largest (largest_on words s w.steps)) w.next w.sharding
 
   -- the test of the plan so far, after the step with number k
   abbrev pub so_far : (k ran : ℕ) → Judged (Unit {0})
   so_far k ran = need_at k (leb ran most_run) 43
 
   -- the block of f is read, and all around it is left
-  abbrev pub close_rest : Frame → List Frame → (number ran moved largest at : ℕ) → Sharding → Judged CheckAnswer
-  close_rest f fs number ran moved largest at s = do
+  abbrev pub close_rest : Frame → List Frame → (number ran largest at : ℕ) → Sharding → Judged CheckAnswer
+  close_rest f fs number ran largest at s = do
     need_at f.number (same_sharding s f.sharding) 41
     need_at f.number (leb (f.count * ran) most_run) 43
-    steps_rest fs (so_far f.number (f.ran + f.count * ran)) f.behind number (f.ran + f.count * ran) (f.moved + f.count * moved) largest at s
+    steps_rest fs (so_far f.number (f.ran + f.count * ran)) f.behind number (f.ran + f.count * ran) largest at s
 
   -- ---- the first of the steps that are left
 
   -- an item is read and judged: all behind it is left
-  abbrev pub item_done : List Frame → (behind number ran moved largest : ℕ) → Sharding → StepsRead → Judged CheckAnswer
-  item_done fs behind number ran moved largest s w =
-      steps_rest fs (so_far number (ran + length w.steps)) behind (number + length w.records) (ran + length w.steps) (moved + moves s w.steps)
+  abbrev pub item_done : List Frame → (behind number ran largest : ℕ) → Sharding → StepsRead → Judged CheckAnswer
+  item_done fs behind number ran largest s w =
+      steps_rest fs (so_far number (ran + length w.steps)) behind (number + length w.records) (ran + length w.steps)
       (max largest (largest_on words s w.steps)) w.next w.sharding
 
   -- two lists of steps one after the other
@@ -94,17 +88,11 @@ module _ (count : ℕ) (file mesh sizes : List ℕ) where
   largest-on largest s t l m e =
       ap (max largest) (largest-append words l m s ∙ ap (λ (z : Sharding). max (largest_on words s l) (largest_on words z m)) e) ∙ omega arith
 
-  moved_on : (moved : ℕ) (s t : Sharding) (l m : List Step) → in_turn after l s ≡ t → moved + moves s (l ++ m) ≡ moved + moves s l + moves t m
-  moved_on moved s t l m e =
-      let a : moves s (l ++ m) ≡ moves s l + moves t m =
-      added-append (moved_from mesh sizes) l m s ∙ ap (λ (z : Sharding). moves s l + moves z m) e in
-      omega (arith, a)
-
-  pub first : (fs : List Frame) (behind number ran moved largest at : ℕ) (s : Sharding)
-      → steps_rest fs (accept tt) (suc behind) number ran moved largest at s
-      ≡ ◌>>=◌ (item_at every_kind mesh sizes file (depth_in fs) number at s) (item_done fs behind number ran moved largest s)
+  pub first : (fs : List Frame) (behind number ran largest at : ℕ) (s : Sharding)
+      → steps_rest fs (accept tt) (suc behind) number ran largest at s
+      ≡ ◌>>=◌ (item_at every_kind mesh sizes file (depth_in fs) number at s) (item_done fs behind number ran largest s)
   unfolding outermost_at steps_at
-  first [] behind number ran moved largest at s =
+  first [] behind number ran largest at s =
       bind_assoc (item_at every_kind mesh sizes file most_depth number at s) _ _
       ∙ bind-same (item_at every_kind mesh sizes file most_depth number at s) _ _ (λ w e.
       go w (leb (ran + length w.steps) most_run) (item-tells mesh sizes file every_kind most_depth number at s w e).ends
@@ -116,18 +104,14 @@ module _ (count : ℕ) (file mesh sizes : List ℕ) where
             steps = w.steps ++ ts.steps;
             runs = length w.steps ∷ ts.runs;
             next = ts.next;
-          })))) (λ (ts : Outermost). passes (max largest (largest_on words s ts.steps)) (moved + moves s ts.steps) ts.next (in_turn after ts.steps s))
+          })))) (λ (ts : Outermost). passes (max largest (largest_on words s ts.steps)) ts.next (in_turn after ts.steps s))
           ≡ ◌>>◌ (need_at number b 43) (◌>>=◌ j (λ (ts : Outermost).
-          passes (max (max largest (largest_on words s w.steps)) (largest_on words w.sharding ts.steps))
-          (moved + moves s w.steps + moves w.sharding ts.steps) ts.next (in_turn after ts.steps w.sharding)))
+          passes (max (max largest (largest_on words s w.steps)) (largest_on words w.sharding ts.steps)) ts.next (in_turn after ts.steps w.sharding)))
       go w false e j = refl
       go w true e (refuse a k) = refl
-      go w true e (accept ts) =
-          let l = largest-on largest s w.sharding w.steps ts.steps e in
-          let m = moved_on moved s w.sharding w.steps ts.steps e in
-          let t = in-turn-append after w.steps ts.steps s ∙ ap (in_turn after ts.steps) e in
-          λ i. passes (l i) (m i) ts.next (t i)
-  first (f ∷ fs) behind number ran moved largest at s =
+      go w true e (accept ts) = ap₂ (λ (l : ℕ) (t : Sharding). passes l ts.next t) (largest-on largest s w.sharding w.steps ts.steps e)
+          (in-turn-append after w.steps ts.steps s ∙ ap (in_turn after ts.steps) e)
+  first (f ∷ fs) behind number ran largest at s =
       bind_assoc (item_at every_kind mesh sizes file (depth_in (f ∷ fs)) number at s) _ _
       ∙ bind-same (item_at every_kind mesh sizes file (depth_in (f ∷ fs)) number at s) _ _ (λ w e.
       go w (item-tells mesh sizes file every_kind (depth_in (f ∷ fs)) number at s w e).ends
@@ -139,14 +123,12 @@ module _ (count : ℕ) (file mesh sizes : List ℕ) where
             steps = w.steps ++ ts.steps;
             sharding = ts.sharding;
             next = ts.next;
-          }))) (λ (v : StepsRead). close_rest f fs (number + length v.records) (ran + length v.steps) (moved + moves s v.steps)
-          (max largest (largest_on words s v.steps)) v.next v.sharding)
+          }))) (λ (v : StepsRead). close_rest f fs (number + length v.records) (ran + length v.steps) (max largest (largest_on words s v.steps)) v.next v.sharding)
           ≡ ◌>>=◌ j (λ (ts : StepsRead). close_rest f fs (number + length w.records + length ts.records) (ran + length w.steps + length ts.steps)
-          (moved + moves s w.steps + moves w.sharding ts.steps) (max (max largest (largest_on words s w.steps)) (largest_on words w.sharding ts.steps)) ts.next ts.sharding)
+          (max (max largest (largest_on words s w.steps)) (largest_on words w.sharding ts.steps)) ts.next ts.sharding)
       go w e (refuse a k) = refl
       go w e (accept ts) =
           let n : number + length (w.records ++ ts.records) ≡ number + length w.records + length ts.records = omega (arith, length-append w.records ts.records) in
           let r : ran + length (w.steps ++ ts.steps) ≡ ran + length w.steps + length ts.steps = omega (arith, length-append w.steps ts.steps) in
           let l = largest-on largest s w.sharding w.steps ts.steps e in
-          let m = moved_on moved s w.sharding w.steps ts.steps e in
-          λ i. close_rest f fs (n i) (r i) (m i) (l i) ts.next ts.sharding
+          λ i. close_rest f fs (n i) (r i) (l i) ts.next ts.sharding

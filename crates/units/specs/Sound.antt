@@ -4,7 +4,6 @@
 use Rattle.std.specs.Prelude.{ℕ, ◌+◌, ◌*◌, ◌≤◌, ◌<◌, ◌≡◌, List, [], ◌∷◌, length}
 use Rattle.rules.specs.Mesh.{devices}
 use Rattle.rules.specs.Limits.{most_axes, most_devices, most_dims, most_words, most_steps, most_run, most_depth, least_bytes, most_bytes}
-use Rattle.rules.specs.Moved.{most_moved}
 use Rattle.rules.specs.Sharding.{Sharding, IsSharding}
 use Rattle.rules.specs.PlanFile.{axis_count, rank_count, step_count}
 use Rattle.laws.proofs.Accepted.{SizesFacts, Within}
@@ -56,11 +55,10 @@ pub record Sharded (mesh sizes : List ℕ) (largest : ℕ) (s : Sharding) : Type
   pub counted : shard_words mesh sizes s ≤ largest
   pub few : largest ≤ most_words
 
--- Step numbers fall from the innermost list outwards, no list runs more than each kind byte before may run, and none moves more than each of its plain
--- steps may move.
+-- Step numbers fall from the innermost list outwards, and no list runs more than each kind byte before may run.
 abbrev pub Framed : (number : ℕ) → List Frame → Type 0
 Framed number [] = Unit {0}
-Framed number (f ∷ frames) = (f.number < number) × (f.ran ≤ f.number * most_run) × (f.moved ≤ f.ran * most_moved) × Framed f.number frames
+Framed number (f ∷ frames) = (f.number < number) × (f.ran ≤ f.number * most_run) × Framed f.number frames
 
 -- no more kind bytes than bytes before the unit
 pub record Going (before : ℕ) (mesh sizes : List ℕ) (q : Standing) : Type 0 where
@@ -68,7 +66,6 @@ pub record Going (before : ℕ) (mesh sizes : List ℕ) (q : Standing) : Type 0 
   pub deep : length q.frames ≤ most_depth
   pub number_few : q.number ≤ before
   pub ran_few : q.ran ≤ q.number * most_run
-  pub moved_few : q.moved ≤ q.ran * most_moved
   pub framed : Framed q.number q.frames
 
 abbrev pub SoundIn : (head : List ℕ) → (before : ℕ) → Phase → Type 0
@@ -78,7 +75,7 @@ SoundIn head before (in_the_order mesh t) = Meshed head mesh × (t.count < devic
 SoundIn head before (in_table mesh) = Meshed head mesh
 SoundIn head before (in_the_start mesh sizes) = Tabled head mesh sizes
 SoundIn head before (in_steps mesh sizes q) = Tabled head mesh sizes × Going before mesh sizes q
-SoundIn head before (at_end mesh sizes largest moved s) = Tabled head mesh sizes × Sharded mesh sizes largest s
+SoundIn head before (at_end mesh sizes largest s) = Tabled head mesh sizes × Sharded mesh sizes largest s
 SoundIn head before (stopped a k) = Unit {0}
 
 -- `before`: the bytes before the unit

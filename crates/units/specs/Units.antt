@@ -1,5 +1,6 @@
 -- Document 02, Ask 8, "Plans over a slow line": "a check that is handed each piece, hands its state back, and at the end gives what the check of the whole
 -- file gives". A state, what one byte makes of it (`fed`), a piece (`pushed`), and what is answered at the end (`end_of`); `SlowLine` says what is promised.
+-- The words moved (Ask 7) are left aside as yet (`unpriced`).
 -- A unit is what one reader of the rules takes: the header, the sizes of mesh or table, one number of an order, the starting sharding, one step, the
 -- head of a repeat. "The state may not keep the file": it holds the header's 18 bytes and the bytes of the unit that is not whole yet. After each byte
 -- the unit's own reader is tried on them; 7 is its answer as long as bytes are missing, any other is final. Assumes nothing.
@@ -13,29 +14,26 @@ use Rattle.rules.specs.Refusals.{Judged, accept, refuse, ◌>>=◌, ◌>>◌, ne
 use Rattle.rules.specs.PlanFile.{u16_at, edition, axis_count, rank_count, step_count, mesh_offset, tensor_offset, sharding_offset, steps_offset, total_length}
 use Rattle.rules.specs.PlanFile.{judge_header, judge_header_by, sizes_at, carries_order, carries_replicated, sharding_at, step_at, judge_step, same_sharding, is_repeat}
 use Rattle.rules.specs.Calls.{CheckAnswer, check_of}
-use Rattle.rules.specs.Moved.{moved_by, moved_from}
 use Rattle.opening.specs.Opening.{judge_opening}
 use Rattle.blocks.specs.Blocks.{Head, head_at, shard_words}
 
 -- ---- the state
 
 -- A repeat whose block is being read: its step number, how often the block is run, how many steps of the list around it come behind it, how many plain
--- steps of that list are run before it and how many words they move, and the sharding before it.
+-- steps of that list are run before it, and the sharding before it.
 pub record Frame : Type 0 where
   pub number : ℕ
   pub count : ℕ
   pub behind : ℕ
   pub ran : ℕ
-  pub moved : ℕ
   pub sharding : Sharding
 
--- Where the steps stand: the repeats that are open, innermost first; of the list that is being read, how many steps come behind the one that is next, how
--- many plain steps are run so far and how many words they move; the number of the next kind byte; the most words that a shard had, and the sharding.
+-- Where the steps stand: the repeats that are open, innermost first; of the list that is being read, how many steps come behind the one that is next and
+-- how many plain steps are run so far; the number of the next kind byte; the most words that a shard had, and the sharding.
 pub record Standing : Type 0 where
   pub frames : List Frame
   pub behind : ℕ
   pub ran : ℕ
-  pub moved : ℕ
   pub number : ℕ
   pub largest : ℕ
   pub sharding : Sharding
@@ -55,7 +53,7 @@ pub data Phase : Type 0 where
   in_table : (mesh : List ℕ) → Phase
   in_the_start : (mesh sizes : List ℕ) → Phase
   in_steps : (mesh sizes : List ℕ) → Standing → Phase
-  at_end : (mesh sizes : List ℕ) → (largest moved : ℕ) → Sharding → Phase
+  at_end : (mesh sizes : List ℕ) → (largest : ℕ) → Sharding → Phase
   stopped : (reason step : ℕ) → Phase
 
 -- `over`: the end was asked for. `seen` counts the bytes up to one more than the limit.
@@ -124,25 +122,24 @@ past_table head seen mesh sizes = do
   accept (in_the_start mesh sizes)
 
 -- so many outermost steps are left
-abbrev pub outermost : (mesh sizes : List ℕ) → (left ran moved number largest : ℕ) → Sharding → Phase
-outermost mesh sizes zero ran moved number largest s = at_end mesh sizes largest moved s
-outermost mesh sizes (suc behind) ran moved number largest s =
-    in_steps mesh sizes (record { frames = []; behind = behind; ran = ran; moved = moved; number = number; largest = largest; sharding = s })
+abbrev pub outermost : (mesh sizes : List ℕ) → (left ran number largest : ℕ) → Sharding → Phase
+outermost mesh sizes zero ran number largest s = at_end mesh sizes largest s
+outermost mesh sizes (suc behind) ran number largest s =
+    in_steps mesh sizes (record { frames = []; behind = behind; ran = ran; number = number; largest = largest; sharding = s })
 
 -- The step with number k is done, and so many are left in its list. "The sharding after the block must equal the one before it, .. else 41 at the repeat's
--- number. More than 4,096 plain steps run in all is 43, tested after 41 for the repeat alone and after each outermost step for the plan so far." What a
--- block runs and moves counts in each of its rounds.
-unfoldable pub after_step : (mesh sizes : List ℕ) → (number largest : ℕ) → Sharding → List Frame → (k left ran moved : ℕ) → Judged Phase
+-- number. More than 4,096 plain steps run in all is 43, tested after 41 for the repeat alone and after each outermost step for the plan so far."
+unfoldable pub after_step : (mesh sizes : List ℕ) → (number largest : ℕ) → Sharding → List Frame → (k left ran : ℕ) → Judged Phase
 unfolding same_sharding
-after_step mesh sizes number largest s [] k left ran moved = do
+after_step mesh sizes number largest s [] k left ran = do
   need_at k (leb ran most_run) 43
-  accept (outermost mesh sizes left ran moved number largest s)
-after_step mesh sizes number largest s (f ∷ frames) k (suc behind) ran moved =
-    accept (in_steps mesh sizes (record { frames = f ∷ frames; behind = behind; ran = ran; moved = moved; number = number; largest = largest; sharding = s }))
-after_step mesh sizes number largest s (f ∷ frames) k zero ran moved = do
+  accept (outermost mesh sizes left ran number largest s)
+after_step mesh sizes number largest s (f ∷ frames) k (suc behind) ran =
+    accept (in_steps mesh sizes (record { frames = f ∷ frames; behind = behind; ran = ran; number = number; largest = largest; sharding = s }))
+after_step mesh sizes number largest s (f ∷ frames) k zero ran = do
   need_at f.number (same_sharding s f.sharding) 41
   need_at f.number (leb (f.count * ran) most_run) 43
-  after_step mesh sizes number largest s frames f.number f.behind (f.ran + f.count * ran) (f.moved + f.count * moved)
+  after_step mesh sizes number largest s frames f.number f.behind (f.ran + f.count * ran)
 
 -- 14 to 18, and the steps from the first on
 unfoldable pub after_start : (head : List ℕ) → (seen : ℕ) → (mesh sizes : List ℕ) → Sharding → Judged Phase
@@ -150,23 +147,20 @@ unfolding u16_at judge_opening
 after_start head seen mesh sizes s = do
   need (eqb (steps_offset head) seen) 6
   judge_opening (edition head) mesh sizes s
-  accept (outermost mesh sizes (step_count head) 0 0 1 (shard_words mesh sizes s) s)
+  accept (outermost mesh sizes (step_count head) 0 1 (shard_words mesh sizes s) s)
 
--- the words moved are those of the shards before the step
 unfoldable pub after_plain : (mesh sizes : List ℕ) → Standing → Step → Judged Phase
-unfolding judge_step moved_by after_step
+unfolding judge_step after_step
 after_plain mesh sizes q t = do
   s ← judge_step mesh sizes q.number t q.sharding
   after_step mesh sizes (q.number + 1) (max q.largest (shard_words mesh sizes s)) s q.frames q.number q.behind (q.ran + 1)
-      (q.moved + moved_from mesh sizes t q.sharding)
 
 -- the first of a block's inner steps is next
 abbrev pub after_head : (mesh sizes : List ℕ) → Standing → Head → Judged Phase
 after_head mesh sizes q h = accept (in_steps mesh sizes (record {
-  frames = record { number = q.number; count = h.count; behind = q.behind; ran = q.ran; moved = q.moved; sharding = q.sharding } ∷ q.frames;
+  frames = record { number = q.number; count = h.count; behind = q.behind; ran = q.ran; sharding = q.sharding } ∷ q.frames;
   behind = h.number - 1;
   ran = 0;
-  moved = 0;
   number = q.number + 1;
   largest = q.largest;
   sharding = q.sharding;
@@ -219,7 +213,7 @@ unit_in head seen u (in_the_start mesh sizes) =
     tried (sharding_at (carries_replicated (edition head)) (axis_count head) (rank_count head) 0 u 0) (record { unit = u; phase = in_the_start mesh sizes })
     (λ s. after_start head seen mesh sizes s.value)
 unit_in head seen u (in_steps mesh sizes q) = step_in (is_repeat u 0) mesh sizes q u
-unit_in head seen u (at_end mesh sizes largest moved s) = record { unit = []; phase = stopped 9 0 }
+unit_in head seen u (at_end mesh sizes largest s) = record { unit = []; phase = stopped 9 0 }
 unit_in head seen u (stopped a k) = record { unit = []; phase = stopped a k }
 
 -- the header's bytes so far
@@ -255,14 +249,14 @@ closed s = record { over = true; seen = s.seen; head = s.head; unit = s.unit; ph
 
 -- a unit that is not whole is 7
 abbrev pub answer_in : (head : List ℕ) → Phase → Judged CheckAnswer
-answer_in head (at_end mesh sizes largest moved s) = accept (record {
+answer_in head (at_end mesh sizes largest s) = accept (record {
   room = devices mesh * largest;
   devices = devices mesh;
   steps = step_count head;
   rank = length sizes;
   sharding = s;
   shard = shard_sizes mesh sizes s.dims;
-  moved = moved;
+  moved = 0;
 })
 answer_in head (stopped a k) = refuse a k
 answer_in head in_header = refuse 7 0
@@ -281,13 +275,26 @@ end_of s = do
 
 -- ---- what is promised
 
+-- the check's answer but for the words moved (Ask 7), which are not counted byte by byte yet: 0 stands for them
+abbrev pub unpriced : Judged CheckAnswer → Judged CheckAnswer
+unpriced (accept a) = accept (record {
+  room = a.room;
+  devices = a.devices;
+  steps = a.steps;
+  rank = a.rank;
+  sharding = a.sharding;
+  shard = a.shard;
+  moved = 0;
+})
+unpriced (refuse n k) = refuse n k
+
 -- the state after these bytes, from the one that the opening call gives
 abbrev pub state_after : List ℕ → State
 state_after bytes = pushed begun bytes
 
 pub record SlowLine : Type 0 where
-  -- "at the end gives what the check of the whole file gives", every field, of files of any length
-  pub answers : (bytes : List ℕ) → end_of (state_after bytes) ≡ check_of bytes
+  -- "at the end gives what the check of the whole file gives", of files of any length, but for the words moved
+  pub answers : (bytes : List ℕ) → end_of (state_after bytes) ≡ unpriced (check_of bytes)
   -- "however the file was cut": of any state; a piece of no bytes changes nothing
   pub cuts : (s : State) (a b : List ℕ) → pushed (pushed s a) b ≡ pushed s (a ++ b)
   pub empty : (s : State) → pushed s [] ≡ s

@@ -1,5 +1,7 @@
 // The writer: a plan given as records, judged and written into a lent buffer, as records/specs/Writing.antt defines it;
 // records/specs/Promises.antt is its promise.
+#![tactic(auto)]
+
 ghost use Rattle.std.specs.Prelude.{◌≡◌};
 ghost use Rattle.rules.specs.Refusals.{refuse};
 ghost use Rattle.types.specs.Answers.{number_of};

@@ -2,10 +2,14 @@
 //! they differ. What is given has any bytes in such places.
 
 use super::shown;
+use bench::answers::{Checked, Device, NotPlaced, Placed, Refusal, MOST_AXES, MOST_RANK};
+use bench::library::{
+    raw, RawChecked, RawOpened, RawPlaced, RawPlacedAll, RawPlanned, RawRan, RawSharding, RawWritten,
+};
 use bench::random::Random;
-use bench::records::{MeshAndTable, Opened, Records, StepRecord, RECORD_BYTES, RECORD_LISTS};
-use ishkrela::limits::{MOST_AXES, MOST_DIMS};
-use ishkrela::{raw, Checked, Device, NotPlaced, Placed, Refusal, Sharding};
+use bench::records::{
+    MeshAndTable, Opened, Records, ShardingRecord, StepRecord, RECORD_BYTES, RECORD_LISTS,
+};
 
 pub struct Boundary;
 
@@ -23,9 +27,9 @@ fn fill(random: &mut Random, counts: &mut [u8], axes: &mut [u8], is_used: impl F
 }
 
 /// A sharding of a table of this rank with any bytes in the places that are not used.
-fn sharding(random: &mut Random, given: &Sharding, rank: usize) -> raw::Sharding {
-    let mut raw = raw::Sharding::from(given);
-    let is_used = |list| list < rank || list >= MOST_DIMS;
+fn sharding(random: &mut Random, given: &ShardingRecord, rank: usize) -> RawSharding {
+    let mut raw = RawSharding::of(given, rank);
+    let is_used = |list| list < rank || list >= MOST_RANK;
     fill(
         random,
         &mut raw.counts,
@@ -42,8 +46,8 @@ fn record(random: &mut Random, step: &StepRecord, rank: usize) -> [u8; RECORD_BY
     let (counts, axes) = lists.split_at_mut(RECORD_LISTS);
     let kind = head[0];
     let is_used = |list| match kind {
-        1 | 2 | 5 => list < rank.min(MOST_DIMS),
-        3 | 4 => list == MOST_DIMS,
+        1 | 2 | 5 => list < rank.min(MOST_RANK),
+        3 | 4 => list == MOST_RANK,
         _ => false,
     };
     fill(random, counts, axes, is_used);
@@ -53,42 +57,9 @@ fn record(random: &mut Random, step: &StepRecord, rank: usize) -> [u8; RECORD_BY
     bytes
 }
 
-/// Whether no piece changes a state after the end, and a second end repeats the first.
-fn stays(ended: &raw::Ended) -> Option<String> {
-    let pushed = raw::check_push(ended.state, &[1, 0, 2]);
-    shown(&ended.state, &pushed).or_else(|| shown(ended, &raw::check_end(pushed)))
-}
-
-/// A state with some of its numbers changed.
-fn made_up(random: &mut Random, mut state: raw::Checking) -> raw::Checking {
-    let number = match random.once_in(2) {
-        true => random.below(8),
-        false => random.draw() as usize,
-    };
-    let standing = &mut state.standing;
-    match random.below(12) {
-        0 => state.over = number as u8,
-        1 => state.phase = number as u8,
-        2 => (state.phase, state.reason, state.step) = (7, random.byte(), number),
-        3 => state.head[random.below(state.head.len())] = number as u8,
-        4 => state.mesh[random.below(state.mesh.len())] = number as u16,
-        5 => state.table[random.below(state.table.len())] = number as u16,
-        6 => state.seen = number,
-        7 => state.count = number,
-        8 => state.numbers = number,
-        9 => standing.frames.depth = number,
-        10 => standing.largest = number,
-        _ => standing.sharding.dims[random.below(MOST_DIMS)].count = number as u16,
-    }
-    match random.once_in(2) {
-        true => made_up(random, state),
-        false => state,
-    }
-}
-
 impl Boundary {
     pub fn check(self, file: &[u8], answer: Result<Checked, Refusal>) -> Option<String> {
-        shown(&checked(answer), &raw::check(file))
+        shown(&RawChecked::from(answer), &raw::check(file))
     }
 
     pub fn run(
@@ -99,38 +70,10 @@ impl Boundary {
         answer: Result<u64, Refusal>,
     ) -> Option<String> {
         let (mut work, mut spare) = (work.to_vec(), spare.to_vec());
-        shown(&ran(answer), &raw::run(file, &mut work, &mut spare))
-    }
-
-    pub fn run_f32(
-        self,
-        file: &[u8],
-        work: &[f32],
-        spare: &[f32],
-        answer: Result<u64, Refusal>,
-    ) -> Option<String> {
-        let (mut work, mut spare) = (work.to_vec(), spare.to_vec());
-        shown(&ran(answer), &raw::run_f32(file, &mut work, &mut spare))
-    }
-
-    /// A file in pieces; then some numbers of the state change on the way.
-    pub fn check_pieces(
-        self,
-        random: &mut Random,
-        pieces: &[&[u8]],
-        answer: Result<Checked, Refusal>,
-    ) -> Option<String> {
-        let push = |state, pieces: &[&[u8]]| {
-            let next = |state, piece: &&[u8]| raw::check_push(state, piece);
-            pieces.iter().fold(state, next)
-        };
-        let (before, behind) = pieces.split_at(random.below(pieces.len() + 1));
-        let on_the_way = push(raw::check_begin(), before);
-        let ended = raw::check_end(push(on_the_way, behind));
-        let of_another = raw::check_end(push(made_up(random, on_the_way), behind));
-        shown(&checked(answer), &ended.answer)
-            .or_else(|| stays(&ended))
-            .or_else(|| stays(&of_another))
+        shown(
+            &RawRan::from(answer),
+            &raw::run(file, &mut work, &mut spare),
+        )
     }
 
     pub fn place(
@@ -140,7 +83,7 @@ impl Boundary {
         device: Device,
         answer: Result<Placed, Refusal>,
     ) -> Option<String> {
-        shown(&placed(answer), &raw::place(file, state, device))
+        shown(&RawPlaced::from(answer), &raw::place(file, state, device))
     }
 
     pub fn place_all(
@@ -150,8 +93,8 @@ impl Boundary {
         (answer, after): (Result<(), NotPlaced>, &[u16]),
     ) -> Option<String> {
         let mut first = before.to_vec();
-        let all = raw::place_all(file, state, devices, &mut first);
-        shown(&(placed_all(answer), after), &(all, &first))
+        let placed = raw::place_all(file, state, devices, &mut first);
+        shown(&(RawPlacedAll::from(answer), after), &(placed, &first))
     }
 
     /// With any bytes in the places that are not used, and some after the last record.
@@ -169,8 +112,8 @@ impl Boundary {
         let more = random.below(RECORD_BYTES);
         steps.extend((0..more).map(|_| random.byte()));
         let mut out = before.to_vec();
-        let file = raw::write(records.on.parts(), start, &steps, &mut out);
-        shown(&(written(answer), after), &(file, &out))
+        let written = raw::write(&records.on, start, &steps, &mut out);
+        shown(&(RawWritten::from(answer), after), &(written, &out))
     }
 
     pub fn read(
@@ -181,7 +124,10 @@ impl Boundary {
         answer: Result<Opened, Refusal>,
     ) -> Option<String> {
         let (mut order, mut steps) = (order.to_vec(), steps.to_vec());
-        shown(&opened(answer), &raw::read(file, &mut order, &mut steps))
+        shown(
+            &RawOpened::from(answer),
+            &raw::read(file, &mut order, &mut steps),
+        )
     }
 
     /// With any bytes in the places that are not used.
@@ -189,111 +135,12 @@ impl Boundary {
         self,
         random: &mut Random,
         on: &MeshAndTable,
-        start: &Sharding,
-        goal: &Sharding,
+        start: &ShardingRecord,
+        goal: &ShardingRecord,
         answer: Result<Vec<StepRecord>, Refusal>,
     ) -> Option<String> {
         let rank = on.table.len();
         let (start, goal) = (sharding(random, start, rank), sharding(random, goal, rank));
-        shown(&planned(answer), &raw::plan(on.parts(), start, goal))
+        shown(&RawPlanned::from(answer), &raw::plan(on, start, goal))
     }
-}
-
-// What the boundary has to give for an answer, down to the places not used. A refusal leaves every other
-// field 0, but for the place beside 32.
-
-fn places<const N: usize>(sizes: &[u16]) -> [u16; N] {
-    std::array::from_fn(|at| sizes.get(at).copied().unwrap_or(0))
-}
-
-fn checked(answer: Result<Checked, Refusal>) -> raw::Checked {
-    match answer {
-        Ok(checked) => raw::Checked {
-            refusal: 0,
-            room: checked.room as u32,
-            devices: checked.devices,
-            steps: checked.steps,
-            rank: checked.shard.len() as u16,
-            shard: places(&checked.shard),
-            sharding: (&checked.sharding).into(),
-            moved: checked.moved,
-        },
-        Err(refusal) => raw::Checked {
-            refusal: refusal.to_code(),
-            ..raw::Checked::default()
-        },
-    }
-}
-
-fn ran(answer: Result<u64, Refusal>) -> raw::Ran {
-    raw::Ran {
-        refusal: answer.map_or_else(Refusal::to_code, |_| 0),
-        moved: answer.unwrap_or(0),
-    }
-}
-
-fn placed(answer: Result<Placed, Refusal>) -> raw::Placed {
-    match answer {
-        Ok(placed) => raw::Placed {
-            refusal: 0,
-            rank: placed.shard.len() as u16,
-            shard: places(&placed.shard),
-            first: places(&placed.first),
-            sharding: (&placed.sharding).into(),
-        },
-        Err(refusal) => raw::Placed {
-            refusal: refusal.to_code(),
-            ..raw::Placed::default()
-        },
-    }
-}
-
-fn placed_all(answer: Result<(), NotPlaced>) -> raw::PlacedAll {
-    let Err(NotPlaced { refusal, place }) = answer else {
-        return raw::PlacedAll::default();
-    };
-    raw::PlacedAll {
-        refusal: refusal.to_code(),
-        place: place.unwrap_or(0),
-    }
-}
-
-fn written(answer: Result<usize, Refusal>) -> raw::Written {
-    raw::Written {
-        refusal: answer.map_or_else(Refusal::to_code, |_| 0),
-        bytes: answer.unwrap_or(0),
-    }
-}
-
-fn opened(answer: Result<Opened, Refusal>) -> raw::Opened {
-    match answer {
-        Ok(opened) => raw::Opened {
-            refusal: 0,
-            n: opened.mesh.len() as u16,
-            rank: opened.table.len() as u16,
-            mesh: places(&opened.mesh),
-            table: places(&opened.table),
-            start: (&opened.start).into(),
-            order: opened.order,
-            steps_bytes: opened.steps,
-        },
-        Err(refusal) => raw::Opened {
-            refusal: refusal.to_code(),
-            ..raw::Opened::default()
-        },
-    }
-}
-
-fn planned(answer: Result<Vec<StepRecord>, Refusal>) -> raw::Planned {
-    let mut raw = raw::Planned::default();
-    match answer {
-        Ok(steps) => {
-            raw.count = steps.len() as u32;
-            for (place, step) in raw.steps.iter_mut().zip(&steps) {
-                *place = raw::Step::from_bytes(step.to_bytes());
-            }
-        }
-        Err(refusal) => raw.refusal = refusal.to_code(),
-    }
-    raw
 }

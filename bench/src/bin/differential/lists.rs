@@ -1,9 +1,9 @@
 //! Lists of devices that are placed in one call, beside single calls.
 
 use super::{number_up_to, same, same_at_boundary, Met, Outcome};
+use bench::answers::{Device, NotPlaced};
 use bench::random::Random;
-use bench::{Implementation, Library, Reference};
-use ishkrela::{Device, NotPlaced};
+use bench::{Implementation, Reference};
 use std::fmt;
 
 /// The refusals that the call gives beside those of files.
@@ -88,7 +88,7 @@ impl Call<'_> {
             match one.place(self.file, self.state, device) {
                 Ok(placed) => first.extend(&*placed.first),
                 Err(refusal) => {
-                    let place = (refusal.number() == 32).then_some(place);
+                    let place = (refusal.number == 32).then_some(place);
                     return (Err(NotPlaced { refusal, place }), self.before.clone());
                 }
             }
@@ -99,10 +99,15 @@ impl Call<'_> {
 }
 
 /// Places a list of devices, into an output that is too short by one, exact or longer.
-pub fn compare_place_all(random: &mut Random, file: &[u8], tally: &mut Tally) -> Outcome {
+pub fn compare_place_all(
+    random: &mut Random,
+    library: &dyn Implementation,
+    file: &[u8],
+    tally: &mut Tally,
+) -> Outcome {
     let checked = Reference.check(file);
     let (steps, devices, rank) = checked.map_or((3, 4, 2), |checked| {
-        (checked.steps, checked.devices, checked.shard.len())
+        (checked.steps, checked.devices, checked.rank())
     });
     let list = random_list(random, devices);
     let length = (rank * list.len() + random.below(4)).saturating_sub(random.below(2));
@@ -119,17 +124,17 @@ pub fn compare_place_all(random: &mut Random, file: &[u8], tally: &mut Tally) ->
     tally.see(&call, devices, ours.0);
     let Call { state, list, .. } = &call;
     let told = format!("place of devices {list:?} in state {state}, {length} entries");
-    same(&told, file, &ours, &call.put_to(&Library))?;
+    same(&told, file, &ours, &call.put_to(library))?;
     same_at_boundary(file, &told, |raw| {
         raw.place_all((file, *state, list), &call.before, (ours.0, &ours.1))
     })?;
     // A file and a state are refused whatever the list is, and a short output before any device.
-    let is_short = matches!(ours.0, Err(not) if not.refusal.number() == 33);
+    let is_short = matches!(ours.0, Err(not) if not.refusal.number == 33);
     if is_short || list.is_empty() {
         return Ok(());
     }
     let told = format!("{told}, one by one");
-    same(&told, file, &call.one_by_one(&Library), &ours)
+    same(&told, file, &call.one_by_one(library), &ours)
 }
 
 /// Devices in any order, some of them again and again, all of them now and then; in a third of the

@@ -1,13 +1,14 @@
 //! The writer, the way back and the planner, on random records, files and shardings.
 
 use super::{refused, same, same_at_boundary, Difference, Met, Outcome};
+use bench::answers::{Axis, Device, Refusal, MOST_BYTES, MOST_DEVICES};
 use bench::plans::{self, Draft, Scale, FILE_REFUSALS};
 use bench::random::Random;
-use bench::records::{MeshAndTable, Opened, Records, StepRecord, LEAST_STEP_BYTES, RECORD_BYTES};
+use bench::records::{
+    MeshAndTable, Opened, Records, ShardingRecord, StepRecord, LEAST_STEP_BYTES, RECORD_BYTES,
+};
 use bench::spreads::{product, Layout};
-use bench::{implementations, spoilt, Implementation, Library, Reference};
-use ishkrela::limits::{MOST_BYTES, MOST_DEVICES};
-use ishkrela::{plan_between, Axis, Device, Mesh, Plan, PlanError, Refusal, Sharding};
+use bench::{implementations, spoilt, Implementation, Reference};
 use std::fmt;
 
 /// The refusals that the writer gives.
@@ -82,7 +83,11 @@ fn random_length(random: &mut Random, needed: usize) -> usize {
 // ---- the writer
 
 /// Writes random records, sound or not, into a buffer of any length.
-pub fn compare_write(random: &mut Random, tally: &mut Tally) -> Outcome {
+pub fn compare_write(
+    random: &mut Random,
+    library: &dyn Implementation,
+    tally: &mut Tally,
+) -> Outcome {
     let records = match random.once_in(4) {
         true => Records::from(&super::random_draft(random)),
         false => spoilt::records(random),
@@ -97,7 +102,7 @@ pub fn compare_write(random: &mut Random, tally: &mut Tally) -> Outcome {
     let call = format!("write into {length} bytes of {}", told(&records));
     let written = answer.unwrap_or(0);
     same(&call, &ours, &before[written..], &ours[written..])?;
-    let other = Library.write(&records, &mut theirs);
+    let other = library.write(&records, &mut theirs);
     same(&call, &ours, &(answer, &ours), &(other, &theirs))?;
     let call = format!("{call}, any bytes in the places not used");
     same_at_boundary(&ours, &call, |raw| {
@@ -105,7 +110,7 @@ pub fn compare_write(random: &mut Random, tally: &mut Tally) -> Outcome {
     })?;
     if answer.is_ok() {
         tally.written += 1;
-        compare_again(&ours[..written])?;
+        compare_again(library, &ours[..written])?;
     }
     Ok(())
 }
@@ -137,7 +142,12 @@ fn read_whole(one: &dyn Implementation, file: &[u8]) -> ReadBack {
 
 /// Reads a file, an accepted one or not, into lists of any length. An accepted one is also read
 /// whole and written again.
-pub fn compare_read(random: &mut Random, file: &[u8], tally: &mut Tally) -> Outcome {
+pub fn compare_read(
+    random: &mut Random,
+    library: &dyn Implementation,
+    file: &[u8],
+    tally: &mut Tally,
+) -> Outcome {
     let (answer, ..) = read_whole(&Reference, file);
     let needed = |opened: &Opened| (opened.order, opened.steps);
     let (order, steps) = answer.as_ref().map_or((4, 2 * RECORD_BYTES), needed);
@@ -150,7 +160,7 @@ pub fn compare_read(random: &mut Random, file: &[u8], tally: &mut Tally) -> Outc
     let order = vec![Device(random.draw() as u16); order];
     let steps = vec![random.byte(); steps];
     let ours = read(&Reference, file, &order, &steps);
-    let theirs = read(&Library, file, &order, &steps);
+    let theirs = read(library, file, &order, &steps);
     tally.reads += 1;
     tally.refused_reads.see(&ours.0);
     let call = format!(
@@ -162,14 +172,14 @@ pub fn compare_read(random: &mut Random, file: &[u8], tally: &mut Tally) -> Outc
     same_at_boundary(file, &call, |raw| raw.read(file, &order, &steps, ours.0))?;
     if answer.is_ok() {
         tally.read += 1;
-        compare_again(file)?;
+        compare_again(library, file)?;
     }
     Ok(())
 }
 
 /// An accepted file, read and written again, comes out byte for byte.
-fn compare_again(file: &[u8]) -> Outcome {
-    for one in implementations() {
+fn compare_again(library: &dyn Implementation, file: &[u8]) -> Outcome {
+    for one in [&Reference, library] {
         let call = format!("read and written again, {}", one.name());
         let (answer, order, steps) = read_whole(one, file);
         let opened = answer.map_err(|refusal| refused(&call, file, refusal))?;
@@ -183,34 +193,36 @@ fn compare_again(file: &[u8]) -> Outcome {
             &(answer, &again),
         )?;
     }
-    let again = Plan::from_bytes(file).map(|plan| plan.to_bytes());
-    let call = "read and written again, as values";
-    same(call, file, &Ok(Ok(file.to_vec())), &again)
+    Ok(())
 }
 
 // ---- the planner
 
 /// The shardings that a plan is asked for between.
-#[derive(Clone)]
 struct Route {
     on: MeshAndTable,
-    start: Sharding,
-    goal: Sharding,
+    start: ShardingRecord,
+    goal: ShardingRecord,
 }
 
 /// Plans between random shardings. A plan is written, checked and run on a spread of a table.
-pub fn compare_plan(random: &mut Random, tally: &mut Tally) -> Outcome {
+pub fn compare_plan(
+    random: &mut Random,
+    library: Option<&dyn Implementation>,
+    tally: &mut Tally,
+) -> Outcome {
     let route = random_route(random);
     let Route { on, start, goal } = &route;
     let answer = Reference.plan(on, start, goal);
     tally.plans += 1;
     tally.refused_plans.see(&answer);
-    let call = format!("plan on {on:?}\nfrom {start:?}\nto {goal:?}");
-    same(&call, &[], &answer, &Library.plan(on, start, goal))?;
-    same_at_boundary(&[], &call, |raw| {
-        raw.plan(random, on, start, goal, answer.clone())
-    })?;
-    compare_values(&route, &answer)?;
+    if let Some(library) = library {
+        let call = format!("plan on {on:?}\nfrom {start:?}\nto {goal:?}");
+        same(&call, &[], &answer, &library.plan(on, start, goal))?;
+        same_at_boundary(&[], &call, |raw| {
+            raw.plan(random, on, start, goal, answer.clone())
+        })?;
+    }
     let Ok(steps) = answer else {
         return Ok(());
     };
@@ -222,26 +234,6 @@ pub fn compare_plan(random: &mut Random, tally: &mut Tally) -> Outcome {
         carry(&mut Random::new(seed), one, &route, &steps, &table)?;
     }
     Ok(())
-}
-
-/// The plan that is made of values has the file of these steps.
-fn compare_values(route: &Route, answer: &Result<Vec<StepRecord>, Refusal>) -> Outcome {
-    let Route { on, start, goal } = route.clone();
-    let written = answer.clone().and_then(|steps| {
-        let (on, start) = (on.clone(), start.clone());
-        let mut file = vec![0; MOST_BYTES];
-        let length = Reference.write(&Records { on, start, steps }, &mut file)?;
-        file.truncate(length);
-        Ok(file)
-    });
-    let mesh = Mesh {
-        sizes: on.mesh,
-        order: on.order,
-    };
-    let plan = plan_between(mesh, on.table, start, &goal);
-    let other = plan.and_then(|plan| plan.to_bytes());
-    let call = "a plan between shardings, as values";
-    same(call, &[], &written.map_err(PlanError::Refused), &other)
 }
 
 /// A mesh, a table and two shardings of it: the same one, others that a plan leads to, and others
@@ -286,7 +278,7 @@ fn past_a_limit(random: &mut Random, route: &mut Route) {
 
 /// Another sharding, most often one that the table has and that a plan leads to: it has beginnings
 /// in common with the start.
-fn random_goal(random: &mut Random, draft: &Draft, start: &Sharding) -> Sharding {
+fn random_goal(random: &mut Random, draft: &Draft, start: &ShardingRecord) -> ShardingRecord {
     let mut goal = start.clone();
     goal.unreduced.retain(|_| random.once_in(2));
     for list in &mut goal.dims {
@@ -330,7 +322,7 @@ fn divides(draft: &Draft, list: &[Axis], more: Axis, size: u16) -> bool {
 }
 
 /// Breaks a sharding, so that it is refused as the start of a plan would be.
-fn spoil_goal(random: &mut Random, goal: &mut Sharding) {
+fn spoil_goal(random: &mut Random, goal: &mut ShardingRecord) {
     let list = match random.below(3) {
         0 => &mut goal.dims[0],
         1 => &mut goal.unreduced,
@@ -364,7 +356,7 @@ fn carry(
     file.truncate(length.map_err(|refusal| refused(&call, &[], refusal))?);
     let checked = one.check(&file);
     let checked = checked.map_err(|refusal| refused(&call, &file, refusal))?;
-    let ends = checked.sharding.clone();
+    let ends = ShardingRecord::from(&checked.sharding);
     same(&call, &file, &route.goal, &ends)?;
     let start = one.place(&file, 0, Device(0));
     let start = start.map_err(|refusal| refused(&call, &file, refusal))?;
@@ -375,7 +367,7 @@ fn carry(
         sharding,
     };
     let mut work = layout(&start.sharding).spread(table, random);
-    work.resize(checked.room, random.word());
+    work.resize(checked.room as usize, random.word());
     let mut spare = random.words(work.len());
     let ran = one.run(&file, &mut work, &mut spare);
     ran.map_err(|refusal| refused(&call, &file, refusal))?;

@@ -3,13 +3,12 @@
 //! planner's plans have factor 1.
 
 use super::{refused, start_layout, Difference, Outcome};
+use bench::answers::{Refusal, MOST_BYTES};
 use bench::plans::{Draft, Step};
 use bench::random::Random;
-use bench::records::Records;
+use bench::records::{Records, ShardingRecord};
 use bench::spreads::product;
 use bench::{implementations, Implementation, Reference};
-use ishkrela::limits::MOST_BYTES;
-use ishkrela::{Refusal, Sharding};
 use std::fmt;
 
 /// The most steps of a plan that the planner makes.
@@ -84,7 +83,11 @@ fn factor(draft: &Draft) -> u32 {
 }
 
 /// The file of the planner's plan from the start of a plan to a goal.
-fn planned(one: &dyn Implementation, draft: &Draft, goal: &Sharding) -> Result<Vec<u8>, Refusal> {
+fn planned(
+    one: &dyn Implementation,
+    draft: &Draft,
+    goal: &ShardingRecord,
+) -> Result<Vec<u8>, Refusal> {
     let Records { on, start, .. } = Records::from(draft);
     let steps = one.plan(&on, &start, goal)?;
     let mut file = vec![0; MOST_BYTES];
@@ -100,9 +103,9 @@ fn end(
     file: &[u8],
     random: &mut Random,
     words: &[u32],
-) -> Result<(Sharding, Vec<u32>), Refusal> {
+) -> Result<(ShardingRecord, Vec<u32>), Refusal> {
     let checked = one.check(file)?;
-    let room = checked.room;
+    let room = checked.room as usize;
     let mut work = words.to_vec();
     let rest = room - work.len() + random.below(3);
     work.extend(random.words(rest));
@@ -110,7 +113,7 @@ fn end(
     let mut spare = random.words(spare);
     one.run(file, &mut work, &mut spare)?;
     work.truncate(usize::from(checked.devices) * product(&checked.shard));
-    Ok((checked.sharding.clone(), work))
+    Ok((ShardingRecord::from(&checked.sharding), work))
 }
 
 /// The first word that differs.

@@ -2,9 +2,9 @@
 //! first, a middle and the last dimension, ranks 1 to 4; beside kernels that are tuned for each.
 
 use crate::{ratio, shown, Bench, Extent, MIDDLE};
+use bench::answers::Dim;
 use bench::plans::{axes, Draft, Lists, Step};
 use bench::tuned::{self, Shape};
-use ishkrela::Dim;
 use std::fmt::Write;
 use std::hint::black_box;
 

@@ -1,6 +1,6 @@
 use borrow.Author.Rules.{rules}
 use mathlib.Core.Path.{sym}
-use Rattle.blocks.proofs.Heads.{positive-on, positive-stopped, count-stops, number-stops, too-deep, head_is}
+use Rattle.blocks.proofs.Heads.{positive-on, positive-stopped, count-stops, number-stops, too-deep, head-is}
 use Rattle.blocks.proofs.read_repeat.Statement.{statement}
 use Rattle.blocks.proofs.read_repeat.Tie as tie
 
@@ -35,4 +35,4 @@ read-repeat-spec =
     (λ c. let p = c.before.before.before.before in
     let q = p.before.before in
     let first = positive-on q.before.before.positive-at.ensures q.first.given.1 in
-    sym (head_is _ _ _ _ first (positive-on p.positive-at2.ensures c.before.before.second.given.1) c.if1.false)))
+    sym (head-is _ _ _ _ first (positive-on p.positive-at2.ensures c.before.before.second.given.1) c.if1.false)))

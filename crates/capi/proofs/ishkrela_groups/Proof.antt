@@ -2,7 +2,6 @@ use borrow.Author.Rules.{rules}
 use mathlib.Core.Path.{sym, ap, ◌∙◌}
 use Rattle.types.specs.Answers.{groups_meaning}
 use Rattle.capi.specs.Boundary.{refusal_code}
-use Rattle.capi.proofs.Codes.{groups-code}
 use Rattle.capi.proofs.ishkrela_groups.Statement.{statement}
 use Rattle.capi.proofs.ishkrela_groups.Tie as tie
 
@@ -16,8 +15,7 @@ ishkrela-groups-spec =
     (λ c κs. search rules)
     enum_told
     (λ c. search rules)
-    (λ c κs. let g = c.before.before.before.before.before.groups.ensures in
-    (groups-code _ _ _).bound _ _ (sym g.answers ∙ ap groups_meaning c.before.outcome.given.1))
+    (λ c κs. search rules)
     (λ c. search rules)
     (λ c. let g = c.before.before.before.before.groups.ensures in
     (ap refusal_code (sym (ap groups_meaning c.enum_told.given.1) ∙ g.answers), g.leaves))

@@ -1,6 +1,6 @@
 use borrow.Author.Rules.{rules}
 use mathlib.Core.Path.{◌∙◌}
-use Rattle.capi.proofs.Replies.{place-told, place-step, place-rank}
+use Rattle.capi.proofs.Replies.{place-told, place-rank}
 use Rattle.capi.proofs.ishkrela_place.Statement.{statement}
 use Rattle.capi.proofs.ishkrela_place.Tie as tie
 
@@ -12,6 +12,6 @@ ishkrela-place-spec =
     (λ c. search rules)
     (λ c κs. place-rank _ _ _ c.before.before.before.place.ensures c.before.outcome.given.1)
     (λ c. search rules)
-    (λ c κs. place-step _ _ _ c.before.before.before.place.ensures c.before.outcome2.given.1)
+    (λ c κs. search rules)
     (λ c. c.place_found.ensures ∙ place-told _ _ _ c.before.before.before.before.place.ensures c.before.before.outcome.given.1)
     (λ c. c.place-refused.ensures ∙ place-told _ _ _ c.before.before.before.before.place.ensures c.before.before.outcome2.given.1))

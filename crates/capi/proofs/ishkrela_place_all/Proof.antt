@@ -1,6 +1,6 @@
 use borrow.Author.Rules.{rules}
 use mathlib.Core.Path.{sym, ap, ◌∙◌}
-use Rattle.capi.proofs.Replies.{place-all-told, place-all-step}
+use Rattle.capi.proofs.Replies.{place-all-told}
 use Rattle.capi.proofs.ishkrela_place_all.Statement.{statement}
 use Rattle.capi.proofs.ishkrela_place_all.Tie as tie
 
@@ -14,7 +14,7 @@ ishkrela-place-all-spec =
     (λ c κs. search rules)
     enum_told
     (λ c. search rules)
-    (λ c κs. place-all-step _ _ _ _ c.before.before.before.before.before.place-all.ensures c.before.outcome.given.1)
+    (λ c κs. search rules)
     (λ c. search rules)
     (λ c. let g = c.before.before.before.before.place-all.ensures in
     (place-all-told _ _ _ _ g c.enum_told.given.1, g.leaves))

@@ -4,7 +4,7 @@ use Rattle.records.specs.PlanAnswer.{steps_planned}
 use Rattle.records.specs.declared.PlanOutcome.{PlanOutcome}
 use Rattle.marshal.specs.Structs.{sharding_in}
 use Rattle.capi.specs.Boundary.{planned_reply, made_reply}
-use Rattle.capi.proofs.Replies.{plan-told, plan-step, plan-count}
+use Rattle.capi.proofs.Replies.{plan-told, plan-count}
 use Rattle.capi.proofs.ishkrela_plan.Statement.{statement}
 use Rattle.capi.proofs.ishkrela_plan.Tie as tie
 
@@ -30,6 +30,6 @@ ishkrela-plan-spec =
     enum_told
     (λ c κs. plan-count _ _ _ _ _ c.before.before.plan.ensures)
     (λ c. search rules)
-    (λ c κs. plan-step _ _ _ _ _ c.before.before.before.plan.ensures _ c.before.outcome.given.1)
+    (λ c κs. search rules)
     (λ c. c.plan-made.ensures ∙ told c.before.before.before _ c.before.enum_told.given.1)
     (λ c. c.plan-refused.ensures ∙ told c.before.before.before.before _ c.before.before.outcome.given.1))

@@ -1,6 +1,6 @@
 use borrow.Author.Rules.{rules}
 use mathlib.Core.Path.{◌∙◌}
-use Rattle.capi.proofs.Replies.{read_told, read-step, read-counts}
+use Rattle.capi.proofs.Replies.{read_told, read-counts}
 use Rattle.capi.proofs.ishkrela_read.Statement.{statement}
 use Rattle.capi.proofs.ishkrela_read.Tie as tie
 
@@ -12,7 +12,7 @@ ishkrela-read-spec =
     (λ c. search rules)
     (λ c κs. read-counts _ _ _ c.before.before.before.before.before.before.before.read.ensures c.before.outcome.given.1)
     (λ c. search rules)
-    (λ c κs. read-step _ _ _ c.before.before.before.before.before.before.before.read.ensures c.before.outcome2.given.1)
+    (λ c κs. search rules)
     (λ c. search rules)
     (λ c. search rules)
     (λ c. let p = c.before.before.before.before.before.before.before.before.read.ensures in

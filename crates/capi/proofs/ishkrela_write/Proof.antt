@@ -6,10 +6,8 @@ use Rattle.records.specs.Records.{Records}
 use Rattle.records.specs.Writing.{write_of, write_leaves}
 use Rattle.records.specs.Forms.{records_given}
 use Rattle.records.specs.Promises.{write_meaning}
-use Rattle.records.specs.RoundTrip.{Bytes}
 use Rattle.marshal.specs.Structs.{sharding_in}
 use Rattle.capi.specs.Boundary.{written_reply}
-use Rattle.capi.proofs.Codes.{write-codes}
 use Rattle.capi.proofs.ishkrela_write.Statement.{statement}
 use Rattle.capi.proofs.ishkrela_write.Tie as tie
 
@@ -29,10 +27,7 @@ ishkrela-write-spec =
     (λ c κs. search rules)
     (λ c. search rules)
     (λ c. search rules)
-    (λ c κs. let w = c.before.before.before.before.before in
-    let bytes : Bytes w.before.before.before.before.before.before.before.before.args.steps.now =
-    λ i. (w.before.before.before.before.shared-slice-known4.given i).fits in
-    (write-codes _ _ _ _ _ bytes _).bound _ _ (sym w.write.ensures.answers ∙ ap write_meaning c.before.outcome2.given.1))
+    (λ c κs. search rules)
     (λ c. search rules)
     (λ c. let w = c.before.before.before.before.before in
     let file = w.before.before.before.before.before.before.before.before.args.file.now in

@@ -22,11 +22,11 @@ copy-record-spec =
     (λ c. search rules)
     (λ c. let r = c.before.before in
     let f = r.before in
-    absurd (never-refused r.read-step.result 0 f.if1.false r.read-step.ensures c.enum_told.given.1 _
+    absurd (never-refused r.Read-step.result 0 f.if1.false r.Read-step.ensures c.enum_told.given.1 _
     f.before.before.before.before.requires.2.stands))
     (λ c κs. search rules)
     (λ c. search rules)
     (λ c. let p = c.before.before in
     let t = p.before.before.before.before in
     let r = t.before.before in
-    plain_copied r.read-step.result 0 r.before.if1.false r.read-step.ensures t.next.given.1 p.put-plain.ensures))
+    plain_copied r.Read-step.result 0 r.before.if1.false r.Read-step.ensures t.next.given.1 p.put-plain.ensures))

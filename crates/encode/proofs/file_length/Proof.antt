@@ -1,6 +1,6 @@
 use borrow.Author.Rules.{rules}
 use native.Mathlib.Omega.{arith}
-use Rattle.encode.proofs.Files.{edition_is, front-few, first_is, total-is}
+use Rattle.encode.proofs.Files.{edition_is, front-few, first_is, total_is}
 use Rattle.encode.proofs.file_length.Statement.{statement}
 use Rattle.encode.proofs.file_length.Tie as tie
 
@@ -33,4 +33,4 @@ file-length-spec =
     let b = a.steps.now in
     let e = edition_is m o z a.start b s.requires c6.edition-of.ensures in
     let f = first_is m o z a.start b s.requires e c4.put_front.ensures.next in
-    total-is m o z a.start b s.requires f c.before.put-steps.ensures.next))
+    total_is m o z a.start b s.requires f c.before.put-steps.ensures.next))

@@ -2,7 +2,7 @@ use borrow.Author.Rules.{rules}
 use native.Mathlib.Omega.{arith}
 use lib.ListN.{length}
 use Rattle.types.specs.Types.{axes_of}
-use Rattle.encode.proofs.Files.{edition-few, edition_is, front-few, first_is, total-is, file-put}
+use Rattle.encode.proofs.Files.{edition-few, edition_is, front-few, first_is, total_is, file-put}
 use Rattle.encode.proofs.put_file.Statement.{statement}
 use Rattle.encode.proofs.put_file.Tie as tie
 
@@ -40,7 +40,7 @@ put-file-spec =
     let k = edition-few o (axes_of a.start.replicated) in
     let f = first_is m o z a.start b w (edition_is m o z a.start b w d) c7.put_front.ensures.next in
     let n = c3.put-steps.ensures.next in
-    let t = total-is m o z a.start b w f n in
+    let t = total_is m o z a.start b w f n in
     let q = c9.outermost-steps.ensures (length z) in
     (omega (arith, d, k), w.axes, w.devices, w.rank, omega (arith, q, s.requires.few), omega (arith, t, n, s.requires.short), omega (arith, t, s.requires.short)))
     (λ c. search rules)
@@ -57,6 +57,6 @@ put-file-spec =
     let w = s.requires.encodable in
     let e = edition_is m o z a.start b w c13.edition-of.ensures in
     let f = first_is m o z a.start b w e c10.put_front.ensures.next in
-    let t = total-is m o z a.start b w f c6.put-steps.ensures.next in
+    let t = total_is m o z a.start b w f c6.put-steps.ensures.next in
     let q = c12.outermost-steps.ensures (length z) in
     (t, file-put m o z a.start b a.out.now s.requires _ _ _ _ e q f t c10.put_front.ensures c6.put-steps.ensures c.before.before.put-header.ensures)))

@@ -4,13 +4,17 @@ use borrow.Fn.PlainCycle.{Measures, is, falls, and}
 use native.Mathlib.Omega.{arith}
 use Prim.Native.Nat.{ℕ, ◌<◌, ◌+◌, ◌-◌, ◌*◌}
 use mathlib.Core.Path.{refl, sym, ap, ◌∙◌}
+use Rattle.rules.specs.Refusals.{Judged}
+use Rattle.rules.specs.PlanFile.{StepsRead}
 use Rattle.types.specs.Types.{sharding_of, mesh_of, sizes_of}
 use Rattle.reader.proofs.Answers.{read-on, read-stopped, retold}
 use Rattle.reader.proofs.Next.refusal.Reads as Next-refusal-reads
 use Rattle.blocks.proofs.Heads.{head-facts, head-on, head-stopped}
 use Rattle.blocks.proofs.Items.{item-repeat, item-plain}
 use Rattle.blocks.proofs.RepeatRead.refusal.Reads as RepeatRead-refusal-reads
+use Rattle.records.specs.Writing.{step_numbered}
 use Rattle.records.specs.Forms.{record_count, steps_given}
+use Rattle.records.proofs.Numbers.{numbered-on, numbered-stops}
 use Rattle.given.specs.Given.{bytesGiven, placeGiven, summarized}
 use Rattle.encode.proofs.Counting.{given-length}
 use Rattle.given.proofs.Plain.{repeat-inside, is-ranked, no-repeat}
@@ -50,12 +54,12 @@ abbrev judge-repeat-below : ℕ → In 1 judge-repeat-kinds.ps
 judge-repeat-below t = and 1 judge-repeat-kinds.ps (falls 1 judge-repeat-kinds.ps ◌<◌ μ-judge-repeat t) judge-repeat.Pre
 
 abbrev judge-repeat-Inv-loop : judge-repeat-lts.invariant-loop
-judge-repeat-Inv-loop steps i depth mesh table sharding count inner number below k place₀ runs₀ after₀ done₀ place runs after done =
+judge-repeat-Inv-loop steps i depth mesh table sharding count inner number below place₀ runs₀ after₀ done₀ place runs after done =
     Within (mesh_of mesh) (sizes_of table) (steps_given table.rank steps) (depth - 1) number i (sharding_of table.rank sharding) done place runs
     (sharding_of table.rank after)
 
 abbrev judge-repeat-μ-loop : judge-repeat-lts.decreases-loop
-judge-repeat-μ-loop steps i depth mesh table sharding count inner number below k place₀ runs₀ after₀ done₀ place runs after done = number - done
+judge-repeat-μ-loop steps i depth mesh table sharding count inner number below place₀ runs₀ after₀ done₀ place runs after done = number - done
 
 pub +judge-record-judge-repeat-spec : {M : Type 1} → statement M
 +judge-record-judge-repeat-spec = close μ-judge-record μ-judge-repeat (λ t. judge-record-lts.spec (
@@ -76,13 +80,13 @@ pub +judge-record-judge-repeat-spec : {M : Type 1} → statement M
     (λ c κs. let s = c.before.before.before in (s.requires.1, sym c.before.is-repeat.ensures ∙ c.if1.false))
     (λ c. let a = c.before.before.before.before.args in
     let e = sym c.before.before.is-repeat.ensures ∙ c.before.if1.true in
-    retold c.judge-repeat.ensures (ap (summarized a.i) (item-repeat (mesh_of a.mesh) (sizes_of a.table) (bytesGiven a.table.rank a.steps.now) a.depth (a.i + 1)
+    retold c.judge-repeat.ensures (ap (λ (j : Judged StepsRead). step_numbered (summarized a.i j)) (item-repeat (mesh_of a.mesh) (sizes_of a.table) (bytesGiven a.table.rank a.steps.now) a.depth (a.i + 1)
     (placeGiven a.table.rank a.steps.now a.i) (sharding_of a.table.rank a.sharding) (repeat-there a.steps.now a.i e a.table.rank a.depth))))
     (λ c. let s = c.before.before.before.before in
     let a = s.args in
     let p = s.requires.1.shaped in
     let e = sym c.before.before.is-repeat.ensures ∙ c.before.if1.false in
-    retold c.judge-plain.ensures (ap (summarized a.i) (item-plain (mesh_of a.mesh) (sizes_of a.table) (bytesGiven a.table.rank a.steps.now) a.depth (a.i + 1)
+    retold c.judge-plain.ensures (ap (λ (j : Judged StepsRead). step_numbered (summarized a.i j)) (item-plain (mesh_of a.mesh) (sizes_of a.table) (bytesGiven a.table.rank a.steps.now) a.depth (a.i + 1)
     (placeGiven a.table.rank a.steps.now a.i) (sharding_of a.table.rank a.sharding) (no-repeat (mesh_of a.mesh) (sizes_of a.table) a.table.rank p.rank_is p.fits.rank a.steps.now a.i e)))))
     λ t. judge-repeat-lts.spec (
       read-head-reads.Asked,
@@ -110,18 +114,18 @@ pub +judge-record-judge-repeat-spec : {M : Type 1} → statement M
     (λ c. let h = c.before.before.before.before in
     let a = h.before.before.args in
     let stop = head-stopped (h.read_head.ensures.0 a.table.rank) c.before.before.enum_told.given.1 c.before.refusal.ensures in
-    retold (c.refused.ensures a.table.rank) (repeat-halts (mesh_of a.mesh) (sizes_of a.table) (steps_given a.table.rank a.steps.now) a.depth a.i (sharding_of a.table.rank a.sharding) stop))
+    retold (c.refused.ensures a.table.rank) (numbered-stops _ _ (λ n k q. repeat-halts (mesh_of a.mesh) (sizes_of a.table) (steps_given a.table.rank a.steps.now) a.depth a.i (sharding_of a.table.rank a.sharding) q) stop))
     (λ c. search rules)
     (λ c. let h = c.before.before.before in
     let a = h.before.before.args in
-    let r = head-on (h.read_head.ensures.0 a.table.rank) c.before.head.given.1 in
+    let r = numbered-on _ (head-on (h.read_head.ensures.0 a.table.rank) c.before.head.given.1) in
     let f = head-facts a.depth (a.i + 1) (bytesGiven a.table.rank a.steps.now) (placeGiven a.table.rank a.steps.now a.i + 1) r in
     omega (arith, f.allowed))
     (λ c. let s = c.before.before.before.before.before in omega (arith, repeat-inside s.args.steps.now s.args.i s.requires.1.1))
     (λ c. let h = c.before.before.before in
     let s = h.before.before in
     let a = s.args in
-    let r = head-on (h.read_head.ensures.0 a.table.rank) c.before.head.given.1 in
+    let r = numbered-on _ (head-on (h.read_head.ensures.0 a.table.rank) c.before.head.given.1) in
     let f = head-facts a.depth (a.i + 1) (bytesGiven a.table.rank a.steps.now) (placeGiven a.table.rank a.steps.now a.i + 1) r in
     within-start (mesh_of a.mesh) (sizes_of a.table) (steps_given a.table.rank a.steps.now) (a.depth - 1) _ a.i (sharding_of a.table.rank a.sharding) (repeat-next a.steps.now a.i s.requires.1.1 a.table.rank a.depth) f.inside
     (omega (arith, repeat-inside a.steps.now a.i s.requires.1.1, given-length a.table.rank a.steps.now)) s.requires.1.0.sound)
@@ -145,10 +149,10 @@ pub +judge-record-judge-repeat-spec : {M : Type 1} → statement M
     let l = j.before.before in
     let h = l.before.before.before.before in
     let a = h.before.before.args in
-    let r = head-on (h.read_head.ensures.0 a.table.rank) l.before.before.head.given.1 in
+    let r = numbered-on _ (head-on (h.read_head.ensures.0 a.table.rank) l.before.before.head.given.1) in
     let stop = read-stopped _ j.judge-record.ensures.reads c.before.before.enum-told2.given.1 c.before.refusal2.ensures in
-    retold (c.refused2.ensures a.table.rank) (inside-halts (mesh_of a.mesh) (sizes_of a.table) (steps_given a.table.rank a.steps.now) a.depth a.i (sharding_of a.table.rank a.sharding) r
-    (within-stops (mesh_of a.mesh) (sizes_of a.table) (steps_given a.table.rank a.steps.now) (a.depth - 1) l.loop.invariant j.before.loop-test.true stop)))
+    retold (c.refused2.ensures a.table.rank) (numbered-stops _ _ (λ n k q. inside-halts (mesh_of a.mesh) (sizes_of a.table) (steps_given a.table.rank a.steps.now) a.depth a.i (sharding_of a.table.rank a.sharding) r
+    (within-stops (mesh_of a.mesh) (sizes_of a.table) (steps_given a.table.rank a.steps.now) (a.depth - 1) l.loop.invariant j.before.loop-test.true q)) stop))
     (λ c. let j = c.before.before.before.before in
     let l = j.before.before in
     let g = l.loop.invariant in
@@ -157,7 +161,7 @@ pub +judge-record-judge-repeat-spec : {M : Type 1} → statement M
     let a = s.args in
     let p = s.requires.1.0.shaped in
     let n = few-inner h.read_head.ensures.1 l.before.before.head.given.1 in
-    let m = read-on _ j.judge-record.ensures.reads c.before.before.next.given.1 in
+    let m = numbered-on _ (read-on _ j.judge-record.ensures.reads c.before.before.next.given.1) in
     let k = is-ranked (mesh_of a.mesh) (sizes_of a.table) a.table.rank p.rank_is p.fits.rank a.steps.now a.i in
     let f = ran_few (mesh_of a.mesh) (sizes_of a.table) (steps_given a.table.rank a.steps.now) (a.depth - 1) g k p.fits.sized.least j.before.loop-test.true m in
     omega (arith, f, g.inner.takes.few, g.inner.runs_are, g.inner.few, n))
@@ -171,7 +175,7 @@ pub +judge-record-judge-repeat-spec : {M : Type 1} → statement M
     let s = l.before.before.before.before.before.before in
     let a = s.args in
     let p = s.requires.1.0.shaped in
-    let m = read-on _ j.judge-record.ensures.reads c.before.before.before.next.given.1 in
+    let m = numbered-on _ (read-on _ j.judge-record.ensures.reads c.before.before.before.next.given.1) in
     let k = is-ranked (mesh_of a.mesh) (sizes_of a.table) a.table.rank p.rank_is p.fits.rank a.steps.now a.i in
     within_step (mesh_of a.mesh) (sizes_of a.table) (steps_given a.table.rank a.steps.now) (a.depth - 1) l.loop.invariant k p.fits.sized.least j.before.loop-test.true m)
     (λ c κs. let l = c.before in
@@ -187,6 +191,6 @@ pub +judge-record-judge-repeat-spec : {M : Type 1} → statement M
     let g = l.loop.invariant in
     let h = l.before.before.before.before in
     let a = h.before.before.args in
-    let r = head-on (h.read_head.ensures.0 a.table.rank) l.before.before.head.given.1 in
+    let r = numbered-on _ (head-on (h.read_head.ensures.0 a.table.rank) l.before.before.head.given.1) in
     let done = within-done (mesh_of a.mesh) (sizes_of a.table) (steps_given a.table.rank a.steps.now) (a.depth - 1) g c.before.loop-test.false in
-    retold c.close-repeat.ensures (closes (mesh_of a.mesh) (sizes_of a.table) (steps_given a.table.rank a.steps.now) a.depth a.i (sharding_of a.table.rank a.sharding) r _ _ done g.inner.number_is g.inner.runs_are g.inner.here))
+    retold c.close-repeat.ensures (ap step_numbered (closes (mesh_of a.mesh) (sizes_of a.table) (steps_given a.table.rank a.steps.now) a.depth a.i (sharding_of a.table.rank a.sharding) r _ _ done g.inner.number_is g.inner.runs_are g.inner.here)))

@@ -1,11 +1,10 @@
 use native.Mathlib.Omega.{arith}
 use Prim.Native.Nat.{◌+◌, ◌*◌, ◌-◌}
-use mathlib.Core.Path.{◌≡◌, refl, sym, ap, ap₂, ◌∙◌}
-use mathlib.Core.List.{◌++◌}
+use mathlib.Core.Path.{◌≡◌, sym, ap, ◌∙◌}
 use lib.ListN.{length}
 use Rattle.types.specs.Types.{axes_of}
 use Rattle.strided.specs.Strided.{counted}
-use Rattle.strided.proofs.Joins.{digit-tail, digit-front}
+use Rattle.strided.proofs.Joins.{digit-tail}
 use Rattle.moves.proofs.Dims.{DimFacts, dim-facts}
 use Rattle.moves.proofs.dim_digits.Statement.{statement}
 use Rattle.moves.proofs.dim_digits.Tie as tie
@@ -59,14 +58,11 @@ dim-digits-spec =
     (λ c. let s = c.before.before.before.before.before.before.before.before.before.before.before.before.before.before.before.before.before.before.before.before in
     let e = c.before.before.before.before.before.before.before.before.before.before.before.before.before.before.before.Span-of.ensures in
     let g = c.before.before.before.before.before.before.before.before.axis-digits.ensures in
-    let p = c.before.before.before.before.before.before.before.before.before.before.before.before.before.put-digit in
-    let first = s.args.end - 3 in
-    let q : first + 3 ≡ s.args.end = omega (arith, s.pre.front.room) in (
+    let q : s.args.end - 3 + 3 ≡ s.args.end = omega (arith, s.pre.front.room) in (
       rw e at g.0,
       (
-        g.1.0
-            ∙ ap₂ ◌++◌ (digit-front _ first (first - 3 * length (axes_of s.args.gathered)) _ p.ensures (omega arith) (omega (arith, s.pre.front.inside)))
-            (rw (digit-tail _ first p.ensures (omega (arith, s.pre.front.inside)), q, e) refl),
+        digit-tail _ (s.args.end - 3 - 3 * length (axes_of s.args.gathered)) g.1.0 (omega (arith, s.pre.front.inside, c.before.before.before.before.before.before.before.before.before.before.before.before.before.put-digit.kept.0))
+            ∙ rw (digit-tail _ (s.args.end - 3) c.before.before.before.before.before.before.before.before.before.before.before.before.before.put-digit.ensures (omega (arith, s.pre.front.inside)), q, e),
         (g.1.1, rw e at c.before.before.add-slice.ensures),
       ),
     )))

@@ -1,12 +1,14 @@
 use native.Mathlib.Omega.{arith}
-use Prim.Native.Nat.{◌-◌, ◌*◌}
-use mathlib.Core.Path.{refl, ◌∙◌}
-use lib.ListN.{length}
+use Prim.Native.Nat.{ℕ, ◌-◌, ◌*◌}
+use mathlib.Core.Path.{refl, ap, ◌∙◌}
+use mathlib.Core.List.{List}
+use lib.ListN.{length, drop}
 use Rattle.rules.specs.Lists.{product}
+use Rattle.strided.proofs.Joins.{digit-tail}
 use Rattle.types.specs.Types.{axes_of}
-use Rattle.digits.specs.Digits.{Devices}
+use Rattle.digits.specs.Digits.{mesh_digits, Devices}
 use Rattle.moves.specs.Moves.{lists, moved_shape, first_strides, DimensionsAt}
-use Rattle.moves.proofs.Whole.{shape-asked, strides-asked, dims-asked, adding-asked, mesh-asked, strides_are, digits_are, added_are, begin-at}
+use Rattle.moves.proofs.Whole.{shape-asked, strides-asked, dims-asked, adding-asked, mesh-asked, digits_are}
 use Rattle.moves.proofs.make_digits.Statement.{statement}
 use Rattle.moves.proofs.make_digits.Tie as tie
 
@@ -31,7 +33,7 @@ dims : (c : tie.After-shape-digits)
     let Gs = lists shape s.args.gathers in
     let Ss = lists shape s.args.slices in
     let r = c.shape-digits in
-    DimensionsAt mesh shape Gs Ss s.args.digits.now (first_strides mesh shape (axes_of s.args.along)) s.args.added.now r.new.0 r.new.1.0 r.new.1.1.0 r.result
+    DimensionsAt mesh shape Gs Ss (first_strides mesh shape (axes_of s.args.along)) s.args.added.now r.new.0 r.new.1.0 r.new.1.1.0 r.result
     (product (moved_shape mesh shape Gs Ss)) (product shape) 0)
 dims c =
     rw (
@@ -75,8 +77,6 @@ make-digits-spec =
     let x = added a in
     let s = filled (shaped x) in
     let first = x.shape-digits.result - 3 * length s.args.mesh.now in
-    let e = digits_are s.pre (dims x) a.add-strides.ensures first (omega arith) m.mesh-digits.ensures in (
-      begin-at s.pre m.mesh-digits.new.0 first (omega (arith, (ready a).front.inside, x.shape-digits.kept.0)) e
-          (m.mesh-digits.auto.0 ∙ x.shape-digits.kept.0),
-      (e, (strides_are s.pre (dims x) a.add-strides.ensures, added_are s.pre (dims x))),
-    )))
+    digits_are s.pre (dims x) m.mesh-digits.new.0 first
+    (digit-tail _ first m.mesh-digits.ensures (omega (arith, (ready a).front.inside))
+    ∙ ap (λ (strides : List ℕ). mesh_digits s.args.mesh.now strides (drop x.shape-digits.result x.shape-digits.last.0)) a.add-strides.ensures)))

@@ -1,16 +1,13 @@
 use borrow.Author.Rules.{rules}
 use native.Mathlib.Omega.{arith}
-use Prim.Native.Nat.{ℕ, ◌≤◌, ◌<◌, ◌-◌, ◌*◌}
+use Prim.Native.Nat.{◌≤◌, ◌<◌, ◌-◌, ◌*◌}
 use mathlib.Core.Path.{◌≡◌, refl, ap, ap₂, ◌∙◌}
-use mathlib.Core.List.{List, ◌++◌}
-use lib.ListN.{length, take, drop}
+use mathlib.Core.List.{◌++◌}
+use lib.ListN.{length, take, drop, length-drop}
 use borrow.Rule.Slice.PartMut.{same_len_mid}
 use Rattle.rules.specs.Lists.{product}
 use Rattle.laws.proofs.Fronts.{tail_all, lent_length, lent-put}
 use Rattle.strided.specs.Strided.{Copy}
-use Rattle.strided.proofs.Joins.{digit-tail}
-use Rattle.types.specs.Types.{axes_of}
-use Rattle.moves.specs.Moves.{lists, step_digits}
 use Rattle.moves.proofs.Whole.{mesh-sizes, copy-asked, copy-leaves}
 use Rattle.moves.proofs.move_with.Statement.{statement}
 use Rattle.moves.proofs.move_with.Tie as tie
@@ -34,27 +31,21 @@ room : (c : tie.After-product-from) → (let s = made (counted c) in c.product-f
 room c = omega (arith, all_words c, (made (counted c)).requires.1.1)
 
 -- the digits of the step, as they are lent
-abbrev digits : tie.After-product-from → List ℕ
-digits c =
-    let s = made (counted c) in
-    let shape = s.args.shape.now in
-    step_digits s.args.mesh.now shape (axes_of s.args.along) (lists shape s.args.gathers) (lists shape s.args.slices)
-
 asked : (c : tie.After-product-from)
-    → (let s = made (counted c) in Copy (digits c) (product s.args.mesh.now * s.args.words) 0 (length s.args.old.now))
+    → (let r = (counted c).make-digits in
+    let s = made (counted c) in
+    Copy (drop r.result r.last.0) (product s.args.mesh.now * s.args.words) 0 (length s.args.old.now))
 asked c =
     let s = made (counted c) in
-    copy-asked s.pre.0 (digits c) _ (length s.args.old.now) refl refl s.pre.1.0
+    copy-asked s.pre.0 _ _ (length s.args.old.now) (counted c).make-digits.ensures refl s.pre.1.0
 
 within : (c : tie.After-product-from) → (let r = (counted c).make-digits in r.result < length r.last.0)
-within c = let r = (counted c).make-digits in omega (arith, (asked c).some, r.ensures.0, r.kept.0)
+within c = let r = (counted c).make-digits in omega (arith, (asked c).some, length-drop r.result r.last.0)
 
 lent : (c : tie.After-product-from)
-    → (let r = (counted c).make-digits in take (length r.last.0 - r.result) (drop r.result r.last.0) ≡ digits c)
-lent c =
-    let r = (counted c).make-digits in
-    tail_all r.last.0 r.result (length r.last.0 - r.result) (omega arith)
-    ∙ digit-tail _ r.result r.ensures.1.0 (omega (arith, r.ensures.0))
+    → (let r = (counted c).make-digits in
+    take (length r.last.0 - r.result) (drop r.result r.last.0) ≡ drop r.result r.last.0)
+lent c = let r = (counted c).make-digits in tail_all r.last.0 r.result (length r.last.0 - r.result) (omega arith)
 
 pub move-with-spec : {M : Type 1} → statement M
 move-with-spec =
@@ -74,7 +65,7 @@ move-with-spec =
     let s = made (counted p) in
     let r = (counted p).make-digits in (
       rw (lent p, lent_length s.args.new.now (p.product-from.result * s.args.words) (room p), all_words p) (asked p),
-      rw (lent p) (omega (arith, r.ensures.0, s.pre.0.room)),
+      rw (lent p) (omega (arith, length-drop r.result r.last.0, r.kept.0, s.pre.0.room)),
     ))
     (λ c. let r = c.before.before.copy-digits in
     let p = copied c.before.before in
@@ -90,4 +81,4 @@ move-with-spec =
     let n = p.product-from.result * s.args.words in
     lent-put new r.new.0 n
     ∙ ap₂ (λ l k. l ++ drop k new)
-    (rw (lent p) at r.ensures ∙ copy-leaves s.pre.0 0 (digits p) _ s.args.old.now refl (lent_length new n (room p) ∙ all_words p)) (all_words p)))
+    (rw (lent p) at r.ensures ∙ copy-leaves s.pre.0 0 _ _ s.args.old.now (counted p).make-digits.ensures (lent_length new n (room p) ∙ all_words p)) (all_words p)))

@@ -15,7 +15,7 @@ use Rattle.moves.proofs.shape_digits.Tie as tie
 abbrev invariant-loop : tie.invariant-loop
 invariant-loop digits₀ strides₀ added₀ mesh shape gathers slices first₀ count₀ w₀ j₀ digits strides added first count w j = (j ≤ length shape) × (length digits ≡ length digits₀)
     × (length strides ≡ length strides₀) × (length added ≡ length added₀)
-    × DimensionsAt mesh shape (lists shape gathers) (lists shape slices) digits₀ strides₀ added₀ digits strides added first count w j
+    × DimensionsAt mesh shape (lists shape gathers) (lists shape slices) strides₀ added₀ digits strides added first count w j
 
 abbrev decreases-loop : tie.decreases-loop
 decreases-loop digits₀ strides₀ added₀ mesh shape gathers slices first₀ count₀ w₀ j₀ digits strides added first count w j = j

@@ -1,11 +1,14 @@
 use borrow.Author.Rules.{rules}
 use native.Mathlib.Omega.{arith}
 use native.Mathlib.Nat.{zero-mul}
-use Prim.Native.Nat.{◌≤◌, ◌*◌, ◌-◌, ◌+◌, ◌/◌, ◌%◌}
-use mathlib.Core.Path.{sym, ◌∙◌}
-use lib.ListN.{length, get_or}
+use Prim.Native.Nat.{ℕ, ◌≤◌, ◌*◌, ◌-◌, ◌+◌, ◌/◌, ◌%◌}
+use mathlib.Core.Path.{◌≡◌, sym, ap, ◌∙◌}
+use mathlib.Core.List.{◌++◌}
+use lib.ListN.{length, get_or, drop}
+use Rattle.rules.specs.Lists.{tab}
 use Rattle.laws.proofs.Fronts.{Filled, fill_start, fill-part, part_length, next-part, part_in}
-use Rattle.order.proofs.Loops.{shard-words, shards-placed}
+use Rattle.order.specs.Order.{words_by_place}
+use Rattle.order.proofs.Loops.{shard-words}
 use Rattle.order.proofs.place_shards.Statement.{statement}
 use Rattle.order.proofs.place_shards.Tie as tie
 
@@ -35,6 +38,7 @@ inside c =
     )
 
 pub place-shards-spec : {M : Type 1} → statement M
+unfolding words_by_place
 place-shards-spec =
     tie.close
     (tie.spec
@@ -74,4 +78,6 @@ place-shards-spec =
     (λ c. c.before.loop.invariant.1.size)
     (λ c. let l = c.before in
     let a = l.before.before.before.before.args in
-    shards-placed 0 a.from.now a.to.now a.order.now l.loop.i a.m l.loop.invariant.1 (omega (arith, c.loop-test.false, l.loop.invariant.0))))
+    let word : ℕ → ℕ = λ t. get_or a.from.now (get_or a.order.now (t / a.m) 0 * a.m + t % a.m) 0 in
+    let e : l.loop.i ≡ length a.order.now = omega (arith, c.loop-test.false, l.loop.invariant.0) in
+    l.loop.invariant.1.front ∙ ap (λ (k : ℕ). tab (k * a.m) word ++ drop (k * a.m) a.to.now) e))

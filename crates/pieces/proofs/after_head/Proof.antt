@@ -21,7 +21,6 @@ after-head-spec =
       frames = fs;
       behind = a.inner - 1;
       ran = 0;
-      moved = 0;
       number = q.number + 1;
       largest = q.largest;
       sharding = sharding_of rank q.sharding;

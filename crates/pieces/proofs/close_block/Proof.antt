@@ -2,10 +2,9 @@ use borrow.Author.Rules.{rules}
 use borrow.Author.Tests.{not-true, not-false}
 use native.Mathlib.Omega.{arith}
 use native.Mathlib.Nat.{mul-le-mul}
-use Prim.Native.Nat.{◌+◌, ◌*◌, ◌≤◌}
+use Prim.Native.Nat.{◌*◌, ◌≤◌}
 use mathlib.Core.Path.{sym, ◌∙◌, subst}
-use Rattle.rules.specs.Limits.{most_run, most_bytes}
-use Rattle.units.proofs.Sounds.{rounds-few}
+use Rattle.rules.specs.Limits.{most_run}
 use Rattle.pieces.specs.declared.Stepped.{Stepped}
 use Rattle.pieces.specs.Held.{ClosedTo}
 use Rattle.pieces.proofs.Blocks.{first_is, around_first, changed, too_many, closes, framed-first, framed-rest}
@@ -27,8 +26,8 @@ close-block-spec =
     (λ c. let s = c.before.before.before.before.before in
     let a = s.args in
     let k : a.standing.frames.first.count ≤ 255 = omega arith in
-    let r : a.standing.ran ≤ (most_bytes + 2) * most_run = omega (arith, s.requires.0.number_few, s.requires.0.ran_few) in
-    let m : a.standing.frames.first.count * a.standing.ran ≤ 255 * ((most_bytes + 2) * most_run) = mul-le-mul k r in
+    let r : a.standing.ran ≤ 65535 * most_run = omega (arith, s.requires.0.ran_few) in
+    let m : a.standing.frames.first.count * a.standing.ran ≤ 255 * (65535 * most_run) = mul-le-mul k r in
     omega (arith, m))
     (λ c κs. search rules)
     (λ c. let s = c.before.before.before.before.before.before.before in
@@ -36,36 +35,23 @@ close-block-spec =
     subst (λ (x : Stepped). ClosedTo x.turn a.rank a.standing x.standing) (sym c.stopped2.ensures)
     (too_many a.rank a.standing (around_first a.rank a.standing) (first_is a.rank a.standing s.requires.0 s.requires.1)
     (sym c.before.before.before.before.before.same-sharding.ensures ∙ not-false _ c.before.before.before.before.if1.false) c.before.if2.true))
-    (λ c. search rules)
+    (λ c κs. let s = c.before.before.before.before.before.before in (s.requires.1, s.requires.0.deep))
     (λ c. let s = c.before.before.before.before.before.before.before.before in
-    let q = s.args.standing in
-    omega (arith, rounds-few q.frames.first.count q.ran q.moved 0 0 s.requires.0.moved_few (omega arith), c.before.before.if2.false))
-    (λ c κs. let s = c.before.before.before.before.before.before.before.before in (s.requires.1, s.requires.0.deep))
-    (λ c. let s = c.before.before.before.before.before.before.before.before.before.before in
     let a = s.args in
     let g = framed-first a.rank a.standing (around_first a.rank a.standing) (first_is a.rank a.standing s.requires.0 s.requires.1) s.requires.0 in
-    omega (arith, g.0, g.1, s.requires.0.number_few, c.before.before.before.before.if2.false))
-    (λ c. let s = c.before.before.before.before.before.before.before.before.before.before.before in
+    omega (arith, g.1, c.before.before.if2.false))
+    (λ c. let s = c.before.before.before.before.before.before.before.before in
     let a = s.args in
-    let q = a.standing in
-    let g = framed-first a.rank q (around_first a.rank q) (first_is a.rank q s.requires.0 s.requires.1) s.requires.0 in
-    let m = rounds-few q.frames.first.count q.ran q.moved q.frames.first.ran q.frames.first.moved s.requires.0.moved_few g.2 in
-    omega (arith, m, g.0, g.1, s.requires.0.number_few, c.before.before.before.before.before.if2.false))
-    (λ c. let s = c.before.before.before.before.before.before.before.before.before.before.before in
-    let a = s.args in
-    let q = a.standing in
-    let around = c.before.before.around.ensures in
-    let few = c.before.before.before.before.before.if2.false in
-    let same = c.before.before.before.before.before.before.before.before in
-    let g = framed-first a.rank q _ (around.0 a.rank) s.requires.0 in (
-      closes a.rank q _ (around.0 a.rank) (sym same.before.same-sharding.ensures ∙ not-false _ same.if1.false) few,
+    let around = c.before.around.ensures in
+    let few = c.before.before.if2.false in
+    let g = framed-first a.rank a.standing _ (around.0 a.rank) s.requires.0 in (
+      closes a.rank a.standing _ (around.0 a.rank)
+          (sym c.before.before.before.before.before.before.same-sharding.ensures ∙ not-false _ c.before.before.before.before.before.if1.false) few,
       around.1,
       record {
         rank_few = s.requires.0.rank_few;
         deep = omega (arith, around.1, s.requires.0.deep);
-        number_few = s.requires.0.number_few;
         ran_few = omega (arith, g.0, g.1, few);
-        moved_few = rounds-few q.frames.first.count q.ran q.moved q.frames.first.ran q.frames.first.moved s.requires.0.moved_few g.2;
-        framed = framed-rest a.rank q _ (around.0 a.rank) s.requires.0;
+        framed = framed-rest a.rank a.standing _ (around.0 a.rank) s.requires.0;
       },
     )))

@@ -19,7 +19,6 @@ feed-head-spec =
     tie.close
     (tie.spec
     (λ c. omega (arith, c.before.before.requires.deep))
-    (λ c. search rules)
     (λ c κs. c.before.before.requires.some)
     (λ c. search rules)
     enum_told

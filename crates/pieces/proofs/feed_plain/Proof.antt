@@ -21,7 +21,6 @@ pub feed-plain-spec : {M : Type 1} → statement M
 feed-plain-spec =
     tie.close
     (tie.spec
-    (λ c. search rules)
     (λ c κs. let f = c.before.requires.ready.fits in (f.axes, f.rank))
     enum_told
     enum-told-2
@@ -33,7 +32,7 @@ feed-plain-spec =
     let mesh = mesh_of a.mesh in
     let sizes = sizes_of a.table in
     let q = standing_of a.table.rank a.standing in
-    let stop = read_by q.number a.unit.now s.requires ∙ read-stopped _ r.read-step.ensures.reads c.before.before.enum-told2.given.1 c.before.refusal.ensures in
+    let stop = read_by q.number a.unit.now s.requires ∙ read-stopped _ r.Read-step.ensures.reads c.before.before.enum-told2.given.1 c.before.refusal.ensures in
     ap (waiting_as mesh sizes a.table.rank a.unit.now) c.refused.ensures
     ∙ tried-stops (step_at (length mesh) (length sizes) q.number a.unit.now 0) (record { unit = a.unit.now; phase = units.in_steps mesh sizes q })
     (λ (t : Read rules.Step). units.after_plain mesh sizes q t.value) stop)
@@ -44,7 +43,7 @@ feed-plain-spec =
     let mesh = mesh_of a.mesh in
     let sizes = sizes_of a.table in
     let q = standing_of a.table.rank a.standing in
-    let read = read_by q.number a.unit.now s.requires ∙ read-on _ r.read-step.ensures.reads c.before.before.enum_told.given.1 in
+    let read = read_by q.number a.unit.now s.requires ∙ read-on _ r.Read-step.ensures.reads c.before.before.enum_told.given.1 in
     ap units.turned c.after-plain.ensures
     ∙ tried-on (step_at (length mesh) (length sizes) q.number a.unit.now 0) (record { unit = a.unit.now; phase = units.in_steps mesh sizes q })
     (λ (t : Read rules.Step). units.after_plain mesh sizes q t.value) read))

@@ -2,7 +2,6 @@ use borrow.Author.Rules.{rules}
 use native.Mathlib.Omega.{arith}
 use Prim.Native.Nat.{ℕ, ◌+◌, ◌-◌, ◌*◌, ◌<◌}
 use mathlib.Core.Path.{refl, sym, ◌∙◌}
-use Rattle.rules.specs.Spread.{add_words}
 use borrow.Fn.Kinds.{In}
 use borrow.Fn.PlainCycle.{Measures, is, falls, and}
 use Rattle.rounds.proofs.Steps.{by}
@@ -52,14 +51,14 @@ run-row-below t = and 3 run-row-kinds.ps (falls 3 run-row-kinds.ps ◌<◌ μ-ru
 
 abbrev run-block-Inv-loop : run-block-lts.invariant-loop
 run-block-Inv-loop file mesh table depth from work₀ spare₀ at sharding rounds inner here₀ i₀ work spare here i =
-    RoundsRun mesh table file depth from add_words rounds inner work₀ spare₀ i here work spare
+    RoundsRun mesh table file depth from rounds inner work₀ spare₀ i here work spare
 
 abbrev run-block-μ-loop : run-block-lts.decreases-loop
 run-block-μ-loop file mesh table depth from work₀ spare₀ at sharding rounds inner here₀ i₀ work spare here i = rounds - i
 
 abbrev run-row-Inv-loop : run-row-lts.invariant-loop
 run-row-Inv-loop file mesh table count depth work₀ spare₀ here₀ done₀ work spare here done =
-    RowRun mesh table file depth add_words count here₀ work₀ spare₀ done here work spare
+    RowRun mesh table file depth count here₀ work₀ spare₀ done here work spare
 
 abbrev run-row-μ-loop : run-row-lts.decreases-loop
 run-row-μ-loop file mesh table count depth work₀ spare₀ here₀ done₀ work spare here done = count - done
@@ -82,23 +81,23 @@ pub +run-block-run-item-run-row-spec : {M : Type 1} → statement M
     (λ c. let g = c.before.before.before.before.before.requires.1 in omega (arith, bytes_inside _ _ _ _ _ g, g.short))
     (λ c. omega (arith, bytes_inside _ _ _ _ _ c.before.before.before.before.before.before.requires.1))
     (λ c. omega (arith, c.shared-slice-known3.given (c.before.before.before.before.before.before.args.from.at + 2)))
-    (λ c. rounds-start _ _ _ _ _ add_words _ _ c.before.before.before.before.before.before.requires.1 refl refl)
+    (λ c. rounds-start _ _ _ _ _ _ _ c.before.before.before.before.before.before.requires.1 refl refl)
     (λ c. let g = c.before.before.before.before.before.before.before.before.requires.1 in
     omega (arith, bytes_inside _ _ _ _ _ g, g.short))
     (λ c. let g = c.before.before.before.before.before.before.before.before.before.requires.1 in
     omega (arith, bytes_inside _ _ _ _ _ g, g.short, g.number_few))
     (λ c κs. let l = c.before.before.before.before in
-    (omega (arith, l.before.before.before.before.before.before.before.requires.0), rounds-next _ _ _ _ _ add_words l.loop.invariant))
+    (omega (arith, l.before.before.before.before.before.before.before.requires.0), rounds-next _ _ _ _ _ l.loop.invariant))
     (λ c. let l = c.before.before.before.before.before.before.before.before in
     let k = l.before.before.before in
     omega (arith, l.loop-test.true, k.shared-slice-known2.given (k.before.before.before.before.before.args.from.at + 1)))
     (λ c. search rules)
     (λ c. let r = c.before.before.before.before in
     let l = r.before.before.before.before in
-    rounds-step _ _ _ _ _ add_words l.before.loop.invariant l.loop-test.true _ _ r.run_row.ensures (search rules) (search rules))
+    rounds-step _ _ _ _ _ l.before.loop.invariant l.loop-test.true _ _ r.run_row.ensures (search rules) (search rules))
     (λ c. c.before.loop.invariant.work-long)
     (λ c. c.before.loop.invariant.spare-long)
-    (λ c. rounds-done _ _ _ _ _ add_words c.before.loop.invariant c.loop-test.false))
+    (λ c. rounds-done _ _ _ _ _ c.before.loop.invariant c.loop-test.false))
     (λ t. run-item-lts.spec
     (is-repeat-reads.Asked, is-repeat-reads.Learnt, run-block-below t, run-block.Post, run-plain-reads.Asked, run-plain-reads.Learnt)
     (run-item-at t)
@@ -127,14 +126,14 @@ pub +run-block-run-item-run-row-spec : {M : Type 1} → statement M
     run_row.Post
     run-row-Inv-loop
     run-row-μ-loop
-    (λ c. row-start _ _ _ _ add_words _ _ c.before.before.before.requires.1)
+    (λ c. row-start _ _ _ _ _ _ c.before.before.before.requires.1)
     (λ c κs. let l = c.before.before in
-    (omega (arith, l.before.before.before.before.before.requires.0), row_next _ _ _ _ add_words l.before.loop.invariant l.loop-test.true))
+    (omega (arith, l.before.before.before.before.before.requires.0), row_next _ _ _ _ l.before.loop.invariant l.loop-test.true))
     (λ c. let l = c.before.before.before.before.before.before.before.loop-test.true in search rules)
     (λ c. search rules)
     (λ c. let r = c.before.before.before.before in
     let l = r.before.before.before in
-    row_step _ _ _ _ add_words l.before.loop.invariant l.loop-test.true _ _ r.run-item.ensures (search rules) (search rules))
+    row_step _ _ _ _ l.before.loop.invariant l.loop-test.true _ _ r.run-item.ensures (search rules) (search rules))
     (λ c. c.before.loop.invariant.work-long)
     (λ c. c.before.loop.invariant.spare-long)
-    (λ c. row_done _ _ _ _ add_words c.before.loop.invariant c.loop-test.false))
+    (λ c. row_done _ _ _ _ c.before.loop.invariant c.loop-test.false))

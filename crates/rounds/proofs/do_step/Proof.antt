@@ -4,7 +4,6 @@ use mathlib.Core.Path.{sym, ap, ◌∙◌}
 use lib.ListN.{length-map}
 use lib.Seq.{length-take-le}
 use Rattle.rules.specs.Lists.{product}
-use Rattle.rules.specs.Spread.{add_words}
 use Rattle.rounds.proofs.Turns.{turn-asks, turned}
 use Rattle.rounds.proofs.do_step.Statement.{statement}
 use Rattle.rounds.proofs.do_step.Tie as tie
@@ -52,5 +51,5 @@ do-step-spec =
     let t = b.before.take_step in
     let s = b.before.before.before.before.before in
     let l = sym (slice-aggregate-step-from-2 o.before) ∙ b.shard-of.ensures.0 in
-    turned t.result s.requires t.ensures.reads b.shard-of.ensures.1 l (u.words.ensures ∙ ap product u.before.shard-of2.ensures.1) add_words 0 _ _
+    turned t.result s.requires t.ensures.reads b.shard-of.ensures.1 l (u.words.ensures ∙ ap product u.before.shard-of2.ensures.1) _ _
     o.step_from.ensures.0 o.step_from.ensures.1))

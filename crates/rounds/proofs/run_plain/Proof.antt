@@ -1,6 +1,5 @@
 use borrow.Author.Rules.{rules}
 use native.Mathlib.Omega.{arith}
-use Rattle.rules.specs.Spread.{add_words}
 use Rattle.rounds.proofs.Plain.{plain-asks, plain-numbered, plain-read, plain-ran}
 use Rattle.rounds.proofs.run_plain.Statement.{statement}
 use Rattle.rounds.proofs.run_plain.Tie as tie
@@ -18,11 +17,11 @@ run-plain-spec =
     (λ c. search rules)
     (λ c. search rules)
     (λ c. let d = c.before.before.before.before.before.before in
-    absurd (plain-read _ _ d.before.before.before.before.before.before.requires add_words _ _ d.do-turn.ensures c.enum_told.given.1))
+    absurd (plain-read _ _ d.before.before.before.before.before.before.requires _ _ d.do-turn.ensures c.enum_told.given.1))
     (λ c. omega (arith, plain-numbered c.before.before.before.before.before.before.before.before.before.before.before.before.before.before.before.requires))
     (λ c κs. search rules)
     (λ c. search rules)
     (λ c. search rules)
     (λ c. let n = c.before.before.before.before.before in
     let d = n.before.before.before.before.before.before in
-    plain-ran _ _ d.before.before.before.before.before.before.requires add_words _ _ d.do-turn.ensures n.next.given.1 c.before.Stands-after.ensures))
+    plain-ran _ _ d.before.before.before.before.before.before.requires _ _ d.do-turn.ensures n.next.given.1 c.before.Stands-after.ensures))

@@ -4,7 +4,6 @@ use Prim.Native.Nat.{ℕ, ◌≤◌, ◌<◌}
 use mathlib.Core.Path.{◌≡◌, sym, ap, ◌∙◌}
 use lib.ListN.{length, take, replicate}
 use Rattle.rules.specs.Lists.{pick}
-use Rattle.rules.specs.Spread.{add_words}
 use Rattle.rules.specs.PlanFile.{room}
 use Rattle.types.specs.Answers.{run_meaning}
 use Rattle.types.specs.declared.Ran.{Ran}
@@ -56,7 +55,7 @@ run_spec =
     let s = j.before.before.before.before in
     let e = whole-stopped _ _ j.judge-file.ensures c.before.before.enum_told.given.1 c.before.refusal.ensures in
     run-promise _ _ _ c.refused.result (λ i. (j.before.before.slice-known.given i).fits)
-    (stops-file add_words 0 0 _ s.args.work.now s.args.spare.now e
+    (stops-file _ s.args.work.now s.args.spare.now e
     ∙ ap (λ (x : Ran). record { outcome = run_meaning x.outcome; moved = x.moved; work = s.args.work.now; spare = s.args.spare.now }) (sym c.refused.ensures)))
     (λ c. let b = bounded _ (plan-held _ _ c.before.before.before.before.judge-file.ensures c.before.before.next.given.1) in
     omega (arith, b.room_few))
@@ -66,7 +65,7 @@ run_spec =
     let h = plan-held _ _ j.judge-file.ensures c.before.before.before.before.next.given.1 in
     let l : length s.args.work.now < room h.0 = omega (arith, h.2.room_is, c.before.if1.true) in
     run-promise _ _ _ c.refused2.result (λ i. (j.before.before.slice-known.given i).fits)
-    (stops-work add_words 0 0 _ s.args.work.now s.args.spare.now h.1 l
+    (stops-work _ s.args.work.now s.args.spare.now h.1 l
     ∙ ap (λ (x : Ran). record { outcome = run_meaning x.outcome; moved = x.moved; work = s.args.work.now; spare = s.args.spare.now }) (sym c.refused2.ensures)))
     (λ c κs. search rules)
     (λ c. let j = c.before.before.before.before.before.before.before in
@@ -75,7 +74,7 @@ run_spec =
     let w : room h.0 ≤ length s.args.work.now = omega (arith, h.2.room_is, c.before.before.if1.false) in
     let l : length s.args.spare.now < room h.0 = omega (arith, h.2.room_is, c.before.if2.true) in
     run-promise _ _ _ c.refused3.result (λ i. (j.before.before.slice-known.given i).fits)
-    (stops-spare add_words 0 0 _ s.args.work.now s.args.spare.now h.1 w l
+    (stops-spare _ s.args.work.now s.args.spare.now h.1 w l
     ∙ ap (λ (x : Ran). record { outcome = run_meaning x.outcome; moved = x.moved; work = s.args.work.now; spare = s.args.spare.now }) (sym c.refused3.ensures)))
     (λ c κs. let j = c.before.before.before.before.before.before.before.before in
     let h = plan-held _ _ j.judge-file.ensures c.before.before.before.before.before.before.next.given.1 in
@@ -107,10 +106,10 @@ run_spec =
     let q : room h.0 ≤ length spare = omega (arith, h.2.room_is, r.before.before.before.if2.false) in
     let lw : length g.bring-home.new.1.1.0 ≡ length work = search rules in
     let ls : length r.run-plan.new.1.1.1.1.0 ≡ length spare = search rules in
-    let e = v.last-words.ensures ∙ last-size h add_words 0 work in
+    let e = v.last-words.ensures ∙ last-size h work in
     let f = ap (λ (n : ℕ). take n g.bring-home.new.1.1.0) (sym e) ∙ g.bring-home.ensures.1
     ∙ ap (λ (n : ℕ). take n (pick r.run-plan.result r.run-plan.new.1.1.1.0 r.run-plan.new.1.1.1.1.0)) e
     ∙ r.run-plan.ensures h.0 h.1 in
     run-promise _ _ _ _ (λ i. (j.before.before.slice-known.given i).fits)
-    (finishes add_words 0 0 _ work spare h.1 (w, q) h.2.moved_is (cleared-behind 0 _ work _ _ _ e (sub-clear c.before.before.before.before) lw f c.before.before.clear.ensures)
+    (finishes _ work spare h.1 (w, q) h.2.moved_is (cleared-behind _ work _ _ _ e (sub-clear c.before.before.before.before) lw f c.before.before.clear.ensures)
     (g.bring-home.ensures.0 ∙ ap (λ (n : ℕ). replicate n 0) ls))))

@@ -5,7 +5,6 @@ use mathlib.Core.Path.{◌≡◌, sym, ap, ◌∙◌, subst, transport}
 use lib.ListN.{length}
 use Rattle.rules.specs.Lists.{tab}
 use Rattle.rules.specs.Mesh.{Rearrangement}
-use Rattle.rules.specs.Spread.{add_words}
 use Rattle.rules.specs.PlanFile.{u16_at}
 use Rattle.order.specs.Order.{places_of, ShardsFit}
 use Rattle.plan.proofs.Wholes.{bounded}
@@ -58,7 +57,7 @@ run-by-place-spec =
     (λ c. search rules)
     (λ c. let s = c.before.before.before.before.before.before.before.before.before.before.before.before.before.before.before.before.before.before.before.before.before.before.before.before.before.before.before.before.before.before.before.before.before.before.before.before.before.before in
     let t = c.before.before.before.before.before.before.before.before.before.before.before.before.before.run-steps in
-    begins-ordered add_words 0 _ _ _ _ _ _ t.result
-    (start-stands s.requires.0 add_words 0 s.args.work.now _ (read c.before.before.before.before.before.before.before.before.before.before.before.before.before.before.before.before.before.before.before.before.before.before.before.before.before.before.before.before.before.before) c.before.before.before.before.before.before.before.before.before.before.before.before.before.before.before.before.before.before.before.before.before.before.words_of.ensures c.before.before.before.before.before.before.before.before.before.before.before.before.before.before.before.before.before.before.place-shards.ensures)
+    begins-ordered _ _ _ _ _ _ t.result
+    (start-stands s.requires.0 s.args.work.now _ (read c.before.before.before.before.before.before.before.before.before.before.before.before.before.before.before.before.before.before.before.before.before.before.before.before.before.before.before.before.before.before) c.before.before.before.before.before.before.before.before.before.before.before.before.before.before.before.before.before.before.before.before.before.before.words_of.ensures c.before.before.before.before.before.before.before.before.before.before.before.before.before.before.before.before.before.before.place-shards.ensures)
     t.ensures
-    (last-numbered s.requires.0 add_words 0 _ _ (inverse c.before.before.before.before.before.before.before.before.before.before.before.before.before.before.before.before.before.before.before.before.before.before.before.before.before) c.before.before.before.before.before.before.before.before.words-of2.ensures c.before.before.before.before.number-shards.ensures)))
+    (last-numbered s.requires.0 _ _ (inverse c.before.before.before.before.before.before.before.before.before.before.before.before.before.before.before.before.before.before.before.before.before.before.before.before.before) c.before.before.before.before.before.before.before.before.words-of2.ensures c.before.before.before.before.number-shards.ensures)))

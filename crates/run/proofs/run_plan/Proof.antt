@@ -1,6 +1,5 @@
 use borrow.Author.Rules.{rules}
 use mathlib.Core.Path.{refl, sym, ◌∙◌}
-use Rattle.rules.specs.Spread.{add_words}
 use Rattle.run.proofs.Ordered.{begins-plain}
 use Rattle.run.proofs.run_plan.Statement.{statement}
 use Rattle.run.proofs.run_plan.Tie as tie
@@ -17,4 +16,4 @@ run-plan-spec =
     (λ c. c.before.before.before.before.run-ordered.ensures)
     (λ c. search rules)
     (λ c. search rules)
-    (λ c. begins-plain add_words 0 _ _ refl c.before.before.before.before.before.before.before.before.before.before.before.before.requires (sym c.before.before.before.before.before.before.before.before.carries-order.ensures ∙ c.before.before.before.before.before.before.before.if1.false) c.before.before.before.before.run-steps.ensures))
+    (λ c. begins-plain _ _ refl c.before.before.before.before.before.before.before.before.before.before.before.before.requires (sym c.before.before.before.before.before.before.before.before.carries-order.ensures ∙ c.before.before.before.before.before.before.before.if1.false) c.before.before.before.before.run-steps.ensures))

@@ -1,5 +1,4 @@
 use borrow.Author.Rules.{rules}
-use Rattle.rules.specs.Spread.{add_words}
 use Rattle.run.proofs.Running.{row-can, row-taken}
 use Rattle.run.proofs.run_steps.Statement.{statement}
 use Rattle.run.proofs.run_steps.Tie as tie
@@ -12,4 +11,4 @@ run-steps-spec =
     (λ c. search rules)
     (λ c. search rules)
     (λ c. let r = c.before.before.before.before in
-    row-taken r.before.before.before.before.before.before.before.requires add_words _ _ _ _ r.run_row.ensures))
+    row-taken r.before.before.before.before.before.before.before.requires _ _ _ _ r.run_row.ensures))

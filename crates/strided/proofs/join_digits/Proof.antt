@@ -1,12 +1,13 @@
 use borrow.Author.Rules.{rules}
+use native.Mathlib.Omega.{arith}
 use mathlib.Core.Path.{◌≡◌, refl, ◌∙◌}
 use lib.ListN.{length}
-use Rattle.strided.proofs.Joins.{Made, made-start, put-asked, made-step, made-done}
+use Rattle.strided.proofs.Joins.{Made, made-start, digit-left, put-asked, made-step, made-done}
 use Rattle.strided.proofs.join_digits.Statement.{statement}
 use Rattle.strided.proofs.join_digits.Tie as tie
 
 abbrev invariant-loop : tie.invariant-loop
-invariant-loop joined₀ digits first₀ i₀ joined first i = Made digits joined₀ joined first i × (length joined ≡ length joined₀)
+invariant-loop joined₀ digits first₀ i₀ joined first i = Made digits joined first i × (length joined ≡ length joined₀)
 
 abbrev decreases-loop : tie.decreases-loop
 decreases-loop joined₀ digits first₀ i₀ joined first i = i
@@ -21,7 +22,7 @@ join-digits-spec =
     (λ c κs. search rules)
     (λ c. let p = c.before.before.put-digit in
     let s = c.before.before.before.before.before.before in
-    (made-start s.args.digits.now s.requires.0 s.args.joined.now s.requires.1 p.auto.0 p.ensures, refl))
+    (made-start s.args.digits.now s.requires.0 s.args.joined.now p.new.0 s.requires.1 p.ensures, refl))
     (λ c. search rules)
     (λ c. search rules)
     (λ c. search rules)
@@ -37,10 +38,8 @@ join-digits-spec =
     (λ c. let r = c.before.before.put-joined in
     let s = c.before.before.before.before.before.before.before.before.before.before.before.before.before.before.before in (
       made-step s.args.digits.now s.requires.0 c.before.before.before.before.before.before.before.before.loop.invariant.0 c.before.before.before.before.before.before.before.loop-test.true
-          r.new.0 r.result r.ensures.0 r.ensures.1,
+          r.new.0 r.result r.ensures,
       r.auto.0 ∙ c.before.before.before.before.before.before.before.before.loop.invariant.1,
     ))
     (λ c. search rules)
-    (λ c. let p = c.before.before.before.before.put-digit in
-    let s = c.before.before.before.before.before.before.before.before in
-    made-done s.args.digits.now s.requires.0 s.args.joined.now s.requires.1 p.auto.0 p.ensures c.before.loop.invariant.0 c.loop-test.false))
+    (λ c. made-done c.before.loop.invariant.0 c.loop-test.false))

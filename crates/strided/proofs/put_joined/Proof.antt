@@ -18,16 +18,15 @@ put-joined-spec =
     (λ c. let r = c.before.before.put-digit in
     let s = c.before.before.before.before.before.before.before.before in
     put-over s.requires r.new.0 c.before.before.before.before.if1.true r.ensures)
-    (λ c. put-none c.before.before.before.before.before.requires c.before.if1.false c.if2.true)
+    (λ c. put-none c.before.before.before.before.before.requires c.if2.true)
     (λ c. omega (arith, end_fits c.before.before.before.before.before.requires c.before.if1.false))
     (λ c. omega (arith, sizes-fit c.before.before.before.before.before.before.requires))
     (λ c. search rules)
     (λ c. search rules)
     (λ c. search rules)
-    (λ c. put_one c.before.before.before.before.before.before.requires c.before.before.if1.false c.before.if2.false c.if3.true)
+    (λ c. put_one c.before.before.before.before.before.before.requires c.if3.true)
     (λ c. search rules)
     (λ c κs. search rules)
     (λ c. search rules)
     (λ c. let r = c.before.before.put-digit2 in
-    let x = c.before.before.before.before in
-    put-before x.before.before.before.before.before.before.requires r.new.0 x.before.before.if1.false x.before.if2.false x.if3.false r.ensures))
+    put-before c.before.before.before.before.before.before.before.before.before.before.requires r.new.0 r.ensures))

@@ -1,4 +1,4 @@
-use Rattle.std.proofs.Common.{◌≡◌, [], ◌++◌, drop, ap, ◌∙◌, rules}
+use Rattle.std.proofs.Common.{◌≡◌, [], take, ap, ◌∙◌, rules}
 use Rattle.rules.specs.Lists.{tab}
 use Rattle.types.specs.Types.{axes_of}
 use Rattle.strided.specs.Strided.{offset}
@@ -24,19 +24,18 @@ left : (c : tie.After-list-shifts)
     c.list-shifts.new.1.0 ≡ cleared (axes_of s.args.axes) (mesh_strides s.args.mesh.now s.args.m))
 left c = c.list-shifts.ensures.1.1 ∙ ap (cleared (axes_of (filled (shifted c)).args.axes)) (shifted c).fill-strides.ensures
 
--- the members' shifts, and what was behind them
+-- the members' shifts
 shifts : (c : tie.After-list-shifts)
     → (let s = filled (shifted c) in
     let mesh = s.args.mesh.now in
-    c.list-shifts.new.0
-    ≡ shift_words mesh (axes_of s.args.axes) s.args.m ++ drop c.list-shifts.result s.args.shifts.now)
+    take c.list-shifts.result c.list-shifts.new.0 ≡ shift_words mesh (axes_of s.args.axes) s.args.m)
 unfolding shift_words
 shifts c =
     let s = filled (shifted c) in
     let mesh = s.args.mesh.now in
     let made = axis_digits mesh (axes_of s.args.axes) (mesh_strides mesh s.args.m) [] in
     rw c.before.before.before.before.before.fill-strides.ensures at c.list-shifts.ensures.1.0
-    ∙ ap (λ n. tab n (offset made) ++ drop c.list-shifts.result s.args.shifts.now) c.list-shifts.ensures.0
+    ∙ ap (λ n. tab n (offset made)) c.list-shifts.ensures.0
 
 pub fill-tables-spec : {M : Type 1} → statement M
 unfolding first_words
@@ -53,4 +52,4 @@ fill-tables-spec =
     (λ c. search rules)
     (λ c. let p = c.before.before in
     let x = placed p in
-    (x.list-shifts.ensures.0, (rw (left x) at p.list-firsts.ensures, (shifts x, left x)))))
+    (x.list-shifts.ensures.0, (rw (left x) at p.list-firsts.ensures, shifts x))))

@@ -1,16 +1,17 @@
-use Rattle.std.proofs.Common.{◌≡◌, ◌-◌, ◌*◌, ◌≤◌, [], ◌++◌, length, drop, refl, ap, ◌∙◌, mul-one, arith, length-take-le, rules}
+use Rattle.std.proofs.Common.{◌≡◌, ◌-◌, ◌*◌, ◌≤◌, [], length, refl, ap, ◌∙◌, mul-one, arith, length-take-le, rules}
 use native.Mathlib.Nat.{sub-zero}
 use lib.ListN.{length-map}
 use Rattle.rules.specs.Lists.{tab}
 use Rattle.rules.specs.Mesh.{span}
 use Rattle.rules.specs.Limits.{most_axes}
 use Rattle.types.specs.Types.{axes_of}
+use Rattle.laws.proofs.Lists.{length-tab}
 use Rattle.types.proofs.Types.{axes-length}
 use Rattle.strided.specs.Strided.{offset}
 use Rattle.strided.proofs.Joins.{digit-tail}
 use Rattle.digits.specs.Digits.{axis_digits}
 use Rattle.sums.specs.Sums.{axis_room}
-use Rattle.laws.proofs.Fronts.{tail_all, lent-put}
+use Rattle.laws.proofs.Fronts.{tail_all, lent-taken}
 use Rattle.sums.proofs.Tables.{axes-offsets, from_zero}
 use Rattle.sums.proofs.list_shifts.Statement.{statement}
 use Rattle.sums.proofs.list_shifts.Tie as tie
@@ -78,8 +79,8 @@ list-shifts-spec =
     ∙ from_zero r.result made in (
       members c.before.before.before.before.before.before.before.before.before.before,
       (
-        lent-put s.args.shifts.now c.before.before.list-offsets.new.0 r.result
-            ∙ ap (λ l. l ++ drop r.result s.args.shifts.now) listed,
+        lent-taken s.args.shifts.now c.before.before.list-offsets.new.0 r.result
+            (ap length listed ∙ length-tab r.result (offset made)) ∙ listed,
         r.ensures.1.1,
       ),
     )))

@@ -1,1 +1,0 @@
-"""The tests of the package, of its pages and of the tools: python3 -m unittest discover python"""
