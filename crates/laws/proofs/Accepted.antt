@@ -2,7 +2,7 @@
 -- limits, positive sizes, a sharding at the start, each plain step accepted in turn; the room by one pass. Records that omega reads. Assumes nothing.
 use Prim.Native.Nat.{ℕ, zero, suc, ◌+◌, ◌*◌, ◌<◌, ◌≤◌}
 use mathlib.Core.Path.{◌≡◌, refl, sym, ap, ◌∙◌, subst}
-use mathlib.Core.Logic.{◌⊎◌, inl, inr, ⊎_elim}
+use mathlib.Core.Logic.{inl, inr, ⊎_elim}
 use mathlib.Core.Bool.{Bool, true, false, not, ◌&&◌}
 use mathlib.Core.List.{List, [], ◌∷◌}
 use native.Mathlib.Nat.{mul-pos, mul_assoc, mul-le-mul}
@@ -14,7 +14,7 @@ use Rattle.rules.specs.Mesh.{devices, Rearrangement}
 use Rattle.rules.specs.Sharding.{Sharding, varying, divisible, shard_sizes, IsSharding}
 use Rattle.rules.specs.Collectives.{after}
 use Rattle.rules.specs.Limits.{present, every_kind, most_axes, most_devices, most_dims, most_words, most_steps, most_run, least_bytes, most_bytes}
-use Rattle.rules.specs.Refusals.{accept, ◌>>=◌, ◌>>◌}
+use Rattle.rules.specs.Refusals.{accept}
 use Rattle.rules.specs.PlanFile.{
   Read,
   u16_at,

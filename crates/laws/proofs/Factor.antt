@@ -2,8 +2,8 @@
 -- one of words at all its indexes (`table-words`), so that 1 times it is the table (`unscaled`); and a step that reduces unreduced axes alone has factor 1
 -- (`step-one`). Assumes nothing.
 use Prim.Native.Nat.{ℕ, ◌*◌, ◌%◌, ◌^◌, ◌<◌}
-use mathlib.Core.Path.{◌≡◌, refl, sym, ap, ap₂, ◌∙◌, subst, fun_ext}
-use mathlib.Core.List.{List, [], ◌∷◌, map}
+use mathlib.Core.Path.{◌≡◌, sym, ap, ◌∙◌, subst, fun_ext}
+use mathlib.Core.List.{List}
 use native.Mathlib.Nat.{mod-mod, mod-eq_of_lt, mul_comm, mul_assoc, one-mul}
 use lib.ListN.{length}
 use Rattle.rules.specs.Lists.{flat, In, Distinct, Below}

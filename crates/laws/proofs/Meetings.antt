@@ -1,5 +1,5 @@
 -- Two routes meet: the hypotheses of Ask 14's statements are had by four pairs of files, and by every table on every start (`routes_met`). Assumes nothing.
-use Prim.Native.Nat.{ℕ, zero, suc, ◌+◌, ◌^◌, ◌<◌}
+use Prim.Native.Nat.{ℕ, zero, suc, ◌^◌, ◌<◌}
 use mathlib.Core.Path.{◌≡◌, refl, sym, ap, ◌∙◌}
 use mathlib.Core.Logic.{inl}
 use mathlib.Core.List.{List, [], ◌∷◌, ◌++◌, map}
@@ -11,16 +11,14 @@ use Rattle.rules.specs.Lists.{Below, none, more}
 use Rattle.rules.specs.Mesh.{number, members}
 use Rattle.rules.specs.Sharding.{first_indexes}
 use Rattle.rules.specs.Spread.{add_words, held_by, from}
-use Rattle.rules.specs.Refusals.{accept}
-use Rattle.rules.specs.PlanFile.{Plan, judge, judge_by, announced, announced_shape}
+use Rattle.rules.specs.PlanFile.{judge_by, announced, announced_shape}
 use Rattle.rules.specs.Factor.{factor_after}
 use Rattle.rules.specs.Calls.{shards_after, run_of}
 use Rattle.rules.specs.Ledger.{file_in, file_of}
 use Rattle.rules.specs.WorkedFactors.{one_word, slice_second, gather_second}
 use Rattle.rules.specs.WorkedRepeats.{times, reduce, gather}
 use Rattle.rules.specs.WorkedRoutes.{scatter}
-use Rattle.laws.specs.Demands.{Words, SpreadAt, start_words}
-use Rattle.laws.specs.Routes.{OneEnd, OneSpread, NoneUnreduced}
+use Rattle.laws.specs.Demands.{start_words}
 use Rattle.laws.specs.Meetings.{
   Meetable,
   doubling,

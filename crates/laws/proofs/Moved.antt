@@ -17,24 +17,7 @@ use Rattle.rules.specs.Lists.{tab, both, flat, in_turn, product, mem, keep, with
 use Rattle.rules.specs.Mesh.{number, coords, devices, plain_order, span, position, member, members}
 use Rattle.rules.specs.Sharding.{Sharding, shard_sizes, first_indexes, IsSharding}
 use Rattle.rules.specs.Spread.{from}
-use Rattle.rules.specs.Collectives.{
-  Step,
-  allSlice,
-  allGather,
-  all_reduce,
-  all_to_all,
-  reduce_scatter,
-  step_axes,
-  after,
-  shape_after,
-  Place,
-  word,
-  owner,
-  slice_place,
-  reduce_places,
-  sources,
-  made,
-}
+use Rattle.rules.specs.Collectives.{Step, allSlice, allGather, all_reduce, all_to_all, reduce_scatter, step_axes, after, shape_after, Place, owner, slice_place, reduce_places, sources, made}
 use Rattle.rules.specs.Limits.{most_axes, most_devices, most_words}
 use Rattle.rules.specs.Refusals.{Judged, accept, refuse}
 use Rattle.rules.specs.PlanFile.{plain, StepsRead, JudgesSteps, steps_at, item_at, Plan, judge, judge_by, announced, announced_shape}

@@ -1,7 +1,7 @@
 -- Laws of an order of devices (specs/Mesh.antt). The test finds a rearrangement (`rearranged`), so an order that is read is one (`order-read`); numbers
 -- and coordinates under an order are inverse (`by_order`); a buffer by device number holds the state that it is made of (`held-tabulate-by`,
 -- `tabulate-held-by`); the listing is the one by place, each number looked up (`listing-places`). Assumes nothing.
-use Prim.Native.Nat.{ℕ, zero, suc, ◌+◌, ◌*◌, ◌/◌, ◌%◌, ◌<◌, ◌≤◌}
+use Prim.Native.Nat.{ℕ, zero, suc, ◌+◌, ◌*◌, ◌<◌, ◌≤◌}
 use mathlib.Core.Path.{◌≡◌, refl, sym, ap, ap₂, ◌∙◌, subst}
 use mathlib.Core.Logic.{inl, inr, ⊎_elim}
 use mathlib.Core.Bool.{Bool, true, false, not, ◌&&◌}

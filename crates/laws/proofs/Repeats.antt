@@ -11,7 +11,7 @@ use Rattle.rules.specs.Lists.{both, flat, in_turn, total}
 use Rattle.rules.specs.Sharding.{Sharding}
 use Rattle.rules.specs.Collectives.{Step, after}
 use Rattle.rules.specs.Limits.{most_run, most_depth}
-use Rattle.rules.specs.Refusals.{Judged, accept, ◌>>=◌, ◌>>◌}
+use Rattle.rules.specs.Refusals.{Judged, accept, ◌>>=◌}
 use Rattle.rules.specs.PlanFile.{
   step_at,
   judge_step,

@@ -8,7 +8,7 @@ use native.Mathlib.Nat.{mul-le-mul_left, mul-le-mul, le-mul_of_pos_right}
 use native.Mathlib.Omega.{arith}
 use native.Mathlib.Decide.{ℕ_discrete}
 use lib.ListN.{length, take}
-use Rattle.rules.specs.Lists.{tab, in_turn, flat, product, largest}
+use Rattle.rules.specs.Lists.{tab, flat, product, largest}
 use Rattle.rules.specs.Mesh.{span, devices, remaining}
 use Rattle.rules.specs.Sharding.{Sharding, named, shard_sizes, IsSharding}
 use Rattle.rules.specs.Collectives.{Step, after}

@@ -1,6 +1,6 @@
 -- Document 01, "Calls": what each of the calls answers, and leaves in the memory lent to it, on any input.
 -- Assumes nothing.
-use Rattle.std.specs.Prelude.{ℕ, ◌+◌, ◌-◌, false, List, [], ◌++◌, length, take, drop, replicate, ltb, leb}
+use Rattle.std.specs.Prelude.{ℕ, ◌-◌, false, List, [], ◌++◌, length, take, drop, replicate, ltb, leb}
 use Rattle.rules.specs.Lists.{in_turn}
 use Rattle.rules.specs.Mesh.{devices, plain_order, device_coords, listing}
 use Rattle.rules.specs.Sharding.{Sharding, first_indexes}

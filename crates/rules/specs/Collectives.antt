@@ -1,7 +1,7 @@
 -- Document 01, "The four steps", and the fifth of document 02, Ask 5. Each collective is defined once, by its sources: the places of the old words that each new word is made from.
 -- The words, the locality of a step and the bounds of the code all follow from them. Source document 001 decides on what a collective does to a
 -- sharding. Assumes nothing.
-use Rattle.std.specs.Prelude.{ℕ, ◌+◌, ◌-◌, ◌*◌, ◌/◌, ◌%◌, ◌≡◌, List, [], ◌∷◌, ◌++◌, map, length, set, take, drop, replicate, T}
+use Rattle.std.specs.Prelude.{ℕ, ◌-◌, ◌*◌, ◌/◌, ◌%◌, ◌≡◌, List, [], ◌∷◌, ◌++◌, map, length, set, take, drop, replicate, T}
 use Rattle.rules.specs.Lists.{each, flat, product, without, ascending}
 use Rattle.rules.specs.Mesh.{span, devices, member, members}
 use Rattle.rules.specs.Sharding.{Sharding, divisible, shard_sizes, first_indexes}

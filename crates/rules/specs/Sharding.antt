@@ -1,6 +1,6 @@
 -- Document 01, "Shardings and the spread of a table", its first paragraph: what a sharding is. Source document 001 decides on shardings.
 -- Assumes nothing.
-use Rattle.std.specs.Prelude.{ℕ, ◌+◌, ◌*◌, ◌/◌, ◌%◌, ◌<◌, Bool, List, ◌++◌, length, eqb, T}
+use Rattle.std.specs.Prelude.{ℕ, ◌*◌, ◌/◌, ◌%◌, ◌<◌, Bool, List, ◌++◌, length, eqb, T}
 use Rattle.rules.specs.Lists.{each, both, flat, In, Distinct}
 use Rattle.rules.specs.Mesh.{span, position}
 

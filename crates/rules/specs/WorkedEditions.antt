@@ -1,6 +1,6 @@
 -- Document 02, Ask 3: files of edition 2, whose sharding names axes that must stay replicated, as one table in the form of the ledger; what the
 -- reader of edition 1 answers; and what is no faithful spread and no sharding for the sake of such axes. Assumes nothing.
-use Rattle.std.specs.Prelude.{ℕ, ◌+◌, ◌<◌, ◌≡◌, refl, List, [], ◌∷◌, length, get_or, set, take}
+use Rattle.std.specs.Prelude.{ℕ, ◌+◌, ◌<◌, ◌≡◌, refl, List, [], ◌∷◌, get_or, set, take}
 use Rattle.std.proofs.Common.{sym, subst, inl, inr, arith, lit<}
 use Rattle.rules.specs.Lists.{tab, In, All, done, ◌&◌, none, more}
 use Rattle.rules.specs.Mesh.{number}

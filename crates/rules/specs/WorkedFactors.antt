@@ -9,7 +9,7 @@ use Rattle.rules.specs.Calls.{check_of, run_of}
 use Rattle.rules.specs.Factor.{scaled, reduced_axes, factor_after}
 use Rattle.rules.specs.Ledger.{Case, checked, Holds, file_in, file_of, passed, leaves, w7}
 use Rattle.rules.specs.WorkedEditions.{second}
-use Rattle.rules.specs.WorkedRepeats.{slice, gather, reduce, times}
+use Rattle.rules.specs.WorkedRepeats.{slice, reduce, times}
 use Rattle.rules.specs.WorkedOrders.{third}
 
 -- mesh 2, a table of one word; mesh 2x3, a table of six words, with unreduced axes

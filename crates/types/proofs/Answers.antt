@@ -2,7 +2,7 @@
 -- dimension and for each axis of a list (`check-in-places`, `place-in-places`). Assumes nothing.
 use Prim.Native.Nat.{ℕ, zero, suc, ◌+◌, ◌≤◌}
 use mathlib.Core.Path.{◌≡◌, sym, subst}
-use mathlib.Core.Logic.{◌⊎◌, inl, inr, ⊎_elim}
+use mathlib.Core.Logic.{inl, inr, ⊎_elim}
 use mathlib.Core.Bool.{Bool, true, ◌&&◌}
 use mathlib.Core.List.{List, [], ◌∷◌}
 use native.Mathlib.Omega.{arith}
@@ -31,6 +31,7 @@ each_listed [] = true
 each_listed (n ∷ l) = eqb (number_of (reason_of n)) n && each_listed l
 
 one-listed : (l : List ℕ) (n : ℕ) → T (each_listed l) → In n l → number_of (reason_of n) ≡ n
+one-listed [] n t x'' = elim x'' [ ]
 one-listed (m ∷ l) n t (inl e) =
     subst (λ z. number_of (reason_of z) ≡ z) (sym e) (eqb→eq (number_of (reason_of m)) m (T_and (eqb (number_of (reason_of m)) m) (each_listed l) t).0)
 one-listed (m ∷ l) n t (inr i) = one-listed l n (T_and (eqb (number_of (reason_of m)) m) (each_listed l) t).1 i
