@@ -1,0 +1,14 @@
+use borrow.Author.Rules.{rules}
+use Prim.Native.Nat.{◌-◌}
+use mathlib.Core.Path.{sym, ◌∙◌}
+use borrow.Author.Tests.{le-leb, lt-leb}
+use Rattle.rules.specs.PlanFile.{increasing_from}
+use Rattle.types.specs.Types.{axes_of}
+use Rattle.axes.proofs.Going.{Going, begin, ahead, onward, finish}
+use Rattle.axes.proofs.increasing.Given as goal
+
+abbrev pub invariant-loop-i : goal.invariant-loop-i
+invariant-loop-i l = Going (increasing_from 0 (axes_of l.list)) (increasing_from l.low) (axes_of l.list) l.count l.i
+
+abbrev pub decreases-loop-i : goal.decreases-loop-i
+decreases-loop-i l = l.count - l.i

@@ -1,0 +1,19 @@
+use borrow.Author.Rules.{rules}
+use native.Mathlib.Omega.{arith}
+use Prim.Native.Nat.{ℕ, ◌-◌, ◌≤◌}
+use mathlib.Core.Bool.{false, not}
+use mathlib.Core.List.{List, [], ◌∷◌, ◌++◌}
+use mathlib.Core.Path.{◌≡◌, ap, ◌∙◌}
+use lib.ListN.{length, get_or}
+use Rattle.rules.specs.Lists.{tab, pick, keep}
+use Rattle.types.specs.Types.{axes_of}
+use Rattle.axes.proofs.Lists.{kept-length}
+use Rattle.axes.proofs.Naming.{marked_next}
+use Rattle.axes.proofs.marked_below.Given as goal
+
+abbrev pub invariant-loop-i : goal.invariant-loop-i
+invariant-loop-i l =
+    (axes_of l.kept ≡ keep (λ a. get_or l.marks a false) (tab l.i (λ a. a))) × (length (axes_of l.kept) ≤ l.i) × (l.i ≤ l.n)
+
+abbrev pub decreases-loop-i : goal.decreases-loop-i
+decreases-loop-i l = l.n - l.i

@@ -1,0 +1,8 @@
+use native.Mathlib.Omega.{arith}
+use mathlib.Core.Path.{refl}
+use Rattle.mesh.proofs.Sizes.{product-step}
+use Rattle.mesh.proofs.product_from.Goals as goal
+
+pub overflow_mul-product : goal.overflow_mul-product
+overflow_mul-product c = let l = c in
+    omega (arith, (product-step l.loop-i.invariant l.requires c.loop-i-test.true _ refl).1)

@@ -1,0 +1,34 @@
+use borrow.Author.Rules.{rules}
+use native.Mathlib.Omega.{arith}
+use Prim.Native.Nat.{◌-◌}
+use mathlib.Core.Path.{◌≡◌, refl, sym}
+use mathlib.Core.List.{[]}
+use lib.ListN.{length, length-set, get_or-replicate}
+use Rattle.rules.specs.Lists.{mem}
+use Rattle.rules.specs.Limits.{most_devices}
+use Rattle.order.proofs.Loops.{Marked, too-high, again, mark_on, all-marked, wrong-length}
+use Rattle.order.proofs.rearranges.Goals as goal
+
+pub returns-then-order-n : goal.returns-then-order-n
+returns-then-order-n c = sym (wrong-length _ _ c.if-order-n.true)
+
+pub loop-i-init : goal.loop-i-init
+loop-i-init c = (record { before = []; low = refl; new = refl; told = λ d h. get_or-replicate most_devices d _ _ (omega (arith, c.requires)) }, refl)
+
+pub returns-then-n-device : goal.returns-then-n-device
+returns-then-n-device c = sym (too-high c.loop-i.invariant.0 c.loop-i-test.true (omega (arith, c.if-n-device.true)))
+
+pub returns-then-seen-device : goal.returns-then-seen-device
+returns-then-seen-device c = let e = c in
+    sym (again e.loop-i.invariant.0 e.loop-i-test.true (omega (arith, e.if-n-device.false)) c.if-seen-device.true)
+
+pub loop-i-preserved : goal.loop-i-preserved
+loop-i-preserved c = let e = c in
+    let l = c in (
+      mark_on l.loop-i.invariant.0 e.loop-i-test.true (omega (arith, e.if-n-device.false))
+          (omega (arith, l.requires, l.loop-i.invariant.1)) c.if-seen-device.false,
+      rw length-set l.loop-i.invariant.1,
+    )
+
+pub returns : goal.returns
+returns c = sym (all-marked c.loop-i.invariant.0 c.if-order-n.false c.loop-i-test.false)

@@ -1,0 +1,16 @@
+use native.Mathlib.Omega.{arith}
+use Prim.Native.Nat.{◌≤◌, ◌*◌, ◌-◌, ◌+◌}
+use mathlib.Core.Path.{◌≡◌}
+use lib.ListN.{length, get_or, length-set}
+use Rattle.laws.proofs.Fronts.{Filled, fill_start, fill_end}
+use Rattle.strided.specs.Strided.{offset, plane_digits, copied}
+use Rattle.strided.proofs.Laws.{fill-four}
+use Rattle.strided.proofs.Leaves.{Square, square, square-words}
+use Rattle.strided.proofs.copy_squares.Given as goal
+
+abbrev pub invariant-loop-i : goal.invariant-loop-i
+invariant-loop-i l = (l.i ≤ l.planes)
+    × Filled (λ t. get_or l.from (l.at + offset (plane_digits l.planes 4 l.far 2 2 l.apart l.stride) t) 0) l.initial.to l.to (l.i * 4)
+
+abbrev pub decreases-loop-i : goal.decreases-loop-i
+decreases-loop-i l = l.planes - l.i
