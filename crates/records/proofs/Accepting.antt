@@ -1,78 +1,31 @@
 -- Document 02, Ask 10: the check accepts every plan that is made, it ends at the goal sharding (`planned`), and run to the end it turns a faithful spread
 -- under the start into one under the goal (`arrives`). Assumes nothing.
-use Prim.Native.Nat.{ℕ, zero, suc, ◌+◌, ◌-◌, ◌*◌, ◌/◌, ◌≤◌, ◌<◌}
-use mathlib.Core.Path.{◌≡◌, refl, sym, ap, ap₂, ◌∙◌, subst}
-use mathlib.Core.Logic.{◌⊎◌, inl, inr, ⊎_elim}
-use mathlib.Core.Bool.{Bool, true, false, not, ◌&&◌}
+use Prim.Native.Nat.{ℕ, zero, suc, ◌+◌, ◌*◌, ◌≤◌, ◌<◌}
+use mathlib.Core.Path.{◌≡◌, refl, sym, ap, ◌∙◌, subst}
+use mathlib.Core.Logic.{inr, ⊎_elim}
+use mathlib.Core.Bool.{Bool, true, false}
 use mathlib.Core.List.{List, [], ◌∷◌, ◌++◌, map}
 use native.Mathlib.Omega.{arith}
-use lib.ListN.{length, get_or, take, drop, replicate, length-append, length-drop}
-use lib.Seq.{take-length}
-use lib.Dec.{T, ltb, leb, eqb, eqb→eq, leb→le, le→leb, lit<, lit≤}
+use lib.ListN.{length, get_or, drop, replicate, length-append, length-drop}
+use lib.Dec.{T, leb, eqb, eqb→eq, leb→le, le→leb}
 use Rattle.rules.specs.Lists.{pick, each, both, flat, in_turn, without, In, Distinct}
-use Rattle.rules.specs.Mesh.{devices}
 use Rattle.rules.specs.Sharding.{Sharding, varying, named, divisible, shard_sizes, IsSharding}
-use Rattle.rules.specs.Collectives.{Step, allSlice, allGather, all_reduce, all_to_all, reduce_scatter, step_axes, cut_tail, sliced, gathered, reduced, after, grown}
-use Rattle.rules.specs.Limits.{most_axes, most_devices, most_dims, most_words, most_steps, most_run, most_depth, every_kind}
-use Rattle.rules.specs.Refusals.{Judged, accept, refuse, ◌>>=◌, ◌>>◌, need, need_at}
-use Rattle.rules.specs.PlanFile.{
-  axes_allowed,
-  rank_allowed,
-  judge_sizes,
-  judge_axes,
-  judge_start,
-  same,
-  some,
-  all_below,
-  fresh,
-  is_tail,
-  increasing_from,
-  none_in,
-  gather_off,
-  slice_on,
-  step_at,
-  judge_kind,
-  judge_step,
-  plain,
-  kind_byte,
-  StepsRead,
-  plain_at,
-  is_repeat,
-  item_with,
-  item_at,
-  Outermost,
-  outermost_at,
-}
-use Rattle.laws.proofs.Lists.{
-  T?,
-  T→true,
-  n_t→false,
-  T_and,
-  and_T,
-  both-length,
-  length-each,
-  in_left,
-  in_right,
-  in-append,
-  joined-left,
-  joined-right,
-  distinct-split,
-  Apart,
-  split-joined,
-  of-without,
-  without-none,
-}
-use Rattle.laws.proofs.Judging.{accept-inj, need-inv, need-true, then-inv, bind_inv, off-none_in, distinct-fresh, all_in-in, same-eq}
+use Rattle.rules.specs.Collectives.{Step, allSlice, allGather, all_reduce, all_to_all, reduce_scatter, step_axes, sliced, gathered, reduced, after, grown}
+use Rattle.rules.specs.Limits.{most_axes, most_dims, most_run, most_depth, every_kind}
+use Rattle.rules.specs.Refusals.{accept}
+use Rattle.rules.specs.PlanFile.{judge_axes, judge_start, some, all_below, fresh, is_tail, increasing_from, none_in, gather_off, slice_on, judge_kind, judge_step, plain, kind_byte, plain_at, is_repeat, item_with, item_at, Outermost, outermost_at}
+use Rattle.laws.proofs.Lists.{T→true, n_t→false, both-length, length-each, in_left, in_right, in-append, joined-right, distinct-split, Apart, split-joined, of-without, without-none}
+use Rattle.laws.proofs.Judging.{need-inv, then-inv, off-none_in, distinct-fresh}
 use Rattle.laws.proofs.Steps.{Varies, varies}
 use Rattle.laws.proofs.Shapes.{Cut}
 use Rattle.laws.proofs.Sizes.{cut-divisible, cut-is, cut-grown}
-use Rattle.laws.proofs.Accepted.{SizesFacts, sizes-facts, start-sharding}
+use Rattle.laws.proofs.Accepted.{start-sharding}
 use Rattle.records.specs.Records.{Given, known, lists_bytes, step_bytes, given_bytes, steps_bytes}
 use Rattle.records.specs.Writing.{judge_counts, judge_sharding}
 use Rattle.records.specs.RoundTrip.{RankedStep, AllRanked}
 use Rattle.records.specs.Planning.{common, rest_of_start, rest_of_goal, to_reduce, to_gather, to_slice, if_naming, plan_steps}
 use Rattle.records.proofs.Places.{From, from_next, from_byte}
-use Rattle.records.proofs.Lists.{is_le, then-bind, step_lists, step_from}
+use Rattle.records.proofs.Lists.{is_le, step_lists, step_from}
 use Rattle.records.proofs.Given.{kind-first}
 use Rattle.records.proofs.Cutting.{
   lt-all_below,

@@ -12,8 +12,8 @@ use Rattle.rules.specs.Lists.{tab, pick}
 use Rattle.rules.specs.Mesh.{span, devices, plain_order}
 use Rattle.rules.specs.Sharding.{divisible, Sharding, shard_sizes, IsSharding}
 use Rattle.rules.specs.Collectives.{Step, allSlice, allGather, all_reduce, all_to_all, reduce_scatter, after}
-use Rattle.rules.specs.Limits.{present, most_bytes, least_bytes, most_steps, most_devices, most_words, most_depth, every_kind}
-use Rattle.rules.specs.Refusals.{Judged, accept, ◌>>=◌, ◌>>◌}
+use Rattle.rules.specs.Limits.{present, most_bytes, least_bytes, most_devices, most_words, most_depth, every_kind}
+use Rattle.rules.specs.Refusals.{accept}
 use Rattle.rules.specs.PlanFile.{
   Read,
   u16_at,
@@ -67,24 +67,7 @@ use Rattle.laws.proofs.Steps.{AcceptedStep, after-sharding}
 use Rattle.laws.proofs.Turns.{Fine}
 use Rattle.laws.proofs.Repeats.{read_by, outermost-steps}
 use Rattle.laws.proofs.Accepted.{AcceptedPlan, accepted}
-use Rattle.records.specs.Records.{
-  Given,
-  known,
-  Records,
-  records_of,
-  outermost,
-  outermost_from,
-  u16s_bytes,
-  edition_of,
-  sharding_bytes,
-  steps_bytes,
-  tensor_start,
-  sharding_start,
-  steps_start,
-  file_length,
-  header,
-  file_of,
-}
+use Rattle.records.specs.Records.{known, Records, records_of, outermost, outermost_from, u16s_bytes, edition_of, sharding_bytes, steps_bytes, steps_start, file_length, header, file_of}
 use Rattle.records.specs.Writing.{judge_records, write_of}
 use Rattle.records.specs.RoundTrip.{Shorts, Bytes, RankedStep, AllRanked, Fits, WrittenAgain, OneFile}
 use Rattle.records.proofs.Lists.{is_le}

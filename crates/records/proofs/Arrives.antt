@@ -1,30 +1,30 @@
 -- Document 02, Ask 10: the records that the planner makes are taken, their file is accepted, it ends at the goal, and a run of it turns a faithful spread
 -- under the start into one under the goal (`planner-promise`); and its steps' records are what the writer takes (`plan-again`). Assumes nothing.
-use Prim.Native.Nat.{ℕ, zero, suc, ◌+◌, ◌*◌, ◌≤◌, ◌<◌}
+use Prim.Native.Nat.{ℕ, suc, ◌+◌, ◌*◌, ◌≤◌}
 use mathlib.Core.Path.{◌≡◌, refl, sym, ap, ap₂, ◌∙◌, subst}
 use mathlib.Core.Bool.{Bool, true, false, ◌&&◌}
 use mathlib.Core.List.{List, [], ◌∷◌, ◌++◌, map}
 use native.Mathlib.Omega.{arith}
-use lib.ListN.{length, take, replicate, length-append}
+use lib.ListN.{length, replicate, length-append}
 use lib.Seq.{take-length}
-use lib.Dec.{T, leb, leb→le, le→leb, lit<, lit≤}
+use lib.Dec.{T, leb, leb→le, lit<, lit≤}
 use Rattle.rules.specs.Lists.{pick, in_turn, product}
 use Rattle.rules.specs.Mesh.{devices}
 use Rattle.rules.specs.Sharding.{Sharding, shard_sizes}
 use Rattle.rules.specs.Spread.{Faithful, add_words, held_by}
 use Rattle.rules.specs.Collectives.{Step, allSlice, allGather, all_reduce, step_axes, after}
-use Rattle.rules.specs.Limits.{most_axes, most_dims, every_kind, most_devices, most_words, most_steps, most_bytes, most_run}
-use Rattle.rules.specs.Refusals.{Judged, accept, ◌>>=◌, ◌>>◌}
+use Rattle.rules.specs.Limits.{most_axes, most_dims, every_kind, most_devices, most_words, most_steps}
+use Rattle.rules.specs.Refusals.{accept}
 use Rattle.rules.specs.PlanFile.{axes_allowed, rank_allowed, judge_sizes, same, some, all_in, plain, outermost_at, Plan, judge, announced, announced_shape}
 use Rattle.rules.specs.Factor.{step_factor, factor_of, factor_after}
 use Rattle.rules.specs.Calls.{shards_after, run_of}
-use Rattle.laws.specs.Demands.{Words, SpreadAt, returned, Demand3, Fits as RoomIn}
+use Rattle.laws.specs.Demands.{Words, Demand3, Fits as RoomIn}
 use Rattle.laws.proofs.Lists.{T_and, T→true, both-length, of-without}
 use Rattle.laws.proofs.Judging.{accept-inj, need-inv, need-true, then-inv, all_in-in, same-eq}
 use Rattle.laws.proofs.Accepted.{SizesFacts, sizes-facts}
 use Rattle.laws.proofs.Factor.{step-one}
 use Rattle.laws.proofs.Whole.{whole_plan}
-use Rattle.records.specs.Records.{known, Records, outermost, outermost_from, u16s_bytes, list_bytes, lists_bytes, edition_of, replicated_bytes, sharding_bytes, steps_bytes, steps_start, file_length, file_of}
+use Rattle.records.specs.Records.{known, Records, outermost, outermost_from, list_bytes, lists_bytes, edition_of, replicated_bytes, sharding_bytes, steps_bytes, steps_start, file_length, file_of}
 use Rattle.records.specs.Writing.{judge_counts, judge_sharding, judge_order, order_of, judge_opening, judge_records}
 use Rattle.records.specs.RoundTrip.{Shorts, AllShort, Fits}
 use Rattle.records.specs.Forms.{steps_given, records_bytes}

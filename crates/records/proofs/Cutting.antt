@@ -1,7 +1,7 @@
 -- Laws of lists for the planner: tests that hold, what is common to two lists, and an increasing list taken out of another. Assumes nothing.
 use Prim.Native.Nat.{ℕ, zero, suc, ◌+◌, ◌-◌, ◌≤◌, ◌<◌}
 use mathlib.Core.Path.{◌≡◌, refl, sym, ap, ap₂, ◌∙◌, subst}
-use mathlib.Core.Logic.{◌⊎◌, inl, inr, ⊎_map, ⊎_elim, ◌≢◌}
+use mathlib.Core.Logic.{◌⊎◌, inl, inr, ⊎_elim}
 use mathlib.Core.Bool.{Bool, true, false, not, ◌&&◌}
 use mathlib.Core.List.{List, [], ◌∷◌, ◌++◌, append-nil}
 use native.Mathlib.Omega.{arith}
@@ -10,11 +10,11 @@ use native.Mathlib.Nat.{sub-zero}
 use lib.ListN.{length, get_or, take, drop, length-drop, take-append-drop}
 use lib.Seq.{take-length}
 use lib.Dec.{T, T_not, eqb, ltb, leb, eqb→eq, eqb_refl, leb→le, le→leb, lt→ltb}
-use Rattle.rules.specs.Lists.{pick, each, both, flat, mem, keep, without, In, Distinct}
+use Rattle.rules.specs.Lists.{pick, each, both, flat, mem, keep, without, In}
 use Rattle.rules.specs.Collectives.{cut_tail}
-use Rattle.rules.specs.Refusals.{accept, ◌>>◌}
-use Rattle.rules.specs.PlanFile.{judge_axis, judge_axes, some, all_below, same, is_tail, increasing_from}
-use Rattle.laws.proofs.Lists.{T?, T→true, n_t→false, T_and, and_T, mem-in, in_mem, mem-not, not-mem, keep-yes, keep-no, in-keep, of-keep, keep_same, in_without, of-without, not-in-without, in-append, in_left}
+use Rattle.rules.specs.Refusals.{accept}
+use Rattle.rules.specs.PlanFile.{judge_axis, judge_axes, all_below, same, is_tail, increasing_from}
+use Rattle.laws.proofs.Lists.{T?, T→true, n_t→false, T_and, and_T, mem-in, in_mem, mem-not, not-mem, keep-yes, keep-no, keep_same, in_without, not-in-without}
 use Rattle.laws.proofs.Judging.{need-inv, need-true, then-inv}
 use Rattle.records.specs.Planning.{common, rest_of_start, rest_of_goal}
 
@@ -56,6 +56,7 @@ lower low least [] h t = tt
 lower low least (a ∷ L) h t = let r = increasing-inv low a L t in increasing-from least a L (omega (arith, r.0)) r.1
 
 above : (low : ℕ) (L : List ℕ) → T (increasing_from low L) → (a : ℕ) → In a L → low ≤ a
+above low [] t a x'' = elim x'' [ ]
 above low (b ∷ L) t a (inl e) = omega (arith, (increasing-inv low b L t).0)
 above low (b ∷ L) t a (inr i) = omega (arith, (increasing-inv low b L t).0, above (b + 1) L (increasing-inv low b L t).1 a i)
 

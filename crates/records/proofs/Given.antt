@@ -1,47 +1,22 @@
 -- Steps read from the bytes of records are these records, all of them where as many outermost ones are read as there are (`all-given`). Assumes nothing.
-use Prim.Native.Nat.{ℕ, zero, suc, ◌+◌, ◌<◌, ◌≤◌}
+use Prim.Native.Nat.{ℕ, zero, suc, ◌+◌, ◌<◌}
 use mathlib.Core.Path.{◌≡◌, refl, sym, ap, ap₂, ◌∙◌, subst}
 use mathlib.Core.Bool.{Bool, true, false}
 use mathlib.Core.List.{List, [], ◌∷◌, ◌++◌, map, append_assoc, append-nil}
 use native.Mathlib.Omega.{arith}
-use lib.ListN.{length, get_or, length-append}
-use lib.Dec.{T, ltb, leb, eqb, lt→ltb, ltb→lt, eqb→eq}
+use lib.ListN.{length, get_or}
+use lib.Dec.{T, ltb, leb, ltb→lt, eqb→eq}
 use Rattle.rules.specs.Sharding.{Sharding}
 use Rattle.rules.specs.Collectives.{Step, allSlice, allGather, all_reduce, all_to_all, reduce_scatter}
 use Rattle.rules.specs.Limits.{most_run, most_depth}
-use Rattle.rules.specs.Refusals.{Judged, accept, refuse, ◌>>=◌, ◌>>◌}
-use Rattle.rules.specs.PlanFile.{
-  Read,
-  kind_of,
-  lists_of,
-  step_at,
-  judge_step,
-  Record,
-  plain,
-  repeat,
-  kind_byte,
-  StepsRead,
-  JudgesStep,
-  JudgesSteps,
-  steps_at,
-  plain_at,
-  positive_at,
-  repeat_at,
-  is_repeat,
-  item_with,
-  too_deep,
-  item_at,
-  Outermost,
-  outermost_at,
-  Unknown,
-}
-use Rattle.laws.proofs.Lists.{T→true}
+use Rattle.rules.specs.Refusals.{accept}
+use Rattle.rules.specs.PlanFile.{Read, kind_of, lists_of, step_at, judge_step, Record, plain, repeat, kind_byte, StepsRead, JudgesStep, JudgesSteps, steps_at, plain_at, repeat_at, is_repeat, item_with, too_deep, item_at, Outermost, outermost_at, Unknown}
 use Rattle.laws.proofs.Judging.{never, accept-inj, need-inv, then-inv, bind_inv}
 use Rattle.laws.proofs.Repeats.{IsRepeat, repeat-inv, positive-inv, read_by, outermost-steps}
 use Rattle.records.specs.Records.{Given, known, unknown, outermost_from, outermost, step_bytes, given_bytes, steps_bytes}
 use Rattle.records.specs.Writing.{judge_counts}
 use Rattle.records.specs.RoundTrip.{AllRanked}
-use Rattle.records.proofs.Places.{From, from-length, from_next, from_byte, from_second, from-rest, from-lt, from_at}
+use Rattle.records.proofs.Places.{From, from-length, from_next, from_byte, from_second, from-rest, from_at}
 use Rattle.records.proofs.Lists.{read, step_lists, step_from}
 
 -- the first byte of a plain step is the kind of one

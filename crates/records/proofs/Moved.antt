@@ -1,50 +1,16 @@
 -- Steps that stand in a file from a place on are read and judged as they are by themselves, each place so much further on (`outermost-moved`). Assumes
 -- nothing.
-use Prim.Native.Nat.{ℕ, zero, suc, ◌+◌, ◌*◌, ◌≤◌, ◌<◌}
-use mathlib.Core.Path.{◌≡◌, refl, sym, ap, ◌∙◌, subst}
+use Prim.Native.Nat.{ℕ, zero, suc, ◌+◌}
+use mathlib.Core.Path.{◌≡◌, refl, sym, ap, ◌∙◌}
 use mathlib.Core.Bool.{Bool, true, false}
-use mathlib.Core.List.{List, [], ◌∷◌, ◌++◌}
+use mathlib.Core.List.{List}
 use native.Mathlib.Omega.{arith}
-use lib.ListN.{length, get_or, take, drop, replicate}
+use lib.ListN.{length, get_or, drop}
 use lib.Dec.{T, ltb, leb, eqb, ltb→lt, lt→ltb, leb→le, le→leb}
-use Rattle.rules.specs.Lists.{flat}
 use Rattle.rules.specs.Sharding.{Sharding}
-use Rattle.rules.specs.Collectives.{Step, allSlice, allGather, all_reduce, all_to_all}
 use Rattle.rules.specs.Limits.{most_run, most_depth}
-use Rattle.rules.specs.Refusals.{Judged, accept, refuse, ◌>>=◌, ◌>>◌, need, need_at}
-use Rattle.rules.specs.PlanFile.{
-  Read,
-  list_read_at,
-  lists_at,
-  kind_of,
-  lists_of,
-  step_at,
-  judge_step,
-  Record,
-  plain,
-  repeat,
-  StepsRead,
-  JudgesStep,
-  JudgesSteps,
-  steps_at,
-  plain_at,
-  positive_at,
-  same_sharding,
-  repeat_at,
-  is_repeat,
-  item_with,
-  too_deep,
-  item_at,
-  Outermost,
-  outermost_at,
-  Kind,
-  AllSlice,
-  AllGather,
-  AllReduce,
-  AllToAll,
-  ReduceScatter,
-  Unknown,
-}
+use Rattle.rules.specs.Refusals.{Judged, accept, refuse, ◌>>=◌, ◌>>◌, need_at}
+use Rattle.rules.specs.PlanFile.{Read, list_read_at, lists_at, kind_of, lists_of, step_at, judge_step, StepsRead, JudgesStep, JudgesSteps, steps_at, plain_at, positive_at, repeat_at, is_repeat, item_with, too_deep, item_at, Outermost, outermost_at, Kind, AllSlice, AllGather, AllReduce, AllToAll, ReduceScatter, Unknown}
 use Rattle.records.proofs.Places.{From, from-length, from_at, from-drop}
 
 -- ---- a judgement of another value

@@ -1,17 +1,16 @@
 -- Records that are written are those of the plan that their file is read as (`reads_back`). Assumes nothing.
-use Prim.Native.Nat.{ℕ, ◌≤◌}
-use mathlib.Core.Path.{◌≡◌, refl, sym, ap, ◌∙◌, subst}
-use mathlib.Core.Bool.{Bool, false, not, ◌||◌}
+use Prim.Native.Nat.{ℕ}
+use mathlib.Core.Path.{◌≡◌, sym, ap, ◌∙◌}
 use mathlib.Core.List.{List, [], ◌∷◌, map}
 use lib.ListN.{length}
 use lib.Dec.{T, leb, leb→le}
 use Rattle.rules.specs.Lists.{pick}
 use Rattle.rules.specs.Mesh.{devices, plain_order}
-use Rattle.rules.specs.Limits.{most_devices, most_words, most_steps, most_bytes, every_kind}
-use Rattle.rules.specs.Refusals.{Judged, accept, ◌>>=◌, ◌>>◌}
-use Rattle.rules.specs.PlanFile.{axes_allowed, rank_allowed, judge_sizes, order_allowed, same, some, Outermost, outermost_at, Plan, judge}
+use Rattle.rules.specs.Limits.{most_devices, most_steps, most_bytes, every_kind}
+use Rattle.rules.specs.Refusals.{accept}
+use Rattle.rules.specs.PlanFile.{axes_allowed, rank_allowed, judge_sizes, order_allowed, same, some, outermost_at, Plan}
 use Rattle.laws.proofs.Judging.{accept-inj, need-inv, need-true, then-inv, bind_inv}
-use Rattle.records.specs.Records.{Given, known, Records, records_of, outermost, steps_bytes, file_length, file_of}
+use Rattle.records.specs.Records.{known, Records, records_of, outermost, steps_bytes, file_length}
 use Rattle.records.specs.Writing.{judge_order, order_of, judge_opening, step_numbered, judge_records, write_of}
 use Rattle.records.specs.RoundTrip.{Proper, Fits, ReadsBack}
 use Rattle.records.proofs.Places.{from_all}

@@ -1,6 +1,6 @@
 -- Laws of the reading call's definitions: what is read as the order (`order-carried`, `order-none`), each answer of the call, and WHAT ITS EQUATIONS PROMISE
 -- (`read-promise`). Assumes nothing.
-use Prim.Native.Nat.{ℕ, ◌+◌, ◌*◌, ◌≤◌, ◌<◌}
+use Prim.Native.Nat.{ℕ, ◌*◌, ◌≤◌, ◌<◌}
 use mathlib.Core.Path.{◌≡◌, refl, sym, ap, ◌∙◌, subst}
 use mathlib.Core.Bool.{Bool, true, false}
 use mathlib.Core.List.{List, [], ◌∷◌, ◌++◌}

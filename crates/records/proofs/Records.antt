@@ -1,43 +1,22 @@
 -- The bytes of records, read record by record: what stands at the kind byte of each (`read_plain`, `read-repeat`, `read-unknown`), and past the last
 -- (`read_none`). For code that judges records without writing their bytes. Assumes nothing.
-use Prim.Native.Nat.{ℕ, zero, suc, ◌+◌, ◌<◌, ◌≤◌}
+use Prim.Native.Nat.{ℕ, zero, suc, ◌+◌}
 use mathlib.Core.Path.{◌≡◌, refl, sym, ap, ◌∙◌, subst}
-use mathlib.Core.Bool.{Bool, true, false, ◌&&◌}
+use mathlib.Core.Bool.{true, false}
 use mathlib.Core.List.{List, [], ◌∷◌, ◌++◌}
 use native.Mathlib.Omega.{arith}
-use lib.ListN.{length, get_or, take, drop, replicate, length-append, take-append-drop}
-use lib.Dec.{T, ltb, leb, eqb, ltb→lt, eqb→eq}
-use Rattle.rules.specs.Lists.{flat}
+use lib.ListN.{length, get_or, take, drop, length-append, take-append-drop}
+use lib.Dec.{ltb, eqb, ltb→lt, eqb→eq}
 use Rattle.rules.specs.Sharding.{Sharding}
 use Rattle.rules.specs.Collectives.{Step}
-use Rattle.rules.specs.Limits.{most_run}
-use Rattle.rules.specs.Refusals.{Judged, accept, refuse, ◌>>=◌, ◌>>◌, need, need_at}
-use Rattle.rules.specs.PlanFile.{
-  kind_of,
-  lists_of,
-  step_at,
-  judge_step,
-  plain,
-  repeat,
-  kind_byte,
-  StepsRead,
-  JudgesSteps,
-  steps_at,
-  plain_at,
-  positive_at,
-  same_sharding,
-  repeat_at,
-  is_repeat,
-  item_with,
-  too_deep,
-  item_at,
-}
-use Rattle.laws.proofs.Lists.{T→true, n_t→false}
+use Rattle.rules.specs.Refusals.{accept, refuse, ◌>>=◌, ◌>>◌, need_at}
+use Rattle.rules.specs.PlanFile.{lists_of, step_at, judge_step, plain, repeat, kind_byte, plain_at, positive_at, is_repeat}
+use Rattle.laws.proofs.Lists.{n_t→false}
 use Rattle.records.specs.Records.{Given, known, unknown, step_bytes, given_bytes, steps_bytes}
 use Rattle.records.specs.Writing.{judge_counts}
 use Rattle.records.specs.RoundTrip.{RankedStep}
-use Rattle.records.proofs.Places.{From, from_all, from-length, from_next, from_byte, from_second, from-rest, from-lt, from_at}
-use Rattle.records.proofs.Lists.{read, is_lt, then-bind, step_lists, step_from}
+use Rattle.records.proofs.Places.{From, from_all, from-length, from_next, from_byte, from-rest, from-lt, from_at}
+use Rattle.records.proofs.Lists.{is_lt, then-bind, step_lists, step_from}
 use Rattle.records.proofs.Given.{kind-first}
 
 -- where record i begins

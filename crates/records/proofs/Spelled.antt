@@ -12,59 +12,13 @@ use lib.Arith.{digits_div, digits_mod}
 use lib.Dec.{T, ltb, leb, eqb, ltb→lt, leb→le, eqb→eq}
 use Rattle.rules.specs.Lists.{tab, pick}
 use Rattle.rules.specs.Sharding.{Sharding}
-use Rattle.rules.specs.Collectives.{Step, allSlice, allGather, all_reduce, all_to_all}
-use Rattle.rules.specs.Limits.{most_depth}
-use Rattle.rules.specs.Refusals.{Judged, accept, refuse, ◌>>=◌, ◌>>◌}
-use Rattle.rules.specs.PlanFile.{
-  Read,
-  u16_at,
-  list_read_at,
-  lists_at,
-  replicated_at,
-  carries_replicated,
-  sharding_at,
-  kind_of,
-  lists_of,
-  step_at,
-  judge_step,
-  Record,
-  plain,
-  repeat,
-  StepsRead,
-  JudgesStep,
-  JudgesSteps,
-  steps_at,
-  plain_at,
-  positive_at,
-  repeat_at,
-  is_repeat,
-  item_with,
-  too_deep,
-  item_at,
-  Kind,
-  AllSlice,
-  AllGather,
-  AllReduce,
-  AllToAll,
-  ReduceScatter,
-  Unknown,
-}
+use Rattle.rules.specs.Collectives.{Step}
+use Rattle.rules.specs.Refusals.{accept}
+use Rattle.rules.specs.PlanFile.{Read, u16_at, list_read_at, lists_at, replicated_at, carries_replicated, sharding_at, kind_of, lists_of, step_at, judge_step, Record, StepsRead, JudgesStep, JudgesSteps, steps_at, plain_at, repeat_at, is_repeat, item_with, too_deep, item_at, Kind, AllSlice, AllGather, AllReduce, AllToAll, ReduceScatter, Unknown}
 use Rattle.laws.proofs.Lists.{T?}
 use Rattle.laws.proofs.Judging.{never, accept-inj, need-inv, bind_inv}
 use Rattle.laws.proofs.Repeats.{IsRepeat, repeat-inv, positive-inv}
-use Rattle.records.specs.Records.{
-  Given,
-  known,
-  u16_bytes,
-  u16s_bytes,
-  list_bytes,
-  lists_bytes,
-  replicated_bytes,
-  sharding_bytes,
-  step_bytes,
-  given_bytes,
-  steps_bytes,
-}
+use Rattle.records.specs.Records.{known, u16_bytes, u16s_bytes, list_bytes, lists_bytes, replicated_bytes, sharding_bytes, step_bytes, given_bytes, steps_bytes}
 use Rattle.records.specs.RoundTrip.{Bytes}
 
 -- the bytes stand in the file from `at` up to `next`

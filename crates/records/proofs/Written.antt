@@ -2,52 +2,19 @@
 -- file (`Fits`). Assumes nothing.
 use Prim.Native.Nat.{ℕ, zero, suc, ◌+◌, ◌-◌, ◌*◌, ◌≤◌, ◌<◌}
 use mathlib.Core.Path.{◌≡◌, refl, sym, ap, ◌∙◌, subst}
-use mathlib.Core.Bool.{Bool, true, false, not, ◌||◌}
-use mathlib.Core.List.{List, [], ◌∷◌, ◌++◌, append_assoc, append-nil}
+use mathlib.Core.Bool.{Bool, true, false, not}
+use mathlib.Core.List.{List, [], ◌∷◌, ◌++◌, append_assoc}
 use native.Mathlib.Omega.{arith}
-use native.Mathlib.Nat.{add_assoc}
 use lib.ListN.{length, get_or, length-append}
 use lib.Dec.{T, leb, eqb, lit<}
 use Rattle.rules.specs.Lists.{tab, pick}
 use Rattle.rules.specs.Mesh.{devices}
 use Rattle.rules.specs.Sharding.{Sharding}
-use Rattle.rules.specs.Collectives.{Step, allSlice, allGather, all_reduce, all_to_all, reduce_scatter}
+use Rattle.rules.specs.Collectives.{allSlice, allGather, all_reduce, all_to_all, reduce_scatter}
 use Rattle.rules.specs.Limits.{present, most_bytes, least_bytes, most_steps, most_devices, most_words, every_kind}
 use Rattle.rules.specs.Refusals.{Judged, accept, refuse, ◌>>=◌, ◌>>◌, need}
-use Rattle.rules.specs.PlanFile.{
-  Read,
-  u16_at,
-  edition_known,
-  axes_allowed,
-  rank_allowed,
-  judge_header,
-  judge_header_by,
-  judge_sizes,
-  sizes_at,
-  order_allowed,
-  order_at,
-  carries_order,
-  MeshAndTable,
-  mesh_and_table_at_by,
-  list_read_at,
-  replicated_at,
-  carries_replicated,
-  sharding_at,
-  judge_start,
-  some,
-  one_meaning,
-  plain,
-  repeat,
-  Outermost,
-  outermost_at,
-  Front,
-  judge_front,
-  judge_front_by,
-  Plan,
-  judge,
-  judge_by,
-}
-use Rattle.laws.proofs.Lists.{T→true, tab-cong}
+use Rattle.rules.specs.PlanFile.{u16_at, edition_known, axes_allowed, rank_allowed, judge_header, judge_header_by, judge_sizes, sizes_at, order_allowed, order_at, carries_order, mesh_and_table_at_by, replicated_at, carries_replicated, sharding_at, judge_start, some, one_meaning, plain, repeat, Outermost, outermost_at, Front, judge_front, judge_front_by, Plan, judge, judge_by}
+use Rattle.laws.proofs.Lists.{tab-cong}
 use Rattle.laws.proofs.Fronts.{whole-tab}
 use Rattle.records.specs.Records.{
   Given,
@@ -79,7 +46,7 @@ use Rattle.records.specs.RoundTrip.{Shorts, Fits}
 use Rattle.records.proofs.Places.{From, from_all, from-length, from_next, from-u16}
 use Rattle.records.proofs.Numbers.{all-numbered, outermost-within}
 use Rattle.records.proofs.Lists.{read, is_le, is_eq, then-bind, then-then, bind-then, list-from, lists-from}
-use Rattle.records.proofs.Moved.{judged_by, bind-by, bind-same, outermost_further, outermost-moved}
+use Rattle.records.proofs.Moved.{judged_by, bind-by, outermost_further, outermost-moved}
 use Rattle.records.proofs.Given.{all-given}
 
 -- ---- numbers of 16 bits

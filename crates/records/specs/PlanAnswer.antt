@@ -1,5 +1,5 @@
 -- The planner's answer as the code has it: every place is fixed, and those that are not used hold no axes, no step. Assumes nothing.
-use Rattle.std.specs.Prelude.{ℕ, List, [], ◌∷◌, map, length, get_or}
+use Rattle.std.specs.Prelude.{ℕ, List, [], map, length, get_or}
 use Rattle.rules.specs.Lists.{tab}
 use Rattle.rules.specs.Collectives.{allSlice, allGather, all_reduce, all_to_all, reduce_scatter}
 use Rattle.rules.specs.Collectives as rules

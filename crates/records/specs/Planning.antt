@@ -6,7 +6,7 @@ use Rattle.rules.specs.Sharding.{Sharding, shard_sizes}
 use Rattle.rules.specs.Spread.{Faithful, add_words, held_by}
 use Rattle.rules.specs.Collectives.{Step, allSlice, allGather, all_reduce, step_axes}
 use Rattle.rules.specs.Limits.{most_devices, most_words}
-use Rattle.rules.specs.Refusals.{Judged, accept, ◌>>=◌, ◌>>◌, need}
+use Rattle.rules.specs.Refusals.{Judged, accept, ◌>>◌, need}
 use Rattle.rules.specs.PlanFile.{axes_allowed, rank_allowed, judge_sizes, same, some, all_in, plain, Plan, judge, announced}
 use Rattle.rules.specs.Factor.{factor_after}
 use Rattle.rules.specs.Calls.{run_of}

@@ -1,6 +1,6 @@
 -- The promises of the calls on records: what each answers and leaves, on any input, as the `ensures` of its function and of the library's. `mesh`, `order` and
 -- `sizes` of the writer and the planner, and the file that is read, are lent with `&`, so no call can change them. Assumes nothing.
-use Rattle.std.specs.Prelude.{ℕ, ◌≤◌, ◌≡◌, List, [], ◌∷◌, map, length, take, drop}
+use Rattle.std.specs.Prelude.{ℕ, ◌≡◌, List, map, length, take, drop}
 use Rattle.rules.specs.Collectives.{Step}
 use Rattle.rules.specs.Refusals.{Judged, accept, refuse}
 use Rattle.types.specs.Answers.{refused_with}

@@ -5,7 +5,7 @@ use Rattle.rules.specs.Mesh.{devices}
 use Rattle.rules.specs.Sharding.{Sharding}
 use Rattle.rules.specs.Collectives.{Step, allSlice, allGather, all_reduce, all_to_all, reduce_scatter}
 use Rattle.rules.specs.Limits.{most_axes, most_bytes}
-use Rattle.rules.specs.Refusals.{accept, refuse}
+use Rattle.rules.specs.Refusals.{accept}
 use Rattle.rules.specs.PlanFile.{Record, plain, repeat, some, Plan, judge}
 use Rattle.records.specs.Records.{Given, known, unknown, Records, records_of, file_length, file_of}
 use Rattle.records.specs.Writing.{judge_records, write_of}

@@ -10,7 +10,6 @@ use Rattle.types.specs.declared.Reason.{Reason}
 use Rattle.types.specs.declared.Reason.TheVariants.{FileTooShort, NotTail, OutputTooShort}
 use Rattle.records.specs.Reading.{read_of, read_leaves_order, read_leaves_steps, opened_of}
 use Rattle.records.specs.declared.Opened.{Opened}
-use Rattle.records.specs.declared.ReadOutcome.{ReadOutcome}
 use Rattle.records.specs.declared.ReadOutcome.TheVariants as outcome
 
 -- ---- cases

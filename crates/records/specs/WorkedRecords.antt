@@ -7,7 +7,6 @@ use Rattle.rules.specs.Collectives.{Step, allSlice, allGather, all_reduce, all_t
 use Rattle.rules.specs.Refusals.{Judged, accept, refuse}
 use Rattle.rules.specs.PlanFile.{plain, repeat, Plan}
 use Rattle.rules.specs.Ledger.{w1, nines}
-use Rattle.types.specs.declared.Axis.{Axis}
 use Rattle.types.specs.declared.AxisList.{AxisList}
 use Rattle.types.specs.declared.Sharding as code
 use Rattle.records.specs.Records.{Given, known, unknown, Records, file_length}
