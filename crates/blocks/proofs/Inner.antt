@@ -19,7 +19,7 @@ use Rattle.laws.proofs.Moved.{added-charged, added-append}
 use Rattle.laws.proofs.Turns.{Fine, fine-append, steps-sharding, last-largest, largest-append}
 use Rattle.laws.proofs.Repeats.{pass-append, Told, item-tells}
 use Rattle.laws.proofs.Bytes.{Takes, TakesAll, item-takes}
-use Rattle.blocks.specs.Blocks.{Summary, shard_words, summaryOf, summarized}
+use Rattle.blocks.specs.Blocks.{Summary, shard_words, summary_of, summarized}
 use Rattle.blocks.proofs.Plain.{summary-inv}
 
 -- ---- steps one after the other
@@ -206,7 +206,7 @@ module _ (mesh sizes file : List ℕ) (depth : ℕ) where
       (e : summarized mesh sizes k largest s (item_at every_kind mesh sizes file depth k at s)
       ≡ accept (record { value = record { number = k'; runs = runs'; largest = largest'; moved = moved'; sharding = s' }; next = at' })) where
     taken : (v : StepsRead) × (item_at every_kind mesh sizes file depth k at s ≡ accept v)
-        × (◌≡◌ {A = Read Summary} (summaryOf mesh sizes k largest s v)
+        × (◌≡◌ {A = Read Summary} (summary_of mesh sizes k largest s v)
         (record { value = record { number = k'; runs = runs'; largest = largest'; moved = moved'; sharding = s' }; next = at' }))
     taken = summary-inv mesh sizes k largest s _ _ e
 

@@ -12,12 +12,12 @@ use Rattle.rules.specs.Moved.{moved_from}
 use Rattle.laws.proofs.Judging.{never, accept-inj, bind_assoc}
 use Rattle.taking.specs.Taking.{StepTaken, take_step}
 use Rattle.taking.proofs.Takes.{is-after}
-use Rattle.blocks.specs.Blocks.{Summary, shard_words, summaryOf, summarized}
+use Rattle.blocks.specs.Blocks.{Summary, shard_words, summary_of, summarized}
 
 -- ---- a summary
 
 pub summary-inv : (mesh sizes : List ℕ) (k largest : ℕ) (s : Sharding) (j : Judged StepsRead) (r : Read Summary)
-    → summarized mesh sizes k largest s j ≡ accept r → (w : StepsRead) × (j ≡ accept w) × (summaryOf mesh sizes k largest s w ≡ r)
+    → summarized mesh sizes k largest s j ≡ accept r → (w : StepsRead) × (j ≡ accept w) × (summary_of mesh sizes k largest s w ≡ r)
 summary-inv mesh sizes k largest s (accept w) r e = (w, refl, accept-inj e)
 summary-inv mesh sizes k largest s (refuse a b) r e = absurd (never e)
 

@@ -83,8 +83,8 @@ pub record Summary : Type 0 where
   pub sharding : Sharding
 
 -- of steps from number k on, which begin with the sharding s; the shards before them had so many words at most
-abbrev pub summaryOf : (mesh sizes : List ℕ) → (k largest : ℕ) → Sharding → StepsRead → Read Summary
-summaryOf mesh sizes k largest s w = record {
+abbrev pub summary_of : (mesh sizes : List ℕ) → (k largest : ℕ) → Sharding → StepsRead → Read Summary
+summary_of mesh sizes k largest s w = record {
   value = record {
     number = k + length w.records;
     runs = length w.steps;
@@ -96,7 +96,7 @@ summaryOf mesh sizes k largest s w = record {
 }
 
 abbrev pub summarized : (mesh sizes : List ℕ) → (k largest : ℕ) → Sharding → Judged StepsRead → Judged (Read Summary)
-summarized mesh sizes k largest s (accept w) = accept (summaryOf mesh sizes k largest s w)
+summarized mesh sizes k largest s (accept w) = accept (summary_of mesh sizes k largest s w)
 summarized mesh sizes k largest s (refuse a b) = refuse a b
 
 abbrev pub summary_in : ℕ → StepsJudged → Summary

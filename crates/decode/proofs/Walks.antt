@@ -7,7 +7,7 @@ use native.Mathlib.Omega.{arith}
 use lib.ListN.{length, get_or, length-append}
 use lib.Seq.{sets}
 use Rattle.rules.specs.Limits.{most_axes, most_bytes}
-use Rattle.rules.specs.Collectives.{Step, allSlice, allGather, all_reduce, all_to_all, reduce_scatter}
+use Rattle.rules.specs.Collectives.{Step, all_slice, all_gather, all_reduce, all_to_all, reduce_scatter}
 use Rattle.rules.specs.Refusals.{Judged, accept, ◌>>◌}
 use Rattle.rules.specs.PlanFile.{Read, step_at, Record, plain, repeat, kind_byte}
 use Rattle.types.specs.Types.{step_of}
@@ -79,8 +79,8 @@ module _ {file : List ℕ} {at rank : ℕ} where
       ∙ ap (λ (j : Judged (Unit {0})). ◌>>◌ j (accept (read t (at + length (step_bytes t))))) (fine t s.short)
     where
       fine : (t : Step) → ShortStep t → judge_counts most_axes (step_lists t) ≡ accept tt
-      fine (allSlice Ss) h = short-counts Ss h
-      fine (allGather Gs) h = short-counts Gs h
+      fine (all_slice Ss) h = short-counts Ss h
+      fine (all_gather Gs) h = short-counts Gs h
       fine (all_reduce L) h = short-counts (L ∷ []) (short-one L h)
       fine (all_to_all source target L) h = short-counts (L ∷ []) (short-one L h)
       fine (reduce_scatter Ss) h = short-counts Ss h

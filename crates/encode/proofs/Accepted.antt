@@ -20,7 +20,7 @@ use Rattle.types.specs.declared.Sharding as code
 use Rattle.types.specs.declared.Kind.{Kind}
 use Rattle.types.specs.declared.Kind.TheVariants.{AllSlice, AllGather, AllReduce, AllToAll, ReduceScatter, Unknown}
 use Rattle.types.specs.declared.Step as records
-use Rattle.laws.proofs.Lists.{T_and, getD-tab, both-length}
+use Rattle.laws.proofs.Lists.{T_and, get_or-tab, both-length}
 use Rattle.laws.proofs.Judging.{need-inv, then-inv, bind_inv}
 use Rattle.laws.proofs.Accepted.{sizes-facts}
 use Rattle.records.specs.Records.{Given, known, unknown, Records, outermost, steps_bytes}
@@ -84,7 +84,7 @@ known-short (r ∷ rs) (suc i) h = known-short rs i h.1
 given-short : (rank : ℕ) (bytes : List ℕ) (rs : List Record) → steps_given rank bytes ≡ map known rs → AllShort rs → ShortSteps rank bytes
 unfolding steps_given
 given-short rank bytes rs e h i less =
-    subst ShortGiven (getD-tab (record_count bytes) i (λ j. given_at rank bytes (record_bytes * j)) unknown less)
+    subst ShortGiven (get_or-tab (record_count bytes) i (λ j. given_at rank bytes (record_bytes * j)) unknown less)
     (subst (λ (l : List Given). ShortGiven (get_or l i unknown)) (sym e) (known-short rs i h))
 
 record Opened (r : Records) : Type 0 where

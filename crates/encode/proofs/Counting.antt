@@ -7,7 +7,7 @@ use lib.ListN.{length, get_or, drop, length-drop, drop_of_length-le}
 use Rattle.types.specs.declared.Kind.{Kind}
 use Rattle.types.specs.declared.Kind.TheVariants.{AllSlice, AllGather, AllReduce, AllToAll, ReduceScatter, Unknown}
 use Rattle.types.specs.declared.Step.{Step}
-use Rattle.laws.proofs.Lists.{length-tab, getD-tab}
+use Rattle.laws.proofs.Lists.{length-tab, get_or-tab}
 use Rattle.axes.proofs.Going.{drop_at}
 use Rattle.records.specs.Records.{Given, unknown, inner_of, outermost_from, outermost}
 use Rattle.records.specs.Forms.{record_bytes, step_record, given_kind, given_at, record_count, steps_given}
@@ -62,7 +62,7 @@ module _ (rank : ℕ) (bytes : List ℕ) where
   unfolding steps_given
   record-here i h =
       drop_at (steps_given rank bytes) i (given_at rank bytes (record_bytes * i)) unknown (omega (arith, given-length))
-      (sym (getD-tab (record_count bytes) i (λ j. given_at rank bytes (record_bytes * j)) unknown h))
+      (sym (get_or-tab (record_count bytes) i (λ j. given_at rank bytes (record_bytes * j)) unknown h))
 
   pub record-none : (i : ℕ) → record_count bytes ≤ i → drop i (steps_given rank bytes) ≡ []
   record-none i h = drop_of_length-le (steps_given rank bytes) {i = i} (omega (arith, given-length))

@@ -17,7 +17,7 @@ use Rattle.blocks.proofs.Heads.{count-stops, number-stops, too-deep, head-is}
 use Rattle.records.specs.Records.{Given, steps_bytes}
 use Rattle.records.specs.Forms.{record_bytes, steps_given}
 use Rattle.records.proofs.Records.{read-repeat}
-use Rattle.given.specs.Given.{repeatHere, FewInner, place_of}
+use Rattle.given.specs.Given.{repeat_here, FewInner, place_of}
 use Rattle.given.proofs.Plain.{gives-repeat}
 
 tested : (k n : ℕ) (j : Judged ℕ) → j ≡ ◌>>◌ (need_at k (ltb 0 n) 44) (accept n) → (n ≡ 0 → j ≡ refuse 44 k) × (n ≢ 0 → j ≡ accept n)
@@ -29,7 +29,7 @@ tested k n j e = (
 pub few-inner : {x : RepeatRead} {c n : ℕ} → FewInner x → x ≡ read.Of c n → n ≤ 255
 few-inner f e = subst FewInner e f
 
-module _ (steps : List ℕ) (i : ℕ) (e : repeatHere steps i ≡ true) (rank depth : ℕ) where
+module _ (steps : List ℕ) (i : ℕ) (e : repeat_here steps i ≡ true) (rank depth : ℕ) where
   abbrev gs : List Given
   gs = steps_given rank steps
 

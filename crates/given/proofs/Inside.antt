@@ -26,13 +26,13 @@ use Rattle.blocks.proofs.Items.{inner_steps, by-inner, head-halts, inner-halts}
 use Rattle.records.specs.Records.{Given, steps_bytes}
 use Rattle.records.specs.Writing.{step_numbered}
 use Rattle.records.specs.RoundTrip.{AllRanked}
-use Rattle.given.specs.Given.{place_of, Summary, summaryOf, summarized, RecordsTell, Closing, closed}
+use Rattle.given.specs.Given.{place_of, Summary, summary_of, summarized, RecordsTell, Closing, closed}
 use Rattle.given.specs.declared.RecordsJudged.{RecordsJudged}
 use Rattle.given.proofs.Ends.{Ends, item-ends}
 
 -- ---- a summary
 
-pub summary-inv : (i : ℕ) (j : Judged StepsRead) (r : Read Summary) → summarized i j ≡ accept r → (w : StepsRead) × (j ≡ accept w) × (summaryOf i w ≡ r)
+pub summary-inv : (i : ℕ) (j : Judged StepsRead) (r : Read Summary) → summarized i j ≡ accept r → (w : StepsRead) × (j ≡ accept w) × (summary_of i w ≡ r)
 summary-inv i (accept w) r e = (w, refl, accept-inj e)
 summary-inv i (refuse a b) r e = absurd (never e)
 

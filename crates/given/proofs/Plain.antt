@@ -27,7 +27,7 @@ use Rattle.records.specs.Forms.{list_given, dims_given, record_bytes, record_cou
 use Rattle.records.specs.RoundTrip.{Ranked, AllRanked}
 use Rattle.records.proofs.Records.{read_none, read_plain, read-unknown}
 use Rattle.records.proofs.Numbers.{of-any, numbered-stops, renumbered, step-renumbered}
-use Rattle.given.specs.Given.{judgeForm, repeatHere, place_of, summarized}
+use Rattle.given.specs.Given.{judge_form, repeat_here, place_of, summarized}
 use Rattle.given.proofs.Counts.{list-fits, lists-fit, counts-inv, dims-length}
 use Rattle.encode.proofs.Counting.{record-here, record-none}
 
@@ -39,18 +39,18 @@ at-record x n k e = numbered-stops {A = Unit {0}} (refuse n k) (refuse n k) (λ 
 -- ---- what a record gives
 
 module _ (steps : List ℕ) (i : ℕ) where
-  pub past_all : record_count steps ≤ i → false ≡ repeatHere steps i
+  pub past_all : record_count steps ≤ i → false ≡ repeat_here steps i
   past_all h = rw (le-ltb i (record_count steps) h) refl
 
-  pub by_kind : i < record_count steps → eqb (get_or steps (record_bytes * i) 0) 9 ≡ repeatHere steps i
+  pub by_kind : i < record_count steps → eqb (get_or steps (record_bytes * i) 0) 9 ≡ repeat_here steps i
   by_kind h = rw (lt-ltb i (record_count steps) h) refl
 
-  pub repeat-inside : repeatHere steps i ≡ true → i < record_count steps
+  pub repeat-inside : repeat_here steps i ≡ true → i < record_count steps
   repeat-inside e =
-      let t : T (repeatHere steps i) = subst T (sym e) tt in
+      let t : T (repeat_here steps i) = subst T (sym e) tt in
       ltb→lt i (record_count steps) (T_and (ltb i (record_count steps)) (eqb (get_or steps (record_bytes * i) 0) 9) t).0
 
-  pub gives-repeat : (rank : ℕ) → repeatHere steps i ≡ true
+  pub gives-repeat : (rank : ℕ) → repeat_here steps i ≡ true
       → drop i (steps_given rank steps)
       ≡ known (repeat (get_or steps (record_bytes * i + 1) 0) (get_or steps (record_bytes * i + 2) 0)) ∷ drop (i + 1) (steps_given rank steps)
   unfolding given_at
@@ -60,7 +60,7 @@ module _ (steps : List ℕ) (i : ℕ) where
       ∙ ap (λ (b : Bool). pick b (known (repeat (get_or steps (record_bytes * i + 1) 0) (get_or steps (record_bytes * i + 2) 0)))
       (given_kind (kind_from (kind_of (get_or steps (record_bytes * i) 0))) rank (step_record steps (record_bytes * i))) ∷ drop (i + 1) (steps_given rank steps)) (by_kind h ∙ e)
 
-  pub gives-plain : (rank : ℕ) → i < record_count steps → repeatHere steps i ≡ false
+  pub gives-plain : (rank : ℕ) → i < record_count steps → repeat_here steps i ≡ false
       → drop i (steps_given rank steps)
       ≡ given_kind (kind_from (kind_of (get_or steps (record_bytes * i) 0))) rank (step_record steps (record_bytes * i)) ∷ drop (i + 1) (steps_given rank steps)
   unfolding given_at
@@ -105,17 +105,17 @@ module _ (rank : ℕ) (h : rank ≤ most_dims) where
 
 -- the step that a record gives
 abbrev step_as_given : Kind → ℕ → Step → rules.Step
-step_as_given AllSlice rank t = rules.allSlice (dims_given rank t.lists)
-step_as_given AllGather rank t = rules.allGather (dims_given rank t.lists)
+step_as_given AllSlice rank t = rules.all_slice (dims_given rank t.lists)
+step_as_given AllGather rank t = rules.all_gather (dims_given rank t.lists)
 step_as_given AllReduce rank t = rules.all_reduce (list_given t.list)
 step_as_given AllToAll rank t = rules.all_to_all t.source.0 t.target.0 (list_given t.list)
 step_as_given ReduceScatter rank t = rules.reduce_scatter (dims_given rank t.lists)
 step_as_given Unknown rank t = rules.all_reduce []
 
 -- one that passes 8 is the step of its places
-step_fits : (n k rank : ℕ) (kind : Kind) (t : Step) → n ≤ most_axes → judgeForm n k (given_kind kind rank t) ≡ accept tt → step_as_given kind rank t ≡ of_kind kind rank t
-step_fits n k rank AllSlice t h e = ap (λ (l : List (List ℕ)). rules.allSlice l) (lists-fit n rank t.lists h e)
-step_fits n k rank AllGather t h e = ap (λ (l : List (List ℕ)). rules.allGather l) (lists-fit n rank t.lists h e)
+step_fits : (n k rank : ℕ) (kind : Kind) (t : Step) → n ≤ most_axes → judge_form n k (given_kind kind rank t) ≡ accept tt → step_as_given kind rank t ≡ of_kind kind rank t
+step_fits n k rank AllSlice t h e = ap (λ (l : List (List ℕ)). rules.all_slice l) (lists-fit n rank t.lists h e)
+step_fits n k rank AllGather t h e = ap (λ (l : List (List ℕ)). rules.all_gather l) (lists-fit n rank t.lists h e)
 step_fits n k rank AllReduce t h e =
     let p = counts-inv n (list_given t.list) [] e in
     ap (λ (l : List ℕ). rules.all_reduce l) (list-fits t.list (omega (arith, p.0)))
@@ -137,13 +137,13 @@ module _ (mesh sizes : List ℕ) (rank : ℕ) (rank_is : length sizes ≡ rank) 
   past-last s h = ap (summarized i) ((read_none mesh sizes gs i (record-none rank steps i h)).1 (i + 1) s)
 
   -- where no repeat is given none is read
-  pub no-repeat : repeatHere steps i ≡ false → is_repeat (steps_bytes gs) (place_of gs i) ≡ false
+  pub no-repeat : repeat_here steps i ≡ false → is_repeat (steps_bytes gs) (place_of gs i) ≡ false
   no-repeat e = go (dec_lt i (record_count steps))
     where
       of-kind : (kind : Kind) (rest : List Given) → drop i gs ≡ given_kind kind rank (step_record steps (record_bytes * i)) ∷ rest
           → Ranked rank (given_kind kind rank (step_record steps (record_bytes * i))) → is_repeat (steps_bytes gs) (place_of gs i) ≡ false
-      of-kind AllSlice rest d r = (read_plain mesh sizes gs i (rules.allSlice (dims_given rank (step_record steps (record_bytes * i)).lists)) rest d (r ∙ sym rank_is)).0
-      of-kind AllGather rest d r = (read_plain mesh sizes gs i (rules.allGather (dims_given rank (step_record steps (record_bytes * i)).lists)) rest d (r ∙ sym rank_is)).0
+      of-kind AllSlice rest d r = (read_plain mesh sizes gs i (rules.all_slice (dims_given rank (step_record steps (record_bytes * i)).lists)) rest d (r ∙ sym rank_is)).0
+      of-kind AllGather rest d r = (read_plain mesh sizes gs i (rules.all_gather (dims_given rank (step_record steps (record_bytes * i)).lists)) rest d (r ∙ sym rank_is)).0
       of-kind AllReduce rest d r = (read_plain mesh sizes gs i (rules.all_reduce (list_given (step_record steps (record_bytes * i)).list)) rest d tt).0
       of-kind AllToAll rest d r =
           let u = step_record steps (record_bytes * i) in
@@ -173,9 +173,9 @@ module _ (mesh sizes : List ℕ) (rank : ℕ) (rank_is : length sizes ≡ rank) 
         next = place_of gs (i + 1);
       }))
 
-  module _ (h : i < record_count steps) (e : repeatHere steps i ≡ false) (s : Sharding) where
+  module _ (h : i < record_count steps) (e : repeat_here steps i ≡ false) (s : Sharding) where
     in_parts : plain_at mesh sizes (steps_bytes gs) (i + 1) (place_of gs i) s
-        ≡ ◌>>◌ (judgeForm (length mesh) (i + 1) (given_kind (kind_from (kind_of byte)) rank t)) (taken s)
+        ≡ ◌>>◌ (judge_form (length mesh) (i + 1) (given_kind (kind_from (kind_of byte)) rank t)) (taken s)
     in_parts = go (kind_from (kind_of byte)) (gives-plain steps i rank h e) (kind-ranked rank few (kind_from (kind_of byte)) steps (record_bytes * i))
       where
         ranked : (kind : Kind) → Ranked rank (given_kind kind rank t) → Ranked (length sizes) (given_kind kind rank t)
@@ -183,7 +183,7 @@ module _ (mesh sizes : List ℕ) (rank : ℕ) (rank_is : length sizes ≡ rank) 
 
         go : (kind : Kind) → drop i gs ≡ given_kind kind rank t ∷ drop (i + 1) gs → Ranked rank (given_kind kind rank t)
             → plain_at mesh sizes (steps_bytes gs) (i + 1) (place_of gs i) s
-            ≡ ◌>>◌ (judgeForm (length mesh) (i + 1) (given_kind kind rank t)) (◌>>=◌ (judge_step mesh sizes (i + 1) (step_as_given kind rank t) s)
+            ≡ ◌>>◌ (judge_form (length mesh) (i + 1) (given_kind kind rank t)) (◌>>=◌ (judge_step mesh sizes (i + 1) (step_as_given kind rank t) s)
             (λ after. accept (record {
               records = plain (step_as_given kind rank t) ∷ [];
               steps = step_as_given kind rank t ∷ [];
@@ -198,22 +198,22 @@ module _ (mesh sizes : List ℕ) (rank : ℕ) (rank_is : length sizes ≡ rank) 
         go Unknown d r = (read-unknown mesh sizes gs i (drop (i + 1) gs) d).1 (i + 1) s
 
     module _ (n : ℕ) (n_is : length mesh ≡ n) (n-few : n ≤ most_axes) (u : Step) (u-is : u ≡ t) where
-      form-is : {j : Judged (Unit {0})} → judgeForm n (i + 1) (given_kind u.kind rank u) ≡ j
-          → judgeForm (length mesh) (i + 1) (given_kind (kind_from (kind_of byte)) rank t) ≡ j
+      form-is : {j : Judged (Unit {0})} → judge_form n (i + 1) (given_kind u.kind rank u) ≡ j
+          → judge_form (length mesh) (i + 1) (given_kind (kind_from (kind_of byte)) rank t) ≡ j
       form-is q =
-          ap (λ (m : ℕ). judgeForm m (i + 1) (given_kind (kind_from (kind_of byte)) rank t)) n_is
-          ∙ sym (ap (λ (z : Step). judgeForm n (i + 1) (given_kind z.kind rank z)) u-is) ∙ q
+          ap (λ (m : ℕ). judge_form m (i + 1) (given_kind (kind_from (kind_of byte)) rank t)) n_is
+          ∙ sym (ap (λ (z : Step). judge_form n (i + 1) (given_kind z.kind rank z)) u-is) ∙ q
 
-      pub form-stops : {a b : ℕ} → judgeForm n (i + 1) (given_kind u.kind rank u) ≡ refuse a b
+      pub form-stops : {a b : ℕ} → judge_form n (i + 1) (given_kind u.kind rank u) ≡ refuse a b
           → summarized i (plain_at mesh sizes (steps_bytes gs) (i + 1) (place_of gs i) s) ≡ refuse a b
       form-stops q = ap (summarized i) (in_parts ∙ ap (λ (j : Judged (Unit {0})). ◌>>◌ j (taken s)) (form-is q))
 
-      module _ (q : judgeForm n (i + 1) (given_kind u.kind rank u) ≡ accept tt) where
+      module _ (q : judge_form n (i + 1) (given_kind u.kind rank u) ≡ accept tt) where
         judged-as : {j : Judged Sharding} → judge_step mesh sizes (i + 1) (step_of rank u) s ≡ j
             → judge_step mesh sizes (i + 1) (step_as_given (kind_from (kind_of byte)) rank t) s ≡ j
         judged-as o =
             ap (λ (z : rules.Step). judge_step mesh sizes (i + 1) z s)
-            (step_fits n (i + 1) rank (kind_from (kind_of byte)) t n-few (sym (ap (λ (m : ℕ). judgeForm m (i + 1) (given_kind (kind_from (kind_of byte)) rank t)) n_is) ∙ form-is q)
+            (step_fits n (i + 1) rank (kind_from (kind_of byte)) t n-few (sym (ap (λ (m : ℕ). judge_form m (i + 1) (given_kind (kind_from (kind_of byte)) rank t)) n_is) ∙ form-is q)
             ∙ sym (ap (λ (z : Step). step_of rank z) u-is)) ∙ o
 
         -- judged under no number

@@ -15,7 +15,7 @@ use Rattle.types.specs.declared.Mesh.{Mesh}
 use Rattle.types.specs.declared.Table.{Table}
 use Rattle.axes.proofs.Going.{drop_at}
 use Rattle.records.specs.Writing.{judge_order}
-use Rattle.given.specs.Given.{meshFrom, tableFrom}
+use Rattle.given.specs.Given.{mesh_from, table_from}
 
 pub record Sizing (most zero over : ℕ) (sizes : List ℕ) (product i : ℕ) : Type 0 where
   pub small : product ≤ most
@@ -63,10 +63,10 @@ four-places (a ∷ b ∷ c ∷ []) h = refl
 four-places (a ∷ b ∷ c ∷ d ∷ []) h = refl
 four-places (a ∷ b ∷ c ∷ d ∷ e ∷ l) h = absurd (omega arith)
 
-pub mesh_is : {m : Mesh} (l : List ℕ) → length l ≤ 6 → m ≡ meshFrom l → (mesh_of m ≡ l) × (m.n ≡ length l)
+pub mesh_is : {m : Mesh} (l : List ℕ) → length l ≤ 6 → m ≡ mesh_from l → (mesh_of m ≡ l) × (m.n ≡ length l)
 mesh_is l h e = (ap mesh_of e ∙ six-places l h, ap (λ (m : Mesh). m.n) e)
 
-pub table_is : {t : Table} (l : List ℕ) → length l ≤ 4 → t ≡ tableFrom l → (sizes_of t ≡ l) × (t.rank ≡ length l)
+pub table_is : {t : Table} (l : List ℕ) → length l ≤ 4 → t ≡ table_from l → (sizes_of t ≡ l) × (t.rank ≡ length l)
 table_is l h e = (ap sizes_of e ∙ four-places l h, ap (λ (t : Table). t.rank) e)
 
 -- ---- an order

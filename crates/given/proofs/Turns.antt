@@ -16,7 +16,7 @@ use Rattle.laws.proofs.Bytes.{Takes, item-takes}
 use Rattle.laws.proofs.Turns.{steps-sharding}
 use Rattle.records.specs.Records.{Given, steps_bytes}
 use Rattle.records.specs.RoundTrip.{AllRanked}
-use Rattle.given.specs.Given.{place_of, Summary, summarized, verdictOf}
+use Rattle.given.specs.Given.{place_of, Summary, summarized, verdict_of}
 use Rattle.given.proofs.Ends.{Ends, item-ends}
 use Rattle.given.proofs.Inside.{summary-inv, summary-stops}
 
@@ -25,7 +25,7 @@ module _ (mesh sizes : List ℕ) (gs : List Given) where
   file = steps_bytes gs
 
   abbrev turns : (ran count k at : ℕ) → Sharding → Judged (Unit {0})
-  turns ran count k at s = verdictOf (outermost_at every_kind mesh sizes file ran count k at s)
+  turns ran count k at s = verdict_of (outermost_at every_kind mesh sizes file ran count k at s)
 
   -- the steps after the first of them
   abbrev others : (ran count k : ℕ) → StepsRead → Judged (Unit {0})
@@ -44,17 +44,17 @@ module _ (mesh sizes : List ℕ) (gs : List Given) where
       joined : StepsRead → Outermost → Outermost
       joined t ts = record { records = t.records ++ ts.records; steps = t.steps ++ ts.steps; runs = length t.steps ∷ ts.runs; next = ts.next }
 
-      last : (t : StepsRead) (x : Judged Outermost) → verdictOf (◌>>=◌ x (λ ts. accept (joined t ts))) ≡ verdictOf x
+      last : (t : StepsRead) (x : Judged Outermost) → verdict_of (◌>>=◌ x (λ ts. accept (joined t ts))) ≡ verdict_of x
       last t (accept o) = refl
       last t (refuse a b) = refl
 
       mid : (t : StepsRead) (b : Bool) (x : Judged Outermost)
-          → verdictOf (◌>>◌ (need_at k b 43) (◌>>=◌ x (λ ts. accept (joined t ts)))) ≡ ◌>>◌ (need_at k b 43) (verdictOf x)
+          → verdict_of (◌>>◌ (need_at k b 43) (◌>>=◌ x (λ ts. accept (joined t ts)))) ≡ ◌>>◌ (need_at k b 43) (verdict_of x)
       mid t true x = last t x
       mid t false x = refl
 
       go : (x : Judged StepsRead)
-          → verdictOf (◌>>=◌ x (λ t. ◌>>◌ (need_at k (leb (ran + length t.steps) most_run) 43)
+          → verdict_of (◌>>=◌ x (λ t. ◌>>◌ (need_at k (leb (ran + length t.steps) most_run) 43)
           (◌>>=◌ (outermost_at every_kind mesh sizes file (ran + length t.steps) count (k + length t.records) t.next t.sharding) (λ ts. accept (joined t ts)))))
           ≡ ◌>>=◌ x (others ran count k)
       go (accept t) = mid t (leb (ran + length t.steps) most_run) (outermost_at every_kind mesh sizes file (ran + length t.steps) count (k + length t.records) t.next t.sharding)
@@ -66,7 +66,7 @@ module _ (mesh sizes : List ℕ) (gs : List Given) where
     pub inside : place ≤ length gs
     pub sound : IsSharding mesh sizes s
     pub ran_few : ran ≤ most_run
-    pub same : verdictOf (outermost_at every_kind mesh sizes (steps_bytes gs) 0 count 1 0 s₀) ≡ turns ran (count - n) (place + 1) (place_of gs place) s
+    pub same : verdict_of (outermost_at every_kind mesh sizes (steps_bytes gs) 0 count 1 0 s₀) ≡ turns ran (count - n) (place + 1) (place_of gs place) s
 
   pub turns-start : (count : ℕ) (s₀ : Sharding) → IsSharding mesh sizes s₀ → Turning count s₀ 0 0 0 s₀
   unfolding steps_bytes
@@ -75,12 +75,12 @@ module _ (mesh sizes : List ℕ) (gs : List Given) where
       record { few = omega arith; inside = omega arith; sound = h; ran_few = omega arith; same = ap (λ (n : ℕ). turns 0 n 1 0 s₀) z }
 
   module _ {count : ℕ} {s₀ : Sharding} {n place ran : ℕ} {s : Sharding} (g : Turning count s₀ n place ran s) where
-    pub turns-done : count ≤ n → verdictOf (outermost_at every_kind mesh sizes (steps_bytes gs) 0 count 1 0 s₀) ≡ accept tt
+    pub turns-done : count ≤ n → verdict_of (outermost_at every_kind mesh sizes (steps_bytes gs) 0 count 1 0 s₀) ≡ accept tt
     unfolding outermost_at
     turns-done h = let z : count - n ≡ 0 = omega arith in g.same ∙ ap (λ (m : ℕ). turns ran m (place + 1) (place_of gs place) s) z
 
     pub turn-stops : {a b : ℕ} → n < count → summarized place (item_at every_kind mesh sizes (steps_bytes gs) most_depth (place + 1) (place_of gs place) s) ≡ refuse a b
-        → verdictOf (outermost_at every_kind mesh sizes (steps_bytes gs) 0 count 1 0 s₀) ≡ refuse a b
+        → verdict_of (outermost_at every_kind mesh sizes (steps_bytes gs) 0 count 1 0 s₀) ≡ refuse a b
     turn-stops h e = g.same ∙ first_of ran (count - n) (place + 1) (place_of gs place) s (omega arith) (summary-stops place _ e)
 
     module _ (ranked : AllRanked (length sizes) gs) (pos : (a : ℕ) → 0 < get_or mesh a 1) (h : n < count) {runs' place' : ℕ} {s' : Sharding}
@@ -119,7 +119,7 @@ module _ (mesh sizes : List ℕ) (gs : List Given) where
             few = omega (arith, t.few, r-is);
           }
 
-      then-others : verdictOf (outermost_at every_kind mesh sizes (steps_bytes gs) 0 count 1 0 s₀)
+      then-others : verdict_of (outermost_at every_kind mesh sizes (steps_bytes gs) 0 count 1 0 s₀)
           ≡ ◌>>◌ (need_at (place + 1) (leb (ran + runs') most_run) 43) (turns (ran + runs') (count - (n + 1)) (place' + 1) (place_of gs place') s')
       then-others =
           let t = turned in
@@ -128,7 +128,7 @@ module _ (mesh sizes : List ℕ) (gs : List Given) where
           g.same ∙ first_of ran (count - n) (place + 1) (place_of gs place) s (omega arith) t.reads
           ∙ (λ j. ◌>>◌ (need_at (place + 1) (leb (ran + t.runs_are j) most_run) 43) (turns (ran + t.runs_are j) (m j) (k-is j) (t.next_is j) (t.sharding_is j)))
 
-      pub turn-over : most_run < ran + runs' → verdictOf (outermost_at every_kind mesh sizes (steps_bytes gs) 0 count 1 0 s₀) ≡ refuse 43 (place + 1)
+      pub turn-over : most_run < ran + runs' → verdict_of (outermost_at every_kind mesh sizes (steps_bytes gs) 0 count 1 0 s₀) ≡ refuse 43 (place + 1)
       turn-over o =
           then-others ∙ ap (λ (b : Bool). ◌>>◌ (need_at (place + 1) b 43) (turns (ran + runs') (count - (n + 1)) (place' + 1) (place_of gs place') s')) (lt-leb _ _ o)
 

@@ -22,13 +22,13 @@ use Rattle.laws.proofs.Accepted.{SizesFacts, sizes-facts, start-sharding}
 use Rattle.records.specs.Records.{outermost, steps_bytes}
 use Rattle.records.specs.Writing.{judge_counts, judge_sharding, judge_order, judge_opening, most_records, step_numbered, judge_records}
 use Rattle.records.specs.Forms.{list_given, dims_given, sharding_given, steps_given, records_given}
-use Rattle.given.specs.Given.{judgeLimits, meshFrom, tableFrom, Shaped, verdictOf, judgeShape, outermostGiven, judgeRest}
+use Rattle.given.specs.Given.{judge_limits, mesh_from, table_from, Shaped, verdict_of, judge_shape, outermost_given, judge_rest}
 use Rattle.given.proofs.Sizes.{mesh_is, table_is}
 use Rattle.given.proofs.Counts.{sharding-fits}
 
 -- ---- what passed
 
-module _ (mesh : List ℕ) (rank steps : ℕ) (l : judgeLimits (length mesh) rank steps ≡ accept tt) (m : judge_sizes most_devices 10 11 1 mesh ≡ accept tt) where
+module _ (mesh : List ℕ) (rank steps : ℕ) (l : judge_limits (length mesh) rank steps ≡ accept tt) (m : judge_sizes most_devices 10 11 1 mesh ≡ accept tt) where
   pub on-mesh : OnMesh mesh
   on-mesh =
       let c = need-inv 0 (axes_allowed (length mesh)) 5 _ tt l in
@@ -52,24 +52,24 @@ module _ (mesh : List ℕ) (rank steps : ℕ) (l : judgeLimits (length mesh) ran
       let f : SizesFacts most_devices 1 mesh = sizes-facts most_devices 10 11 1 mesh (omega arith) (omega arith) m in
       record { least = f.each_pos; most = f.each_few }
 
-module _ (mesh order sizes : List ℕ) (steps : ℕ) (e : judgeShape mesh order sizes steps ≡ accept tt) where
+module _ (mesh order sizes : List ℕ) (steps : ℕ) (e : judge_shape mesh order sizes steps ≡ accept tt) where
   pub axes_few : length mesh ≤ most_axes
   axes_few =
-      let a = then-inv (judgeLimits (length mesh) (length sizes) steps) _ tt e in
+      let a = then-inv (judge_limits (length mesh) (length sizes) steps) _ tt e in
       let b = then-inv (judge_sizes most_devices 10 11 1 mesh) _ tt a.1 in
       (on-mesh mesh (length sizes) steps a.0.1 b.0.1).axes_few
 
   pub dims-few : length sizes ≤ most_dims
   dims-few =
-      let a = then-inv (judgeLimits (length mesh) (length sizes) steps) _ tt e in
+      let a = then-inv (judge_limits (length mesh) (length sizes) steps) _ tt e in
       let b = then-inv (judge_sizes most_devices 10 11 1 mesh) _ tt a.1 in
       rank_few mesh (length sizes) steps a.0.1 b.0.1
 
-  pub shaped : (m : Mesh) (t : Table) → m ≡ meshFrom mesh → t ≡ tableFrom sizes → Shaped m t
+  pub shaped : (m : Mesh) (t : Table) → m ≡ mesh_from mesh → t ≡ table_from sizes → Shaped m t
   shaped m t m-is t-is =
       let p = mesh_is mesh axes_few m-is in
       let q = table_is sizes dims-few t-is in
-      let a = then-inv (judgeLimits (length mesh) (length sizes) steps) _ tt e in
+      let a = then-inv (judge_limits (length mesh) (length sizes) steps) _ tt e in
       let b = then-inv (judge_sizes most_devices 10 11 1 mesh) _ tt a.1 in
       record {
         fits = record {
@@ -96,24 +96,24 @@ module _ (mesh sizes : List ℕ) (n rank : ℕ) (s : code.Sharding) (n_is : leng
 
   -- then the records
   module _ (steps : List ℕ) (count : ℕ) where
-    pub records-decide : judgeRest mesh sizes rank s steps count ≡ step_numbered (outermostGiven mesh sizes rank steps count (sharding_of rank s))
+    pub records-decide : judge_rest mesh sizes rank s steps count ≡ step_numbered (outermost_given mesh sizes rank steps count (sharding_of rank s))
     records-decide =
-        ap (λ (j : Judged (Unit {0})). ◌>>◌ j (step_numbered (outermostGiven mesh sizes rank steps count (sharding_given rank s)))) e
-        ∙ ap (λ (s : Sharding). step_numbered (outermostGiven mesh sizes rank steps count s)) is-sharding.0
+        ap (λ (j : Judged (Unit {0})). ◌>>◌ j (step_numbered (outermost_given mesh sizes rank steps count (sharding_given rank s)))) e
+        ∙ ap (λ (s : Sharding). step_numbered (outermost_given mesh sizes rank steps count s)) is-sharding.0
 
 -- ---- the parts
 
-numbered-verdict : {A : Type 0} (x : Judged A) → verdictOf (step_numbered x) ≡ step_numbered (verdictOf x)
+numbered-verdict : {A : Type 0} (x : Judged A) → verdict_of (step_numbered x) ≡ step_numbered (verdict_of x)
 numbered-verdict (accept a) = refl
 numbered-verdict {A} (refuse n k) = go (leb k most_records)
   where
-    go : (b : Bool) → verdictOf {A = A} (pick b (refuse n k) (refuse 2 0)) ≡ pick b (refuse n k) (refuse 2 0)
+    go : (b : Bool) → verdict_of {A = A} (pick b (refuse n k) (refuse 2 0)) ≡ pick b (refuse n k) (refuse 2 0)
     go true = refl
     go false = refl
 
 regrouped : {A B : Type 0} (a b c d e f g : Judged (Unit {0})) (x : Judged A) (k : A → B)
-    → verdictOf (◌>>◌ (◌>>◌ a (◌>>◌ b (◌>>◌ c (◌>>◌ d (◌>>◌ e (◌>>◌ f g)))))) (◌>>=◌ x (λ o. accept (k o))))
-    ≡ ◌>>◌ (◌>>◌ (◌>>◌ a (◌>>◌ b c)) (◌>>◌ d (◌>>◌ e f))) (◌>>◌ g (verdictOf x))
+    → verdict_of (◌>>◌ (◌>>◌ a (◌>>◌ b (◌>>◌ c (◌>>◌ d (◌>>◌ e (◌>>◌ f g)))))) (◌>>=◌ x (λ o. accept (k o))))
+    ≡ ◌>>◌ (◌>>◌ (◌>>◌ a (◌>>◌ b c)) (◌>>◌ d (◌>>◌ e f))) (◌>>◌ g (verdict_of x))
 regrouped (refuse m n) b c d e f g x k = refl
 regrouped (accept u) (refuse m n) c d e f g x k = refl
 regrouped (accept u) (accept v) (refuse m n) d e f g x k = refl
@@ -125,8 +125,8 @@ regrouped (accept u) (accept v) (accept w) (accept y) (accept z) (accept p) (acc
 regrouped (accept u) (accept v) (accept w) (accept y) (accept z) (accept p) (accept q) (refuse m n) k = refl
 
 module _ (mesh order sizes : List ℕ) (start : code.Sharding) (steps : List ℕ) {count : ℕ} (c : count ≡ outermost (steps_given (length sizes) steps)) where
-  pub in_parts : verdictOf (judge_records (records_given mesh order sizes start steps))
-      ≡ ◌>>◌ (judgeShape mesh order sizes count) (judgeRest mesh sizes (length sizes) start steps count)
+  pub in_parts : verdict_of (judge_records (records_given mesh order sizes start steps))
+      ≡ ◌>>◌ (judge_shape mesh order sizes count) (judge_rest mesh sizes (length sizes) start steps count)
   unfolding judge_records judge_opening
   in_parts =
       let read : Judged Outermost =
@@ -134,15 +134,15 @@ module _ (mesh order sizes : List ℕ) (start : code.Sharding) (steps : List ℕ
       regrouped (need (axes_allowed (length mesh)) 5) (need (rank_allowed (length sizes)) 5) (need (leb (outermost (steps_given (length sizes) steps)) most_steps) 5)
       (judge_sizes most_devices 10 11 1 mesh) (judge_order (devices mesh) order) (judge_sizes most_words 12 13 1 sizes)
       (judge_sharding mesh sizes (sharding_given (length sizes) start)) (step_numbered read) _
-      ∙ (λ i. ◌>>◌ (judgeShape mesh order sizes (outermost (steps_given (length sizes) steps)))
+      ∙ (λ i. ◌>>◌ (judge_shape mesh order sizes (outermost (steps_given (length sizes) steps)))
       (◌>>◌ (judge_sharding mesh sizes (sharding_given (length sizes) start)) (numbered-verdict read i)))
-      ∙ (λ i. ◌>>◌ (judgeShape mesh order sizes (sym c i)) (◌>>◌ (judge_sharding mesh sizes (sharding_given (length sizes) start))
-      (step_numbered (outermostGiven mesh sizes (length sizes) steps (sym c i) (sharding_given (length sizes) start)))))
+      ∙ (λ i. ◌>>◌ (judge_shape mesh order sizes (sym c i)) (◌>>◌ (judge_sharding mesh sizes (sharding_given (length sizes) start))
+      (step_numbered (outermost_given mesh sizes (length sizes) steps (sym c i) (sharding_given (length sizes) start)))))
 
   -- the rest, of the code's mesh and table
-  pub rest_of : judgeShape mesh order sizes count ≡ accept tt → (m : Mesh) (t : Table) → m ≡ meshFrom mesh → t ≡ tableFrom sizes
-      → judgeRest (mesh_of m) (sizes_of t) t.rank start steps count ≡ judgeRest mesh sizes (length sizes) start steps count
+  pub rest_of : judge_shape mesh order sizes count ≡ accept tt → (m : Mesh) (t : Table) → m ≡ mesh_from mesh → t ≡ table_from sizes
+      → judge_rest (mesh_of m) (sizes_of t) t.rank start steps count ≡ judge_rest mesh sizes (length sizes) start steps count
   rest_of e m t m-is t-is =
       let p = mesh_is mesh (axes_few mesh order sizes count e) m-is in
       let q = table_is sizes (dims-few mesh order sizes count e) t-is in
-      λ i. judgeRest (p.0 i) (q.0 i) (q.1 i) start steps count
+      λ i. judge_rest (p.0 i) (q.0 i) (q.1 i) start steps count

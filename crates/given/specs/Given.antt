@@ -24,18 +24,18 @@ use Rattle.given.specs.declared.RecordsJudged.{RecordsJudged}
 -- ---- what stands before the steps
 
 -- 5: "n, rank or step count outside its limits"
-abbrev pub judgeLimits : (n rank steps : ℕ) → Judged (Unit {0})
-judgeLimits n rank steps = do
+abbrev pub judge_limits : (n rank steps : ℕ) → Judged (Unit {0})
+judge_limits n rank steps = do
   need (axes_allowed n) 5
   need (rank_allowed rank) 5
   need (leb steps most_steps) 5
 
 -- the mesh and the table of so many sizes; a place past the last holds 1
-abbrev pub meshFrom : List ℕ → Mesh
-meshFrom l = record { n = length l; sizes = get_or l 0 1 ∷ get_or l 1 1 ∷ get_or l 2 1 ∷ get_or l 3 1 ∷ get_or l 4 1 ∷ get_or l 5 1 ∷ [] }
+abbrev pub mesh_from : List ℕ → Mesh
+mesh_from l = record { n = length l; sizes = get_or l 0 1 ∷ get_or l 1 1 ∷ get_or l 2 1 ∷ get_or l 3 1 ∷ get_or l 4 1 ∷ get_or l 5 1 ∷ [] }
 
-abbrev pub tableFrom : List ℕ → Table
-tableFrom l = record { rank = length l; sizes = get_or l 0 1 ∷ get_or l 1 1 ∷ get_or l 2 1 ∷ get_or l 3 1 ∷ [] }
+abbrev pub table_from : List ℕ → Table
+table_from l = record { rank = length l; sizes = get_or l 0 1 ∷ get_or l 1 1 ∷ get_or l 2 1 ∷ get_or l 3 1 ∷ [] }
 
 -- a mesh and a table within their places, with as many sizes as they say
 pub record Shaped (mesh : Mesh) (table : Table) : Type 0 where
@@ -47,21 +47,21 @@ pub record Shaped (mesh : Mesh) (table : Table) : Type 0 where
 
 -- the lists of a step, in file order
 abbrev pub lists_in : rules.Step → List (List ℕ)
-lists_in (rules.allSlice Ss) = Ss
-lists_in (rules.allGather Gs) = Gs
+lists_in (rules.all_slice Ss) = Ss
+lists_in (rules.all_gather Gs) = Gs
 lists_in (rules.all_reduce L) = L ∷ []
 lists_in (rules.all_to_all source target L) = L ∷ []
 lists_in (rules.reduce_scatter Ss) = Ss
 
 -- what is judged of a record with number k before its step is: 20, and 8 over its lists
-abbrev pub judgeForm : (n k : ℕ) → Given → Judged (Unit {0})
-judgeForm n k (known (plain t)) = judge_counts n (lists_in t)
-judgeForm n k (known (repeat count number)) = accept tt
-judgeForm n k unknown = refuse 20 k
+abbrev pub judge_form : (n k : ℕ) → Given → Judged (Unit {0})
+judge_form n k (known (plain t)) = judge_counts n (lists_in t)
+judge_form n k (known (repeat count number)) = accept tt
+judge_form n k unknown = refuse 20 k
 
 -- record i is there and is a repeat
-abbrev pub repeatHere : List ℕ → ℕ → Bool
-repeatHere steps i = ltb i (record_count steps) && eqb (get_or steps (record_bytes * i) 0) 9
+abbrev pub repeat_here : List ℕ → ℕ → Bool
+repeat_here steps i = ltb i (record_count steps) && eqb (get_or steps (record_bytes * i) 0) 9
 
 -- a byte's number of inner steps
 abbrev pub FewInner : RepeatRead → Type 0
@@ -69,14 +69,14 @@ FewInner (read.Of count number) = number ≤ 255
 FewInner (read.Refused r) = Unit {0}
 
 -- the bytes that the records stand for, and where record i begins there
-abbrev pub bytesGiven : (rank : ℕ) → List ℕ → List ℕ
-bytesGiven rank steps = steps_bytes (steps_given rank steps)
+abbrev pub bytes_given : (rank : ℕ) → List ℕ → List ℕ
+bytes_given rank steps = steps_bytes (steps_given rank steps)
 
 abbrev pub place_of : List Given → ℕ → ℕ
 place_of gs i = length (steps_bytes (take i gs))
 
-abbrev pub placeGiven : (rank : ℕ) → List ℕ → ℕ → ℕ
-placeGiven rank steps i = place_of (steps_given rank steps) i
+abbrev pub place_given : (rank : ℕ) → List ℕ → ℕ → ℕ
+place_given rank steps i = place_of (steps_given rank steps) i
 
 -- ---- records that were judged
 
@@ -86,24 +86,24 @@ pub record Summary : Type 0 where
   pub sharding : Sharding
 
 -- of what is read from record i on; the next is a record's number
-abbrev pub summaryOf : ℕ → StepsRead → Read Summary
-summaryOf i w = record { value = record { runs = length w.steps; sharding = w.sharding }; next = i + length w.records }
+abbrev pub summary_of : ℕ → StepsRead → Read Summary
+summary_of i w = record { value = record { runs = length w.steps; sharding = w.sharding }; next = i + length w.records }
 
 abbrev pub summarized : ℕ → Judged StepsRead → Judged (Read Summary)
-summarized i (accept w) = accept (summaryOf i w)
+summarized i (accept w) = accept (summary_of i w)
 summarized i (refuse a b) = refuse a b
 
 -- record i by itself: of a plain step, of a repeat with all steps inside it, and of whichever it is
-abbrev pub plainGiven : (mesh sizes : List ℕ) → (rank : ℕ) → List ℕ → ℕ → Sharding → Judged (Read Summary)
-plainGiven mesh sizes rank steps i s = step_numbered (summarized i (plain_at mesh sizes (bytesGiven rank steps) (i + 1) (placeGiven rank steps i) s))
+abbrev pub plain_given : (mesh sizes : List ℕ) → (rank : ℕ) → List ℕ → ℕ → Sharding → Judged (Read Summary)
+plain_given mesh sizes rank steps i s = step_numbered (summarized i (plain_at mesh sizes (bytes_given rank steps) (i + 1) (place_given rank steps i) s))
 
-abbrev pub repeatGiven : (mesh sizes : List ℕ) → (rank : ℕ) → List ℕ → (depth i : ℕ) → Sharding → Judged (Read Summary)
-repeatGiven mesh sizes rank steps depth i s =
-    step_numbered (summarized i (repeat_at (inner_at mesh sizes (bytesGiven rank steps) depth (i + 1)) (bytesGiven rank steps) (i + 1) (placeGiven rank steps i + 1) s))
+abbrev pub repeat_given : (mesh sizes : List ℕ) → (rank : ℕ) → List ℕ → (depth i : ℕ) → Sharding → Judged (Read Summary)
+repeat_given mesh sizes rank steps depth i s =
+    step_numbered (summarized i (repeat_at (inner_at mesh sizes (bytes_given rank steps) depth (i + 1)) (bytes_given rank steps) (i + 1) (place_given rank steps i + 1) s))
 
-abbrev pub itemGiven : (mesh sizes : List ℕ) → (rank : ℕ) → List ℕ → (depth i : ℕ) → Sharding → Judged (Read Summary)
-itemGiven mesh sizes rank steps depth i s =
-    step_numbered (summarized i (item_at every_kind mesh sizes (bytesGiven rank steps) depth (i + 1) (placeGiven rank steps i) s))
+abbrev pub item_given : (mesh sizes : List ℕ) → (rank : ℕ) → List ℕ → (depth i : ℕ) → Sharding → Judged (Read Summary)
+item_given mesh sizes rank steps depth i s =
+    step_numbered (summarized i (item_at every_kind mesh sizes (bytes_given rank steps) depth (i + 1) (place_given rank steps i) s))
 
 abbrev pub summary_in : ℕ → RecordsJudged → Summary
 summary_in rank r = record { runs = r.runs; sharding = sharding_of rank r.sharding }
@@ -136,24 +136,24 @@ closed k count rank before block = step_numbered (do
 -- ---- the whole
 
 -- the verdict alone
-abbrev pub verdictOf : {A : Type 0} → Judged A → Judged (Unit {0})
-verdictOf (accept a) = accept tt
-verdictOf (refuse n k) = refuse n k
+abbrev pub verdict_of : {A : Type 0} → Judged A → Judged (Unit {0})
+verdict_of (accept a) = accept tt
+verdict_of (refuse n k) = refuse n k
 
 -- mesh, order and table, with so many outermost steps: 5, 10, 11, 19, 12, 13
-abbrev pub judgeShape : (mesh order sizes : List ℕ) → (steps : ℕ) → Judged (Unit {0})
-judgeShape mesh order sizes steps = do
-  judgeLimits (length mesh) (length sizes) steps
+abbrev pub judge_shape : (mesh order sizes : List ℕ) → (steps : ℕ) → Judged (Unit {0})
+judge_shape mesh order sizes steps = do
+  judge_limits (length mesh) (length sizes) steps
   judge_sizes most_devices 10 11 1 mesh
   judge_order (devices mesh) order
   judge_sizes most_words 12 13 1 sizes
 
 -- so many outermost steps, from the first record on
-abbrev pub outermostGiven : (mesh sizes : List ℕ) → (rank : ℕ) → List ℕ → (count : ℕ) → Sharding → Judged (Unit {0})
-outermostGiven mesh sizes rank steps count s = verdictOf (outermost_at every_kind mesh sizes (bytesGiven rank steps) 0 count 1 0 s)
+abbrev pub outermost_given : (mesh sizes : List ℕ) → (rank : ℕ) → List ℕ → (count : ℕ) → Sharding → Judged (Unit {0})
+outermost_given mesh sizes rank steps count s = verdict_of (outermost_at every_kind mesh sizes (bytes_given rank steps) 0 count 1 0 s)
 
 -- the sharding, then the records
-abbrev pub judgeRest : (mesh sizes : List ℕ) → (rank : ℕ) → code.Sharding → List ℕ → (count : ℕ) → Judged (Unit {0})
-judgeRest mesh sizes rank start steps count = do
+abbrev pub judge_rest : (mesh sizes : List ℕ) → (rank : ℕ) → code.Sharding → List ℕ → (count : ℕ) → Judged (Unit {0})
+judge_rest mesh sizes rank start steps count = do
   judge_sharding mesh sizes (sharding_given rank start)
-  step_numbered (outermostGiven mesh sizes rank steps count (sharding_given rank start))
+  step_numbered (outermost_given mesh sizes rank steps count (sharding_given rank start))

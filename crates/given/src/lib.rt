@@ -13,9 +13,9 @@ ghost use Rattle.start.specs.Start.{meaning};
 ghost use Rattle.blocks.specs.Blocks.{head_at, repeat_read};
 ghost use Rattle.records.specs.Writing.{judge_counts, judge_sharding, judge_order, step_numbered, judge_records};
 ghost use Rattle.records.specs.Forms.{list_given, dims_given, sharding_given, given_kind, records_given};
-ghost use Rattle.given.specs.Given.{judgeLimits, meshFrom, tableFrom, Shaped, judgeForm, repeatHere, FewInner, bytesGiven, placeGiven};
-ghost use Rattle.given.specs.Given.{plainGiven, repeatGiven, itemGiven, RecordsTell, Judging, Closing, closed};
-ghost use Rattle.given.specs.Given.{verdictOf, judgeShape, outermostGiven, judgeRest};
+ghost use Rattle.given.specs.Given.{judge_limits, mesh_from, table_from, Shaped, judge_form, repeat_here, FewInner, bytes_given, place_given};
+ghost use Rattle.given.specs.Given.{plain_given, repeat_given, item_given, RecordsTell, Judging, Closing, closed};
+ghost use Rattle.given.specs.Given.{verdict_of, judge_shape, outermost_given, judge_rest};
 
 use blocks::{RepeatRead, same_sharding};
 use encode::{StepRecord, outermost_steps, step_record};
@@ -30,7 +30,7 @@ use types::{
 
 // 5: "n, rank or step count outside its limits"; the steps that count are the outermost ones.
 pub fn judge_limits(n: usize, rank: usize, steps: usize) -> Verdict
-    ensures { meaning result ≡ judgeLimits n rank steps }
+    ensures { meaning result ≡ judge_limits n rank steps }
 {
     if n < 1 {
         return refused(Reason::CountOutsideLimits, 0);
@@ -95,7 +95,7 @@ fn size_or_one(sizes: &[u16], i: usize) -> u16
 
 // The mesh of these sizes.
 pub fn mesh_of(sizes: &[u16]) -> Mesh
-    ensures { result ≡ meshFrom sizes.now }
+    ensures { result ≡ mesh_from sizes.now }
 {
     let n = sizes.len();
     let places = [
@@ -111,7 +111,7 @@ pub fn mesh_of(sizes: &[u16]) -> Mesh
 
 // The table of these sizes.
 pub fn table_of(sizes: &[u16]) -> Table
-    ensures { result ≡ tableFrom sizes.now }
+    ensures { result ≡ table_from sizes.now }
 {
     let rank = sizes.len();
     let places = [
@@ -185,7 +185,7 @@ pub fn judge_sharding(sharding: Sharding, mesh: Mesh, table: Table) -> Verdict
 
 // Whether record i is there and is a repeat.
 pub fn is_repeat(steps: &[u8], i: usize) -> bool
-    ensures { result ≡ repeatHere steps.now i }
+    ensures { result ≡ repeat_here steps.now i }
 {
     if steps.len() / StepRecord::BYTES <= i {
         return false;
@@ -210,7 +210,7 @@ fn refusal_at(reason: Reason, i: usize) -> Refusal
 // Record i of a plain step before its step is judged: 20, then 8 over its lists.
 fn judge_form(step: Step, i: usize, rank: usize, n: usize) -> Verdict
     requires { (rank ≤ most_dims) × (n ≤ most_axes) }
-    ensures { meaning result ≡ step_numbered (judgeForm n (i + 1) (given_kind step.kind rank step)) }
+    ensures { meaning result ≡ step_numbered (judge_form n (i + 1) (given_kind step.kind rank step)) }
 {
     let kind = step.kind;
     match kind {
@@ -252,9 +252,9 @@ fn judge_plain(
     table: Table,
     sharding: Sharding,
 ) -> RecordsJudged
-    requires { Judging steps.now i mesh table sharding × (repeatHere steps.now i ≡ false) }
+    requires { Judging steps.now i mesh table sharding × (repeat_here steps.now i ≡ false) }
     ensures { RecordsTell table.rank (sharding_of table.rank sharding)
-        (plainGiven (mesh_of mesh) (sizes_of table) table.rank steps.now i (sharding_of table.rank sharding)) result }
+        (plain_given (mesh_of mesh) (sizes_of table) table.rank steps.now i (sharding_of table.rank sharding)) result }
 {
     if steps.len() / StepRecord::BYTES <= i {
         let past = Refusal {
@@ -285,9 +285,9 @@ fn judge_plain(
 
 // How often the block of record i is run and how many steps it has, where repeats may nest so deep, this one included: 44, then 42.
 fn read_head(steps: &[u8], i: usize, depth: usize) -> RepeatRead
-    requires { repeatHere steps.now i ≡ true }
+    requires { repeat_here steps.now i ≡ true }
     ensures by_index { (rank : ℕ) → repeat_read result
-        ≡ step_numbered (head_at depth (i + 1) (bytesGiven rank steps.now) (placeGiven rank steps.now i + 1)) }
+        ≡ step_numbered (head_at depth (i + 1) (bytes_given rank steps.now) (place_given rank steps.now i + 1)) }
     ensures few_inner { FewInner result }
 {
     let at = StepRecord::BYTES * i;
@@ -343,9 +343,9 @@ pub fn judge_repeat(
     table: Table,
     sharding: Sharding,
 ) -> RecordsJudged
-    requires { Judging steps.now i mesh table sharding × (repeatHere steps.now i ≡ true) }
+    requires { Judging steps.now i mesh table sharding × (repeat_here steps.now i ≡ true) }
     ensures { RecordsTell table.rank (sharding_of table.rank sharding)
-        (repeatGiven (mesh_of mesh) (sizes_of table) table.rank steps.now depth i (sharding_of table.rank sharding)) result }
+        (repeat_given (mesh_of mesh) (sizes_of table) table.rank steps.now depth i (sharding_of table.rank sharding)) result }
 {
     let head = read_head(steps, i, depth);
     let RepeatRead::Of(count, inner) = head else {
@@ -388,7 +388,7 @@ pub fn judge_record(
 ) -> RecordsJudged
     requires { Judging steps.now i mesh table sharding }
     ensures { RecordsTell table.rank (sharding_of table.rank sharding)
-        (itemGiven (mesh_of mesh) (sizes_of table) table.rank steps.now depth i (sharding_of table.rank sharding)) result }
+        (item_given (mesh_of mesh) (sizes_of table) table.rank steps.now depth i (sharding_of table.rank sharding)) result }
 {
     if is_repeat(steps, i) {
         judge_repeat(steps, i, depth, mesh, table, sharding)
@@ -400,7 +400,7 @@ pub fn judge_record(
 // So many outermost steps, from the first record on; 43 "after each outermost step for the plan so far".
 fn judge_outermost(steps: &[u8], count: usize, mesh: Mesh, table: Table, start: Sharding) -> Verdict
     requires { Judging steps.now 0 mesh table start }
-    ensures { meaning result ≡ step_numbered (outermostGiven (mesh_of mesh) (sizes_of table) table.rank steps.now count (sharding_of table.rank start)) }
+    ensures { meaning result ≡ step_numbered (outermost_given (mesh_of mesh) (sizes_of table) table.rank steps.now count (sharding_of table.rank start)) }
 {
     let depth = Step::MOST_DEPTH;
     let mut after = start;
@@ -427,7 +427,7 @@ fn judge_outermost(steps: &[u8], count: usize, mesh: Mesh, table: Table, start: 
 // The starting sharding, then the records, of which so many stand in no block.
 fn judge_rest(steps: &[u8], count: usize, mesh: Mesh, table: Table, start: Sharding) -> Verdict
     requires { Shaped mesh table }
-    ensures { meaning result ≡ judgeRest (mesh_of mesh) (sizes_of table) table.rank start steps.now count }
+    ensures { meaning result ≡ judge_rest (mesh_of mesh) (sizes_of table) table.rank start steps.now count }
 {
     let sharding = judge_sharding(start, mesh, table);
     let Verdict::Fine = sharding else {
@@ -438,7 +438,7 @@ fn judge_rest(steps: &[u8], count: usize, mesh: Mesh, table: Table, start: Shard
 
 // Mesh, order and table, with so many outermost steps: 5, 10, 11, 19, 12, 13.
 pub fn judge_shape<'a>(mesh: &'a [u16], order: &'a [u16], sizes: &'a [u16], steps: usize) -> Verdict
-    ensures { meaning result ≡ judgeShape mesh.now order.now sizes.now steps }
+    ensures { meaning result ≡ judge_shape mesh.now order.now sizes.now steps }
 {
     let limits = judge_limits(mesh.len(), sizes.len(), steps);
     let Verdict::Fine = limits else {
@@ -474,7 +474,7 @@ pub fn judge_records<'a>(
     steps: &[u8],
 ) -> Verdict
     ensures { meaning result
-        ≡ verdictOf (judge_records (records_given mesh.now order.now sizes.now start steps.now)) }
+        ≡ verdict_of (judge_records (records_given mesh.now order.now sizes.now start steps.now)) }
 {
     let count = outermost_steps(steps);
     let shape = judge_shape(mesh, order, sizes, count);

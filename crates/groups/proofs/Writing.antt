@@ -10,7 +10,7 @@ use lib.ListN.{length, get_or, set, take, drop, length-set, length-append, lengt
 use lib.Seq.{drop_at, drop-cons, drop-drop, drop-set-lt}
 use Rattle.rules.specs.Lists.{tab, product, In, Distinct}
 use Rattle.rules.specs.Mesh.{devices, span}
-use Rattle.laws.proofs.Lists.{length-tab, getD-tab, tab-cong}
+use Rattle.laws.proofs.Lists.{length-tab, get_or-tab, tab-cong}
 use Rattle.laws.proofs.Positions.{span-append}
 use Rattle.laws.proofs.Buffers.{number-coords}
 use Rattle.laws.proofs.Fronts.{Filled, part-tab, next-part}
@@ -23,7 +23,7 @@ use Rattle.groups.specs.Ordering.{along, repeated, IsAxisOrder, Repeats}
 -- an entry that is written
 filled_at : {f : ℕ → ℕ} {l out : List ℕ} {t : ℕ} → Filled f l out t → (k : ℕ) → k < t → get_or out k 0 ≡ f k
 filled_at {f} {l} {out} {t} g k h =
-    ap (λ (o : List ℕ). get_or o k 0) g.front ∙ get_or-append (tab t f) (drop t l) 0 k (omega (arith, length-tab t f)) ∙ getD-tab t k f 0 h
+    ap (λ (o : List ℕ). get_or o k 0) g.front ∙ get_or-append (tab t f) (drop t l) 0 k (omega (arith, length-tab t f)) ∙ get_or-tab t k f 0 h
 
 first-filled : (f : ℕ → ℕ) (l : List ℕ) → 0 < length l → f 0 ≡ 0 → Filled f (set l 0 0) (set l 0 0) 1
 first-filled f [] h e = absurd (omega arith)

@@ -8,7 +8,7 @@ ghost use Rattle.rules.specs.Limits.{most_axes, most_dims};
 ghost use Rattle.rules.specs.Sharding.{named};
 ghost use Rattle.rules.specs.Refusals.{accept, refuse};
 ghost use Rattle.types.specs.Answers.{number_of};
-ghost use Rattle.rules.specs.Collectives.{allSlice, all_reduce, all_to_all, reduce_scatter, step_axes, reduced as reduced_of};
+ghost use Rattle.rules.specs.Collectives.{all_slice, all_reduce, all_to_all, reduce_scatter, step_axes, reduced as reduced_of};
 ghost use Rattle.rules.specs.PlanFile.{all_below, two_dims, gather_off, slice_on, judge_kind, judge_named, judge_step};
 ghost use Rattle.types.specs.Types.{axes_of, dims_of, sharding_of, step_of, mesh_of, sizes_of, WithinPlaces};
 ghost use Rattle.axes.specs.Marks.{marks_with};
@@ -131,7 +131,7 @@ fn mark_named(sharding: Sharding, rank: usize, marks: &mut [bool])
 fn judge_slice(lists: DimLists, k: u16, sharding: Sharding, mesh: Mesh, table: Table) -> After
     requires { Sharded mesh table sharding × T (all_below mesh.n (flat (take table.rank (dims_of lists)))) }
     ensures { meaning_after table.rank result
-        ≡ judge_kind (mesh_of mesh) (sizes_of table) k (allSlice (take table.rank (dims_of lists))) (sharding_of table.rank sharding) }
+        ≡ judge_kind (mesh_of mesh) (sizes_of table) k (all_slice (take table.rank (dims_of lists))) (sharding_of table.rank sharding) }
 {
     let mut marks = [false; Axis::MOST];
     mark_named(sharding, table.rank, &mut marks);

@@ -15,8 +15,8 @@ use Rattle.rules.specs.Sharding.{Sharding, varying, shard_sizes, first_indexes, 
 use Rattle.rules.specs.Spread.{StateOf, Faithful, add_words, from}
 use Rattle.rules.specs.Collectives.{
   Step,
-  allSlice,
-  allGather,
+  all_slice,
+  all_gather,
   all_reduce,
   all_to_all,
   reduce_scatter,
@@ -98,9 +98,9 @@ module _ (mesh sizes : List ℕ) (pos : (a : ℕ) → zero < get_or mesh a 1) wh
   step-unreduced : (t : Step) (s : Sharding) → IsSharding mesh sizes s → AcceptedStep mesh sizes t s
       → (a : ℕ) → In a (after t s).unreduced → In a s.unreduced × (¬ In a (step_axes t))
   unfolding after sliced gathered reduced
-  step-unreduced (allSlice Ss) s h f a i =
+  step-unreduced (all_slice Ss) s h f a i =
       (i, λ j. f.by_kind.off a j (in_left a (varying s) s.replicated (in_right a (flat s.dims) s.unreduced i)))
-  step-unreduced (allGather Gs) s h f a i =
+  step-unreduced (all_gather Gs) s h f a i =
       (i, λ j. (distinct-split (flat s.dims) s.unreduced (varies mesh sizes s h).once).2 a ((gather-sharding mesh sizes pos Gs s h f.by_kind).cut_off a j) i)
   step-unreduced (all_reduce L) s h f a i = (of-without a L s.unreduced i, λ j. not-in-without a L s.unreduced j i)
   step-unreduced (all_to_all source target L) s h f a i =

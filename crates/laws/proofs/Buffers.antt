@@ -12,7 +12,7 @@ use lib.Arith.{digits_lt, digits_div, digits_mod}
 use Rattle.rules.specs.Lists.{tab, product, Below, none, more}
 use Rattle.rules.specs.Mesh.{number, coords, devices}
 use Rattle.rules.specs.Spread.{StateOf, tabulate, held}
-use Rattle.laws.proofs.Lists.{length-tab, getD-tab, tab-cong}
+use Rattle.laws.proofs.Lists.{length-tab, get_or-tab, tab-cong}
 use Rattle.laws.proofs.Positions.{pos_of_lt, div-lt}
 
 -- ---- row-major numbers, under any sizes
@@ -56,7 +56,7 @@ module _ {W : Type 0} (mesh shape : List ℕ) (num : List ℕ → ℕ) (find : �
       let l : p < devices mesh * m = digits_lt (n.num_lt bx) (number_lt bi) in
       let f : ℕ → W = λ p. w (find (p / m)) (coords shape (p % m)) in
       get_or-append (tab (devices mesh * m) f) rest z p (subst (λ n. p < n) (sym (length-tab (devices mesh * m) f)) l)
-      ∙ getD-tab (devices mesh * m) p f z l
+      ∙ get_or-tab (devices mesh * m) p f z l
       ∙ ap₂ w (ap find (digits_div (num x) (number_lt bi)) ∙ n.found bx) (ap (coords shape) (digits_mod (num x) (number_lt bi)) ∙ coords-number bi)
 
   -- the front of a buffer is the buffer of the state that it holds
@@ -72,7 +72,7 @@ module _ {W : Type 0} (mesh shape : List ℕ) (num : List ℕ → ℕ) (find : �
       ap₂ (λ (d r : ℕ). d * m + r) (n.numbered (p / m) (div-lt (devices mesh) m l))
       (number-coords shape (p % m) (mod-lt p (pos_of_lt (devices mesh) m l)))
       ∙ div-add-mod' p m in
-      getD-tab k p _ z l ∙ ap (λ (j : ℕ). get_or b j z) e ∙ sym (get_or-take k b p z l))
+      get_or-tab k p _ z l ∙ ap (λ (j : ℕ). get_or b j z) e ∙ sym (get_or-take k b p z l))
 
   -- states with the same words have the same buffer
   pub laid_same : (v w : StateOf W) → ((x i : List ℕ) → Below x mesh → Below i shape → v x i ≡ w x i)

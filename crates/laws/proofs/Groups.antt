@@ -16,7 +16,7 @@ use Rattle.rules.specs.Lists.{tab, flat, product, mem, without, In, Distinct, Be
 use Rattle.rules.specs.Mesh.{number, coords, devices, span, position, member, members, remaining, firsts, grouped, places_listed, IsGroup, Rearrangement}
 use Rattle.laws.proofs.Lists.{
   length-tab,
-  getD-tab,
+  get_or-tab,
   tab-cong,
   map-tab,
   mem-in,
@@ -219,7 +219,7 @@ module _ (mesh L : List ℕ) (distinct : Distinct L) (of-axes : (a : ℕ) → In
   places-length = ap length places-tab ∙ length-tab (devices mesh) _
 
   places-at : (p : ℕ) → p < devices mesh → get_or (places_listed mesh L) p 0 ≡ number mesh (listed mesh L p)
-  places-at p l = ap (λ (ds : List ℕ). get_or ds p 0) places-tab ∙ getD-tab (devices mesh) p _ 0 l
+  places-at p l = ap (λ (ds : List ℕ). get_or ds p 0) places-tab ∙ get_or-tab (devices mesh) p _ 0 l
 
   -- a place of the listing is a group and a position in it
   place-parts : (p : ℕ) → p < devices mesh → (p / span mesh L < span mesh (remaining mesh L)) × (p % span mesh L < span mesh L)

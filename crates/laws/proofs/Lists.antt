@@ -18,9 +18,9 @@ pub length-tab {ℓ} : {A : Type ℓ} (n : ℕ) (f : ℕ → A) → length (tab 
 length-tab zero f = refl
 length-tab (suc n) f = length-append (tab n f) (f n ∷ []) ∙ omega (arith, length-tab n f)
 
-pub getD-tab {ℓ} : {A : Type ℓ} (n k : ℕ) (f : ℕ → A) (z : A) → k < n → get_or (tab n f) k z ≡ f k
-getD-tab zero k f z h = absurd (omega arith)
-getD-tab {A = A} (suc n) k f z h = go (ℕ_discrete k n) (λ l. getD-tab n k f z l)
+pub get_or-tab {ℓ} : {A : Type ℓ} (n k : ℕ) (f : ℕ → A) (z : A) → k < n → get_or (tab n f) k z ≡ f k
+get_or-tab zero k f z h = absurd (omega arith)
+get_or-tab {A = A} (suc n) k f z h = go (ℕ_discrete k n) (λ l. get_or-tab n k f z l)
   where
     go : Dec (k ≡ n) → (k < n → get_or (tab n f) k z ≡ f k) → get_or (tab n f ++ f n ∷ []) k z ≡ f k
     go (yes e) ih = ap (λ (j : ℕ). get_or (tab n f ++ f n ∷ []) j z) e ∙ get_or_at (tab n f) (f n) [] z n (length-tab n f) ∙ ap f (sym e)

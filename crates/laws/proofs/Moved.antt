@@ -17,7 +17,7 @@ use Rattle.rules.specs.Lists.{tab, both, flat, in_turn, product, mem, keep, with
 use Rattle.rules.specs.Mesh.{number, coords, devices, plain_order, span, position, member, members}
 use Rattle.rules.specs.Sharding.{Sharding, shard_sizes, first_indexes, IsSharding}
 use Rattle.rules.specs.Spread.{from}
-use Rattle.rules.specs.Collectives.{Step, allSlice, allGather, all_reduce, all_to_all, reduce_scatter, step_axes, after, shape_after, Place, owner, slice_place, reduce_places, sources, made}
+use Rattle.rules.specs.Collectives.{Step, all_slice, all_gather, all_reduce, all_to_all, reduce_scatter, step_axes, after, shape_after, Place, owner, slice_place, reduce_places, sources, made}
 use Rattle.rules.specs.Limits.{most_axes, most_devices, most_words}
 use Rattle.rules.specs.Refusals.{Judged, accept, refuse}
 use Rattle.rules.specs.PlanFile.{plain, StepsRead, JudgesSteps, steps_at, item_at, Plan, judge, judge_by, announced, announced_shape}
@@ -342,13 +342,13 @@ module _ (mesh sizes : List ℕ) (pos : (a : ℕ) → zero < get_or mesh a 1) wh
   closed-form : (t : Step) (s : Sharding) → IsSharding mesh sizes s → AcceptedStep mesh sizes t s
       → (moved_by mesh t (shape_of s) ≡ charge_of mesh t (shape_of s)) × DividesExactly mesh t (shape_of s)
   unfolding charge_of
-  closed-form (allSlice Ss) s h f =
-      let n : ℕ = moved_by mesh (allSlice Ss) (shape_of s) in
+  closed-form (all_slice Ss) s h f =
+      let n : ℕ = moved_by mesh (all_slice Ss) (shape_of s) in
       let a : ℕ = devices mesh * product (shard_sizes mesh (shape_of s) Ss) in
-      let e : n * 1 ≡ a * 0 = subst (λ (l : List ℕ). n * span mesh l ≡ a * (span mesh l - 1)) (flat-empty (rank_of s)) (moving-count (allSlice Ss) s tt h f) in
+      let e : n * 1 ≡ a * 0 = subst (λ (l : List ℕ). n * span mesh l ≡ a * (span mesh l - 1)) (flat-empty (rank_of s)) (moving-count (all_slice Ss) s tt h f) in
       (omega (arith, e, mul-zero a), tt)
-  closed-form (allGather Gs) s h f =
-      let t : Step = allGather Gs in
+  closed-form (all_gather Gs) s h f =
+      let t : Step = all_gather Gs in
       let m : ℕ = product (shape_of s) in
       let g : ℕ = span mesh (flat Gs) in
       let k : product (shape_after mesh t (shape_of s)) ≡ m * g = cut_product mesh (step-reshapes mesh sizes pos t s tt h f).joins in
@@ -391,8 +391,8 @@ module _ (mesh sizes : List ℕ) (pos : (a : ℕ) → zero < get_or mesh a 1) wh
 
   -- an accepted step names no axis twice
   axes-once : (t : Step) (s : Sharding) → IsSharding mesh sizes s → AcceptedStep mesh sizes t s → Distinct (step_axes t)
-  axes-once (allSlice Ss) s h f = f.by_kind.once
-  axes-once (allGather Gs) s h f = gathers-distinct mesh sizes pos (allGather Gs) s h f
+  axes-once (all_slice Ss) s h f = f.by_kind.once
+  axes-once (all_gather Gs) s h f = gathers-distinct mesh sizes pos (all_gather Gs) s h f
   axes-once (all_reduce L) s h f = f.by_kind.once
   axes-once (all_to_all source target L) s h f =
       subst Distinct (flat-only (rank_of s) source L (omega (arith, shape-length mesh sizes pos s h, f.by_kind.source-lt)))
@@ -402,8 +402,8 @@ module _ (mesh sizes : List ℕ) (pos : (a : ℕ) → zero < get_or mesh a 1) wh
 -- no closed form is more than D·m·(g-1)
 charge-le : (mesh : List ℕ) (t : Step) (shape : List ℕ) → charge_of mesh t shape ≤ devices mesh * product shape * (span mesh (step_axes t) - 1)
 unfolding charge_of
-charge-le mesh (allSlice Ss) shape = omega arith
-charge-le mesh (allGather Gs) shape = omega arith
+charge-le mesh (all_slice Ss) shape = omega arith
+charge-le mesh (all_gather Gs) shape = omega arith
 charge-le mesh (all_reduce L) shape = omega arith
 charge-le mesh (all_to_all source target L) shape = div-le_self _ _
 charge-le mesh (reduce_scatter Ss) shape = div-le_self _ _

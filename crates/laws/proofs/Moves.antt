@@ -16,8 +16,8 @@ use Rattle.rules.specs.Sharding.{Sharding, shard_sizes, first_indexes, IsShardin
 use Rattle.rules.specs.Spread.{StateOf, tabulate, held, from}
 use Rattle.rules.specs.Collectives.{
   Step,
-  allSlice,
-  allGather,
+  all_slice,
+  all_gather,
   all_reduce,
   all_to_all,
   reduce_scatter,
@@ -165,23 +165,23 @@ within_same (more l b) = ap₂ (λ (k : ℕ) (t : List ℕ). k ∷ t) (mod-eq_of
 -- ---- the steps that only move words
 
 abbrev pub Moving : Step → Type 0
-Moving (allSlice Ss) = Unit {0}
-Moving (allGather Gs) = Unit {0}
+Moving (all_slice Ss) = Unit {0}
+Moving (all_gather Gs) = Unit {0}
 Moving (all_reduce L) = ⊥
 Moving (all_to_all source target L) = Unit {0}
 Moving (reduce_scatter Ss) = ⊥
 
 -- the lists that a step gathers along, and those that it slices along, one per dimension
 abbrev pub gathers : Step → ℕ → List (List ℕ)
-gathers (allSlice Ss) rank = replicate rank []
-gathers (allGather Gs) rank = Gs
+gathers (all_slice Ss) rank = replicate rank []
+gathers (all_gather Gs) rank = Gs
 gathers (all_reduce L) rank = replicate rank []
 gathers (all_to_all source target L) rank = only rank source L
 gathers (reduce_scatter Ss) rank = replicate rank []
 
 abbrev pub slices : Step → ℕ → List (List ℕ)
-slices (allSlice Ss) rank = Ss
-slices (allGather Gs) rank = replicate rank []
+slices (all_slice Ss) rank = Ss
+slices (all_gather Gs) rank = replicate rank []
 slices (all_reduce L) rank = replicate rank []
 slices (all_to_all source target L) rank = only rank target L
 slices (reduce_scatter Ss) rank = Ss
@@ -214,16 +214,16 @@ module _ (mesh sizes : List ℕ) (pos : (a : ℕ) → zero < get_or mesh a 1) wh
 
   pub step-reshapes : (t : Step) (s : Sharding) → Moving t → IsSharding mesh sizes s → AcceptedStep mesh sizes t s
       → Reshapes mesh (gathers t (rank_of s)) (slices t (rank_of s)) (shape_of s) (shape_after mesh t (shape_of s))
-  step-reshapes (allSlice Ss) s m h f =
-      let c : Cut mesh Ss (shape_of s) (shard_sizes mesh (shape_of s) Ss) = step-ready mesh sizes pos (allSlice Ss) s h f in
+  step-reshapes (all_slice Ss) s m h f =
+      let c : Cut mesh Ss (shape_of s) (shard_sizes mesh (shape_of s) Ss) = step-ready mesh sizes pos (all_slice Ss) s h f in
       record {
         apart = off-empty (rank_of s) Ss (cut-lengths mesh c).0;
         joins = rw (grown-empty mesh (shape_of s)) (cut-empty mesh (shape_of s));
         parts = rw (grown-empty mesh (shape_of s)) c;
       }
-  step-reshapes (allGather Gs) s m h f =
+  step-reshapes (all_gather Gs) s m h f =
       let new : List ℕ = grown mesh Gs (shape_of s) in
-      let c : Cut mesh Gs new (shape_of s) = step-ready mesh sizes pos (allGather Gs) s h f in
+      let c : Cut mesh Gs new (shape_of s) = step-ready mesh sizes pos (all_gather Gs) s h f in
       record {
         apart = off-swap (off-empty (rank_of s) Gs (cut-lengths mesh c).1);
         joins = c;
@@ -242,12 +242,12 @@ module _ (mesh sizes : List ℕ) (pos : (a : ℕ) → zero < get_or mesh a 1) wh
         → fetched mesh (gathers t (rank_of s)) (slices t (rank_of s)) (shape_of s) (shape_after mesh t (shape_of s)) w x i
         ≡ made addAll (sources mesh t (shape_of s)) w x i
     unfolding sources made slice_place gather_place
-    fetched-made (allSlice Ss) s w x i m h f bx bi =
-        ap₂ w (owner-empty mesh (rank_of s) (shape_of s) _ x) (within_same (piece-below mesh (step-ready mesh sizes pos (allSlice Ss) s h f) bx bi))
+    fetched-made (all_slice Ss) s w x i m h f bx bi =
+        ap₂ w (owner-empty mesh (rank_of s) (shape_of s) _ x) (within_same (piece-below mesh (step-ready mesh sizes pos (all_slice Ss) s h f) bx bi))
         ∙ sym (one _)
-    fetched-made (allGather Gs) s w x i m h f bx bi =
+    fetched-made (all_gather Gs) s w x i m h f bx bi =
         let new : List ℕ = grown mesh Gs (shape_of s) in
-        let c : Cut mesh Gs new (shape_of s) = step-ready mesh sizes pos (allGather Gs) s h f in
+        let c : Cut mesh Gs new (shape_of s) = step-ready mesh sizes pos (all_gather Gs) s h f in
         let e : length new ≡ rank_of s = sym (cut-lengths mesh c).0 ∙ (cut-lengths mesh c).1 in
         ap (λ (j : List ℕ). w (owner mesh Gs (shape_of s) j x) (within (shape_of s) j))
         (ap (λ (r : ℕ). from (first_indexes mesh (replicate r []) new x) i) (sym e) ∙ from_empty mesh x bi)
@@ -268,16 +268,16 @@ module _ (mesh sizes : List ℕ) (pos : (a : ℕ) → zero < get_or mesh a 1) wh
 
   -- the lists of an accepted step have no axis twice, and only axes of the mesh
   pub gathers-distinct : (t : Step) (s : Sharding) → IsSharding mesh sizes s → AcceptedStep mesh sizes t s → Distinct (flat (gathers t (rank_of s)))
-  gathers-distinct (allSlice Ss) s h f = subst Distinct (sym (flat-empty (rank_of s))) tt
-  gathers-distinct (allGather Gs) s h f = (gather-sharding mesh sizes pos Gs s h f.by_kind).apart.right
+  gathers-distinct (all_slice Ss) s h f = subst Distinct (sym (flat-empty (rank_of s))) tt
+  gathers-distinct (all_gather Gs) s h f = (gather-sharding mesh sizes pos Gs s h f.by_kind).apart.right
   gathers-distinct (all_reduce L) s h f = subst Distinct (sym (flat-empty (rank_of s))) tt
   gathers-distinct (all_to_all source target L) s h f =
       rw (shape-length mesh sizes pos s h) (to-all-sharding mesh sizes pos source target L s h f.axes f.by_kind).first.apart.right
   gathers-distinct (reduce_scatter Ss) s h f = subst Distinct (sym (flat-empty (rank_of s))) tt
 
   slices-distinct : (t : Step) (s : Sharding) → IsSharding mesh sizes s → AcceptedStep mesh sizes t s → Distinct (flat (slices t (rank_of s)))
-  slices-distinct (allSlice Ss) s h f = f.by_kind.once
-  slices-distinct (allGather Gs) s h f = subst Distinct (sym (flat-empty (rank_of s))) tt
+  slices-distinct (all_slice Ss) s h f = f.by_kind.once
+  slices-distinct (all_gather Gs) s h f = subst Distinct (sym (flat-empty (rank_of s))) tt
   slices-distinct (all_reduce L) s h f = subst Distinct (sym (flat-empty (rank_of s))) tt
   slices-distinct (all_to_all source target L) s h f =
       let n : rank_of s ≡ length s.dims = shape-length mesh sizes pos s h in
@@ -287,15 +287,15 @@ module _ (mesh sizes : List ℕ) (pos : (a : ℕ) → zero < get_or mesh a 1) wh
   slices-distinct (reduce_scatter Ss) s h f = f.by_kind.once
 
   pub gathers-below : (t : Step) (s : Sharding) → AcceptedStep mesh sizes t s → (a : ℕ) → In a (flat (gathers t (rank_of s))) → a < length mesh
-  gathers-below (allSlice Ss) s f a i = absurd (subst (In a) (flat-empty (rank_of s)) i)
-  gathers-below (allGather Gs) s f a i = f.axes a i
+  gathers-below (all_slice Ss) s f a i = absurd (subst (In a) (flat-empty (rank_of s)) i)
+  gathers-below (all_gather Gs) s f a i = f.axes a i
   gathers-below (all_reduce L) s f a i = absurd (subst (In a) (flat-empty (rank_of s)) i)
   gathers-below (all_to_all source target L) s f a i = f.axes a (in-only a (rank_of s) source L i)
   gathers-below (reduce_scatter Ss) s f a i = absurd (subst (In a) (flat-empty (rank_of s)) i)
 
   slices-below : (t : Step) (s : Sharding) → AcceptedStep mesh sizes t s → (a : ℕ) → In a (flat (slices t (rank_of s))) → a < length mesh
-  slices-below (allSlice Ss) s f a i = f.axes a i
-  slices-below (allGather Gs) s f a i = absurd (subst (In a) (flat-empty (rank_of s)) i)
+  slices-below (all_slice Ss) s f a i = f.axes a i
+  slices-below (all_gather Gs) s f a i = absurd (subst (In a) (flat-empty (rank_of s)) i)
   slices-below (all_reduce L) s f a i = absurd (subst (In a) (flat-empty (rank_of s)) i)
   slices-below (all_to_all source target L) s f a i = f.axes a (in-only a (rank_of s) target L i)
   slices-below (reduce_scatter Ss) s f a i = f.axes a i

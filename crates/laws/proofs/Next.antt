@@ -8,7 +8,7 @@ use native.Mathlib.Omega.{arith}
 use lib.ListN.{length, get_or, take, drop}
 use Rattle.rules.specs.Lists.{in_turn}
 use Rattle.rules.specs.Sharding.{Sharding, shard_sizes, IsSharding}
-use Rattle.rules.specs.Collectives.{Step, allSlice, allGather, all_reduce, all_to_all, reduce_scatter, reduced, only, after, shape_after, WithoutRemainder}
+use Rattle.rules.specs.Collectives.{Step, all_slice, all_gather, all_reduce, all_to_all, reduce_scatter, reduced, only, after, shape_after, WithoutRemainder}
 use Rattle.rules.specs.PlanFile.{Plan, announced, announced_shape}
 use Rattle.laws.proofs.Shapes.{Cut}
 use Rattle.laws.proofs.Sizes.{cut-is}
@@ -23,8 +23,8 @@ use Rattle.laws.proofs.Room.{state}
 module _ (mesh sizes : List ℕ) (pos : (a : ℕ) → zero < get_or mesh a 1) where
   pub step-ready : (t : Step) (s : Sharding) → IsSharding mesh sizes s → AcceptedStep mesh sizes t s → Ready mesh t (shard_sizes mesh sizes s.dims)
   unfolding reduced
-  step-ready (allSlice Ss) s h f = (slice-sharding mesh sizes pos Ss s h f.axes f.by_kind).pieces
-  step-ready (allGather Gs) s h f = (gather-sharding mesh sizes pos Gs s h f.by_kind).wholes
+  step-ready (all_slice Ss) s h f = (slice-sharding mesh sizes pos Ss s h f.axes f.by_kind).pieces
+  step-ready (all_gather Gs) s h f = (gather-sharding mesh sizes pos Gs s h f.by_kind).wholes
   step-ready (all_reduce L) s h f = tt
   step-ready (all_to_all source target L) s h f =
       let w : ToAll mesh sizes pos source target L s = to-all-sharding mesh sizes pos source target L s h f.axes f.by_kind in
@@ -36,8 +36,8 @@ module _ (mesh sizes : List ℕ) (pos : (a : ℕ) → zero < get_or mesh a 1) wh
 
 -- the sizes that a step's kind asks for divide without remainder
 ready-divides : (mesh : List ℕ) → ((a : ℕ) → zero < get_or mesh a 1) → (t : Step) (shape : List ℕ) → Ready mesh t shape → WithoutRemainder mesh t shape
-ready-divides mesh pos (allSlice Ss) shape c = (cut-is mesh pos c).0
-ready-divides mesh pos (allGather Gs) shape c = tt
+ready-divides mesh pos (all_slice Ss) shape c = (cut-is mesh pos c).0
+ready-divides mesh pos (all_gather Gs) shape c = tt
 ready-divides mesh pos (all_reduce L) shape c = tt
 ready-divides mesh pos (all_to_all source target L) shape c = (cut-is mesh pos c.1).0
 ready-divides mesh pos (reduce_scatter Ss) shape c = (cut-is mesh pos c).0
@@ -92,8 +92,8 @@ next-divides {p} a k t rest d = ready-divides p.mesh a.within.sizes_pos t (annou
 
 -- a size of 4 is divided along an axis of 2 without remainder, one of 3 is not, by an all-slice, an all-to-all or a reduce-scatter
 remainders :
-    WithoutRemainder (2 ∷ []) (allSlice ((0 ∷ []) ∷ [])) (4 ∷ [])
-    × (¬ WithoutRemainder (2 ∷ []) (allSlice ((0 ∷ []) ∷ [])) (3 ∷ []))
+    WithoutRemainder (2 ∷ []) (all_slice ((0 ∷ []) ∷ [])) (4 ∷ [])
+    × (¬ WithoutRemainder (2 ∷ []) (all_slice ((0 ∷ []) ∷ [])) (3 ∷ []))
     × (¬ WithoutRemainder (2 ∷ []) (all_to_all 0 1 (0 ∷ [])) (2 ∷ 3 ∷ []))
     × WithoutRemainder (2 ∷ []) (reduce_scatter ((0 ∷ []) ∷ [])) (4 ∷ [])
     × (¬ WithoutRemainder (2 ∷ []) (reduce_scatter ((0 ∷ []) ∷ [])) (3 ∷ []))

@@ -17,7 +17,7 @@ use Rattle.rules.specs.Mesh.{number, coords, devices, plain_order, place_in, dev
 use Rattle.rules.specs.Spread.{StateOf, tabulate_by, held_by}
 use Rattle.rules.specs.Refusals.{accept}
 use Rattle.rules.specs.PlanFile.{Read, u16_at, all_below, fresh, same, rearranges, order_allowed, order_at}
-use Rattle.laws.proofs.Lists.{T?, T_and, T→true, n_t→false, mem-in, not-mem, length-tab, getD-tab, few-distinct, at_in}
+use Rattle.laws.proofs.Lists.{T?, T_and, T→true, n_t→false, mem-in, not-mem, length-tab, get_or-tab, few-distinct, at_in}
 use Rattle.laws.proofs.Buffers.{number_lt, coords-number, below-coords, number-coords, Numbering, laid-held, held-laid, laid_same}
 use Rattle.laws.proofs.Judging.{accept-inj, need-inv, all_below-lt, fresh-distinct}
 
@@ -57,9 +57,9 @@ rearranged n l t =
 pub plain-rearranged : (n : ℕ) → Rearrangement n (plain_order n)
 plain-rearranged n = record {
   size = length-tab n _;
-  below = λ p h. rw (getD-tab n p (λ d. d) 0 h) h;
-  once = λ p q hp hq e. sym (getD-tab n p (λ d. d) 0 hp) ∙ e ∙ getD-tab n q (λ d. d) 0 hq;
-  has = λ d h. (d, h, getD-tab n d (λ d. d) 0 h);
+  below = λ p h. rw (get_or-tab n p (λ d. d) 0 h) h;
+  once = λ p q hp hq e. sym (get_or-tab n p (λ d. d) 0 hp) ∙ e ∙ get_or-tab n q (λ d. d) 0 hq;
+  has = λ d h. (d, h, get_or-tab n d (λ d. d) 0 h);
 }
 
 -- an order that is read is a rearrangement
@@ -174,10 +174,10 @@ pub listing-places : (order mesh L : List ℕ) → listing order mesh L ≡ map 
 unfolding listing places_listed
 listing-places order mesh L = sym (map-map (λ p. get_or order p 0) (number mesh) (grouped mesh L))
 
-get_d-map-at : (f : ℕ → ℕ) (l : List ℕ) (p : ℕ) → p < length l → get_or (map f l) p 0 ≡ f (get_or l p 0)
-get_d-map-at f [] p h = absurd (omega arith)
-get_d-map-at f (a ∷ l) zero h = refl
-get_d-map-at f (a ∷ l) (suc p) h = get_d-map-at f l p (omega arith)
+get_or-map_at : (f : ℕ → ℕ) (l : List ℕ) (p : ℕ) → p < length l → get_or (map f l) p 0 ≡ f (get_or l p 0)
+get_or-map_at f [] p h = absurd (omega arith)
+get_or-map_at f (a ∷ l) zero h = refl
+get_or-map_at f (a ∷ l) (suc p) h = get_or-map_at f l p (omega arith)
 
 -- "The D numbers are a rearrangement of 0 to D-1."
 pub listing-rearranges : (order mesh L : List ℕ) → Rearrangement (devices mesh) order → Rearrangement (devices mesh) (places_listed mesh L)
@@ -186,7 +186,7 @@ listing-rearranges order mesh L o l =
     let n : ℕ = devices mesh in
     let places : List ℕ = places_listed mesh L in
     let at : (p : ℕ) → p < n → get_or (listing order mesh L) p 0 ≡ get_or order (get_or places p 0) 0 = λ p h.
-    ap (λ (ds : List ℕ). get_or ds p 0) (listing-places order mesh L) ∙ get_d-map-at (λ d. get_or order d 0) places p (omega (arith, l.size)) in
+    ap (λ (ds : List ℕ). get_or ds p 0) (listing-places order mesh L) ∙ get_or-map_at (λ d. get_or order d 0) places p (omega (arith, l.size)) in
     record {
       size = ap length (listing-places order mesh L) ∙ length-map places (λ d. get_or order d 0) ∙ l.size;
       below = λ p h. rw (at p h) (o.below (get_or places p 0) (l.below p h));
@@ -200,7 +200,7 @@ listing-plain mesh L r = listing-places (plain_order (devices mesh)) mesh L ∙ 
   where
     go : (l : List ℕ) → ((p : ℕ) → p < length l → p < devices mesh) → ((p : ℕ) → p < devices mesh → get_or l p 0 < devices mesh)
         → map (λ p. get_or (plain_order (devices mesh)) p 0) l ≡ l
-    go l inside below = ext l (λ p h. getD-tab (devices mesh) (get_or l p 0) (λ d. d) 0 (below p (inside p h)))
+    go l inside below = ext l (λ p h. get_or-tab (devices mesh) (get_or l p 0) (λ d. d) 0 (below p (inside p h)))
       where
         ext : (k : List ℕ) → ((p : ℕ) → p < length k → get_or (plain_order (devices mesh)) (get_or k p 0) 0 ≡ get_or k p 0) → map (λ p. get_or (plain_order (devices mesh)) p 0) k ≡ k
         ext [] h = refl

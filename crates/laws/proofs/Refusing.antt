@@ -11,7 +11,7 @@ use lib.Dec.{T, ltb, leb, eqb, ltb→lt, le→leb, lit≤}
 use Rattle.rules.specs.Lists.{tab, both, flat, pick, mem, In}
 use Rattle.rules.specs.Mesh.{devices}
 use Rattle.rules.specs.Sharding.{Sharding, varying, named, divisible, shard_sizes}
-use Rattle.rules.specs.Collectives.{Step, allSlice, allGather, all_reduce, all_to_all, reduce_scatter, step_axes, reduced, only}
+use Rattle.rules.specs.Collectives.{Step, all_slice, all_gather, all_reduce, all_to_all, reduce_scatter, step_axes, reduced, only}
 use Rattle.rules.specs.Limits.{present, every_kind, most_devices, most_words, most_steps, most_run, most_depth, least_bytes, most_bytes}
 use Rattle.rules.specs.Refusals.{Judged, accept, refuse, ◌>>=◌, ◌>>◌, need, need_at}
 use Rattle.rules.specs.PlanFile.{
@@ -276,8 +276,8 @@ module _ (P : ℕ → ℕ → Type 0) where
 
       kind-judged : (mesh sizes : List ℕ) (t : Step) (s : Sharding) → Refuses (judge_kind mesh sizes k t s)
       unfolding judge_kind mem
-      kind-judged mesh sizes (allSlice Ss) s = tests k (fresh (named s) (flat Ss)) 23 _ (inside 23 tt) (slice-refuses mesh sizes Ss s)
-      kind-judged mesh sizes (allGather Gs) s = gather-refuses Gs s
+      kind-judged mesh sizes (all_slice Ss) s = tests k (fresh (named s) (flat Ss)) 23 _ (inside 23 tt) (slice-refuses mesh sizes Ss s)
+      kind-judged mesh sizes (all_gather Gs) s = gather-refuses Gs s
       kind-judged mesh sizes (all_reduce L) s =
           tests k (increasing_from 0 L) 26 _ (inside 26 tt) (tests k (none_in L (flat s.dims ++ s.replicated)) 27 _ (inside 27 tt) (accepts _))
       kind-judged mesh sizes (all_to_all source target L) s =

@@ -12,7 +12,7 @@ use Rattle.rules.specs.Lists.{each, product, Below}
 use Rattle.rules.specs.Mesh.{coords, devices, members}
 use Rattle.rules.specs.Sharding.{Sharding, varying, shard_sizes, first_indexes, IsSharding}
 use Rattle.rules.specs.Spread.{StateOf, add_words, from, tabulate_by, held_by}
-use Rattle.rules.specs.Collectives.{Step, allSlice, allGather, sliced, gathered, cut_tail, owner, within, after, slice_place, gather_place, single, sources, made, Shards, stepped}
+use Rattle.rules.specs.Collectives.{Step, all_slice, all_gather, sliced, gathered, cut_tail, owner, within, after, slice_place, gather_place, single, sources, made, Shards, stepped}
 use Rattle.rules.specs.PlanFile.{Plan, announced, announced_shape}
 use Rattle.rules.specs.Factor.{scaled, factor_after}
 use Rattle.rules.specs.Calls.{shards_after, last_state}
@@ -183,20 +183,20 @@ cut-joined (d ∷ ds) (S ∷ Ss) e =
     ap₂ ◌∷◌ (take_at d S (length (d ++ S) - length S) (sym n)) (cut-joined ds Ss (omega arith))
 
 module _ (mesh sizes : List ℕ) (pos : (a : ℕ) → zero < get_or mesh a 1) (Ss : List (List ℕ)) (s : Sharding) (h : IsSharding mesh sizes s)
-    (f : AcceptedStep mesh sizes (allSlice Ss) s) where
+    (f : AcceptedStep mesh sizes (all_slice Ss) s) where
   abbrev shape : List ℕ
   shape = shard_sizes mesh sizes s.dims
 
   cuts : Sliced mesh sizes pos Ss s
   cuts = slice-sharding mesh sizes pos Ss s h f.axes f.by_kind
 
-  back-sharding : after (allGather Ss) (after (allSlice Ss) s) ≡ s
+  back-sharding : after (all_gather Ss) (after (all_slice Ss) s) ≡ s
   unfolding after sliced gathered
   back-sharding = λ k. record { dims = cut-joined s.dims Ss cuts.one_each k; unreduced = s.unreduced; replicated = s.replicated }
 
   -- the word comes from a device that differs from x along the lists alone, and they were replicated
   back-word : (w : StateOf ℕ) → Alike mesh s shape w → (x i : List ℕ) → Below x mesh → Below i shape
-      → (stepped add_words mesh (allGather Ss) (stepped add_words mesh (allSlice Ss) (record { shape = shape; words = w }))).words x i ≡ w x i
+      → (stepped add_words mesh (all_gather Ss) (stepped add_words mesh (all_slice Ss) (record { shape = shape; words = w }))).words x i ≡ w x i
   unfolding stepped sources slice_place gather_place add_words
   back-word w alike x i bx bi =
       let new : List ℕ = shard_sizes mesh shape Ss in
@@ -207,22 +207,22 @@ module _ (mesh sizes : List ℕ) (pos : (a : ℕ) → zero < get_or mesh a 1) (S
       ∙ alike o x i (below-owner mesh cuts.pieces bi bx) bx bi
       (λ a u. owner-other mesh Ss new i x a (λ j. f.by_kind.off a j (in_left a (varying s) s.replicated u)))
 
-module _ {p : Plan} (a : AcceptedPlan p) (k : ℕ) (Ss : List (List ℕ)) (rest : List Step) (d : drop k p.steps ≡ allSlice Ss ∷ allGather Ss ∷ rest) where
-  next : drop (k + 1) p.steps ≡ allGather Ss ∷ rest
+module _ {p : Plan} (a : AcceptedPlan p) (k : ℕ) (Ss : List (List ℕ)) (rest : List Step) (d : drop k p.steps ≡ all_slice Ss ∷ all_gather Ss ∷ rest) where
+  next : drop (k + 1) p.steps ≡ all_gather Ss ∷ rest
   next = sym (drop-drop 1 k p.steps) ∙ ap (drop 1) d
 
   two : k + 2 ≡ k + 1 + 1
   two = omega arith
 
-  slice-accepted : AcceptedStep p.mesh p.sizes (allSlice Ss) (announced p k)
+  slice-accepted : AcceptedStep p.mesh p.sizes (all_slice Ss) (announced p k)
   unfolding announced
-  slice-accepted = step-accepted p.mesh p.sizes k (allSlice Ss) p.steps _ p.start d a.fine
+  slice-accepted = step-accepted p.mesh p.sizes k (all_slice Ss) p.steps _ p.start d a.fine
 
   sharding-back : announced p (k + 2) ≡ announced p k
   unfolding announced
   sharding-back =
-      ap (announced p) two ∙ in-turn-next after (k + 1) (allGather Ss) p.steps rest p.start next
-      ∙ ap (after (allGather Ss)) (in-turn-next after k (allSlice Ss) p.steps _ p.start d)
+      ap (announced p) two ∙ in-turn-next after (k + 1) (all_gather Ss) p.steps rest p.start next
+      ∙ ap (after (all_gather Ss)) (in-turn-next after k (all_slice Ss) p.steps _ p.start d)
       ∙ back-sharding p.mesh p.sizes a.within.sizes_pos Ss (announced p k) (state a k).sharding slice-accepted
 
   words_back : (work : List ℕ) (table : List ℕ → ℕ) → SpreadAt p table k (shards_after p work k).words
@@ -230,9 +230,9 @@ module _ {p : Plan} (a : AcceptedPlan p) (k : ℕ) (Ss : List (List ℕ)) (rest 
   unfolding announced_shape
   words_back work table F x i bx bi =
       ap (λ (v : Shards ℕ). v.words x i)
-      (ap (shards_after p work) two ∙ in_order a work (k + 1) (allGather Ss) rest next
-      ∙ ap (stepped add_words p.mesh (allGather Ss)) (in_order a work k (allSlice Ss) _ d))
-      ∙ ap (λ (shape : List ℕ). (stepped add_words p.mesh (allGather Ss) (stepped add_words p.mesh (allSlice Ss) (record {
+      (ap (shards_after p work) two ∙ in_order a work (k + 1) (all_gather Ss) rest next
+      ∙ ap (stepped add_words p.mesh (all_gather Ss)) (in_order a work k (all_slice Ss) _ d))
+      ∙ ap (λ (shape : List ℕ). (stepped add_words p.mesh (all_gather Ss) (stepped add_words p.mesh (all_slice Ss) (record {
         shape = shape;
         words = (shards_after p work k).words;
       }))).words x i) (plan-shapes a work k)

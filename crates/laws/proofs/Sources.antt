@@ -12,8 +12,8 @@ use Rattle.rules.specs.Sharding.{shard_sizes, first_indexes}
 use Rattle.rules.specs.Spread.{StateOf, add_words, from}
 use Rattle.rules.specs.Collectives.{
   Step,
-  allSlice,
-  allGather,
+  all_slice,
+  all_gather,
   all_reduce,
   all_to_all,
   reduce_scatter,
@@ -75,8 +75,8 @@ pub record Near (mesh shape : List ℕ) (L : List ℕ) (x : List ℕ) (p : Place
 
 -- the sizes that a step's kind asks for
 abbrev pub Ready : List ℕ → Step → List ℕ → Type 0
-Ready mesh (allSlice Ss) shape = Cut mesh Ss shape (shard_sizes mesh shape Ss)
-Ready mesh (allGather Gs) shape = Cut mesh Gs (grown mesh Gs shape) shape
+Ready mesh (all_slice Ss) shape = Cut mesh Ss shape (shard_sizes mesh shape Ss)
+Ready mesh (all_gather Gs) shape = Cut mesh Gs (grown mesh Gs shape) shape
 Ready mesh (all_reduce L) shape = Unit {0}
 Ready mesh (all_to_all source target L) shape =
     Cut mesh (only (length shape) source L) (grown mesh (only (length shape) source L) shape) shape
@@ -109,13 +109,13 @@ module _ (mesh : List ℕ) where
   pub sources-near : (t : Step) (shape x i : List ℕ) → Ready mesh t shape → Below x mesh → Below i (shape_after mesh t shape)
       → All (Near mesh shape (step_axes t) x) (sources mesh t shape x i)
   unfolding sources slice_place gather_place
-  sources-near (allSlice Ss) shape x i c bx bi =
+  sources-near (all_slice Ss) shape x i c bx bi =
       let near : Near mesh shape (flat Ss) x (slice_place mesh Ss shape x i) = record {
         device_below = bx;
         index_below = piece-below mesh c bx bi;
         in_group = λ a off. refl;
       } in near & done
-  sources-near (allGather Gs) shape x i c bx bi =
+  sources-near (all_gather Gs) shape x i c bx bi =
       let near : Near mesh shape (flat Gs) x (gather_place mesh Gs shape x i) = record {
         device_below = below-owner mesh c bi bx;
         index_below = below-within mesh c bi;

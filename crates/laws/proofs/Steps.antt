@@ -13,8 +13,8 @@ use Rattle.rules.specs.Lists.{each, both, flat, without, In, Distinct}
 use Rattle.rules.specs.Sharding.{Sharding, varying, named, Unnamed, divisible, shard_sizes, IsSharding}
 use Rattle.rules.specs.Collectives.{
   Step,
-  allSlice,
-  allGather,
+  all_slice,
+  all_gather,
   all_reduce,
   all_to_all,
   reduce_scatter,
@@ -105,8 +105,8 @@ module _ (mesh sizes : List ℕ) where
     pub divides : T (divisible mesh (shard_sizes mesh sizes s.dims) Ss)
 
   abbrev pub Facts : Step → Sharding → Type 0
-  Facts (allSlice Ss) s = SliceFacts Ss s
-  Facts (allGather Gs) s = GatherFacts Gs s
+  Facts (all_slice Ss) s = SliceFacts Ss s
+  Facts (all_gather Gs) s = GatherFacts Gs s
   Facts (all_reduce L) s = ReduceFacts L s
   Facts (all_to_all source target L) s = ToAllFacts source target L s
   Facts (reduce_scatter Ss) s = ScatterFacts Ss s
@@ -122,12 +122,12 @@ module _ (mesh sizes : List ℕ) where
 
   kind-facts : (k : ℕ) (t : Step) (s r : Sharding) → judge_kind mesh sizes k t s ≡ accept r → Facts t s × (after t s ≡ r)
   unfolding judge_kind after
-  kind-facts k (allSlice Ss) s r e =
+  kind-facts k (all_slice Ss) s r e =
       let p : T (fresh (named s) (flat Ss)) × (slice_on mesh sizes k Ss s ≡ accept r) = need-inv k (fresh (named s) (flat Ss)) 23 (slice_on mesh sizes k Ss s) r e in
       let q : T (divisible mesh (shard_sizes mesh sizes s.dims) Ss) × (sliced Ss s ≡ r) = slice-inv k Ss s r p.1 in
       let f : Distinct (flat Ss) × ((a : ℕ) → In a (flat Ss) → ¬ In a (named s)) = fresh-distinct (named s) (flat Ss) p.0 in
       (record { once = f.0; off = f.1; divides = q.0 }, q.1)
-  kind-facts k (allGather Gs) s r e = let p : T (both is_tail s.dims Gs) × (gathered Gs s ≡ r) = gather-inv k Gs s r e in (record { tailed = p.0 }, p.1)
+  kind-facts k (all_gather Gs) s r e = let p : T (both is_tail s.dims Gs) × (gathered Gs s ≡ r) = gather-inv k Gs s r e in (record { tailed = p.0 }, p.1)
   kind-facts k (all_reduce L) s r e =
       let m : Judged Sharding = accept (reduced L s) in
       let p : T (increasing_from 0 L) × (_ ≡ accept r) = need-inv k (increasing_from 0 L) 26 _ r e in
@@ -331,7 +331,7 @@ module _ (mesh sizes : List ℕ) (pos : (a : ℕ) → zero < get_or mesh a 1) wh
 
   -- a reduce-scatter: the slice that follows its reduction is an accepted one
   pub scatter-slices : (Ss : List (List ℕ)) (s : Sharding) → IsSharding mesh sizes s → AcceptedStep mesh sizes (reduce_scatter Ss) s
-      → AcceptedStep mesh sizes (allSlice Ss) (reduced (flat Ss) s)
+      → AcceptedStep mesh sizes (all_slice Ss) (reduced (flat Ss) s)
   unfolding reduced
   scatter-slices Ss s h f =
       let L : List ℕ = flat Ss in
@@ -353,14 +353,14 @@ module _ (mesh sizes : List ℕ) (pos : (a : ℕ) → zero < get_or mesh a 1) wh
   pub scatter-sharding : (Ss : List (List ℕ)) (s : Sharding) → IsSharding mesh sizes s → AcceptedStep mesh sizes (reduce_scatter Ss) s
       → Sliced Ss (reduced (flat Ss) s)
   scatter-sharding Ss s h f =
-      let g : AcceptedStep mesh sizes (allSlice Ss) (reduced (flat Ss) s) = scatter-slices Ss s h f in
+      let g : AcceptedStep mesh sizes (all_slice Ss) (reduced (flat Ss) s) = scatter-slices Ss s h f in
       slice-sharding Ss (reduced (flat Ss) s) (reduce-sharding (flat Ss) s h) g.axes g.by_kind
 
   -- The sharding after an accepted step is one.
   pub after-sharding : (t : Step) (s : Sharding) → IsSharding mesh sizes s → AcceptedStep mesh sizes t s → IsSharding mesh sizes (after t s)
   unfolding after
-  after-sharding (allSlice Ss) s h f = (slice-sharding Ss s h f.axes f.by_kind).after-it
-  after-sharding (allGather Gs) s h f = (gather-sharding Gs s h f.by_kind).after-it
+  after-sharding (all_slice Ss) s h f = (slice-sharding Ss s h f.axes f.by_kind).after-it
+  after-sharding (all_gather Gs) s h f = (gather-sharding Gs s h f.by_kind).after-it
   after-sharding (all_reduce L) s h f = reduce-sharding L s h
   after-sharding (all_to_all source target L) s h f = (to-all-sharding source target L s h f.axes f.by_kind).second.after-it
   after-sharding (reduce_scatter Ss) s h f = (scatter-sharding Ss s h f).after-it
@@ -368,8 +368,8 @@ module _ (mesh sizes : List ℕ) (pos : (a : ℕ) → zero < get_or mesh a 1) wh
   -- The shape that an accepted step itself leaves is the announced one.
   pub after-shape : (t : Step) (s : Sharding) → IsSharding mesh sizes s → AcceptedStep mesh sizes t s → shape_after mesh t (shape_of s) ≡ shape_of (after t s)
   unfolding after reduced
-  after-shape (allSlice Ss) s h f = (slice-sharding Ss s h f.axes f.by_kind).announced
-  after-shape (allGather Gs) s h f = (gather-sharding Gs s h f.by_kind).announced
+  after-shape (all_slice Ss) s h f = (slice-sharding Ss s h f.axes f.by_kind).announced
+  after-shape (all_gather Gs) s h f = (gather-sharding Gs s h f.by_kind).announced
   after-shape (all_reduce L) s h f = refl
   after-shape (all_to_all source target L) s h f =
       let w : ToAll source target L s = to-all-sharding source target L s h f.axes f.by_kind in

@@ -17,8 +17,8 @@ use Rattle.rules.specs.Sharding.{Sharding, varying, shard_sizes, IsSharding}
 use Rattle.rules.specs.Spread.{StateOf, Faithful, add_words, tabulate_by, held_by}
 use Rattle.rules.specs.Collectives.{
   Step,
-  allSlice,
-  allGather,
+  all_slice,
+  all_gather,
   all_reduce,
   all_to_all,
   reduce_scatter,
@@ -38,7 +38,7 @@ use Rattle.rules.specs.Factor.{scaled, reduced_axes, step_factor, factor_of, fac
 use Rattle.rules.specs.Calls.{shards_after, last_state, runnable, Ran, run_leaves, run_of}
 use Rattle.rules.specs.Ledger.{file_of}
 use Rattle.laws.specs.Demands.{Words, Fits, SpreadAt, returned, start_words, WholePlan, FactorOne, TimesOne, Spreadable, Startable, RoomLimit, ReplicatedStays}
-use Rattle.laws.proofs.Lists.{T?, T→true, in_left, in_right, distinct-split, length-tab, getD-tab}
+use Rattle.laws.proofs.Lists.{T?, T→true, in_left, in_right, distinct-split, length-tab, get_or-tab}
 use Rattle.laws.proofs.Positions.{pos_of_lt, div-lt}
 use Rattle.laws.proofs.Buffers.{below-coords}
 use Rattle.laws.proofs.Orders.{by_order, held-tabulate-by, tabulate-held-by, length-tabulate-by}
@@ -88,13 +88,13 @@ module _ (mesh sizes : List ℕ) (pos : (a : ℕ) → zero < get_or mesh a 1) wh
       → WordsIn mesh (shape_of s) w → Faithful add_words mesh s (shape_of s) table w
       → Faithful add_words mesh (after t s) (shape_after mesh t (shape_of s)) (scaled (step_factor mesh t s) table) (made add_words (sources mesh t (shape_of s)) w)
   unfolding after sources add_words
-  step-spread (allSlice Ss) s table w h f ws F =
+  step-spread (all_slice Ss) s table w h f ws F =
       let k : Sliced mesh sizes pos Ss s = slice-sharding mesh sizes pos Ss s h f.axes f.by_kind in
-      kept (allSlice Ss) s table w h f (λ a i. absurd i) ws
+      kept (all_slice Ss) s table w h f (λ a i. absurd i) ws
       (slice-faithful (λ a. refl) Ss k.one_each k.pieces (λ a i j. f.by_kind.off a i (in_left a (varying s) s.replicated (in_right a (flat s.dims) s.unreduced j))) F)
-  step-spread (allGather Gs) s table w h f ws F =
+  step-spread (all_gather Gs) s table w h f ws F =
       let k : Gathered mesh sizes pos Gs s = gather-sharding mesh sizes pos Gs s h f.by_kind in
-      kept (allGather Gs) s table w h f (λ a i. absurd i) ws
+      kept (all_gather Gs) s table w h f (λ a i. absurd i) ws
       (gather-faithful (λ a. refl) Gs k.one_each k.joined k.wholes (varies mesh sizes s h).once (varies mesh sizes s h).of_mesh F)
   step-spread (all_reduce L) s table w h f ws F =
       reduce-scaled L f.by_kind.once (distinct-split (flat s.dims) s.unreduced (varies mesh sizes s h).once).1 f.by_kind.off ws F
@@ -212,8 +212,8 @@ module _ {p : Plan} (a : AcceptedPlan p) where
     where
       owed : (t : Step) (s : Sharding) → AcceptedStep p.mesh p.sizes t s → ((L : List ℕ) → t ≡ all_reduce L → (b : ℕ) → In b L → In b s.unreduced)
           → (b : ℕ) → In b (reduced_axes t) → In b s.unreduced
-      owed (allSlice Ss) s f h b i = absurd i
-      owed (allGather Gs) s f h b i = absurd i
+      owed (all_slice Ss) s f h b i = absurd i
+      owed (all_gather Gs) s f h b i = absurd i
       owed (all_reduce L) s f h b i = h L refl b i
       owed (all_to_all source target L) s f h b i = absurd i
       owed (reduce_scatter Ss) s f h b i = f.by_kind.unreduced b i
@@ -325,12 +325,12 @@ times_one file p e table work = plan-times-one (accepted file p e) table work
 -- ---- there is a spread
 
 -- zeros behind a buffer read as what is not there
-get_d-zeros : (l : List ℕ) (n j : ℕ) → get_or (l ++ replicate n 0) j 0 ≡ get_or l j 0
-get_d-zeros [] zero j = refl
-get_d-zeros [] (suc n) zero = refl
-get_d-zeros [] (suc n) (suc j) = get_d-zeros [] n j
-get_d-zeros (w ∷ l) n zero = refl
-get_d-zeros (w ∷ l) n (suc j) = get_d-zeros l n j
+get_or-zeros : (l : List ℕ) (n j : ℕ) → get_or (l ++ replicate n 0) j 0 ≡ get_or l j 0
+get_or-zeros [] zero j = refl
+get_or-zeros [] (suc n) zero = refl
+get_or-zeros [] (suc n) (suc j) = get_or-zeros [] n j
+get_or-zeros (w ∷ l) n zero = refl
+get_or-zeros (w ∷ l) n (suc j) = get_or-zeros l n j
 
 -- the buffer of a state of words holds words
 tabulate-words : (order mesh : List ℕ) → Rearrangement (devices mesh) order → (shape : List ℕ) (w : StateOf ℕ) → WordsIn mesh shape w
@@ -338,7 +338,7 @@ tabulate-words : (order mesh : List ℕ) → Rearrangement (devices mesh) order 
 unfolding tabulate_by
 tabulate-words order mesh r shape w ws j = ⊎_elim
     (λ t. let l : j < devices mesh * product shape = ltb→lt j (devices mesh * product shape) t in
-    subst (λ z. z < 2 ^ 32) (sym (getD-tab (devices mesh * product shape) j _ 0 l))
+    subst (λ z. z < 2 ^ 32) (sym (get_or-tab (devices mesh * product shape) j _ 0 l))
     (ws _ _ ((by_order mesh order r).below (j / product shape) (div-lt (devices mesh) (product shape) l)) (below-coords shape (j % product shape) (mod-lt j (pos_of_lt (devices mesh) (product shape) l)))))
     (λ t. subst (λ z. z < 2 ^ 32) (sym (get_or-eq_default (tabulate_by order mesh shape w) 0 (subst (λ z. z ≤ j) (sym (length-tab (devices mesh * product shape) _)) (nltb→le j (devices mesh * product shape) t)))) (lit< tt))
     (T? (ltb j (devices mesh * product shape)))
@@ -357,7 +357,7 @@ spreadable file p e table words len l =
     let rest : List ℕ = replicate (len - start_words p) 0 in (
       front ++ rest,
       length-append front rest ∙ omega (arith, length-tabulate-by p.mesh p.order a.ordered shape w.0, length-replicate {A = ℕ} (len - start_words p) 0),
-      λ j. subst (λ z. z < 2 ^ 32) (sym (get_d-zeros front (len - start_words p) j)) (tabulate-words p.order p.mesh a.ordered shape w.0 w.1 j),
+      λ j. subst (λ z. z < 2 ^ 32) (sym (get_or-zeros front (len - start_words p) j)) (tabulate-words p.order p.mesh a.ordered shape w.0 w.1 j),
       faithful-cong (λ x i bx bi. sym (held-tabulate-by p.mesh p.order a.ordered shape 0 w.0 rest bx bi)) w.2,
     )
 
@@ -393,8 +393,8 @@ room-reached = (
 -- each kind of step leaves it
 kept_by : (t : Step) (s : Sharding) → (after t s).replicated ≡ s.replicated
 unfolding after
-kept_by (allSlice Ss) s = refl
-kept_by (allGather Gs) s = refl
+kept_by (all_slice Ss) s = refl
+kept_by (all_gather Gs) s = refl
 kept_by (all_reduce L) s = refl
 kept_by (all_to_all source target L) s = refl
 kept_by (reduce_scatter Ss) s = refl

@@ -2,7 +2,7 @@
 -- every table on every start. Statements; proofs/Meetings.antt proves them. Assumes nothing.
 use Rattle.std.specs.Prelude.{ℕ, ◌+◌, ◌^◌, ◌≤◌, ◌<◌, ◌≡◌, List, [], ◌∷◌, length, get_or, replicate, take}
 use Rattle.rules.specs.Mesh.{number}
-use Rattle.rules.specs.Collectives.{Step, allSlice, all_reduce, allGather, reduce_scatter}
+use Rattle.rules.specs.Collectives.{Step, all_slice, all_reduce, all_gather, reduce_scatter}
 use Rattle.rules.specs.Refusals.{accept}
 use Rattle.rules.specs.PlanFile.{Plan, Record, plain, repeat, judge}
 use Rattle.rules.specs.Calls.{shards_after, run_of}
@@ -64,7 +64,7 @@ abbrev pub at_once : Plan
 at_once = owed (all_reduce (0 ∷ []) ∷ []) (1 ∷ [])
 
 abbrev pub in_two : Plan
-in_two = owed (reduce_scatter ((0 ∷ []) ∷ []) ∷ allGather ((0 ∷ []) ∷ []) ∷ []) (1 ∷ 1 ∷ [])
+in_two = owed (reduce_scatter ((0 ∷ []) ∷ []) ∷ all_gather ((0 ∷ []) ∷ []) ∷ []) (1 ∷ 1 ∷ [])
 
 abbrev pub owed_file : List (List ℕ) → List ℕ
 owed_file steps = file_in 3 (2 ∷ []) (1 ∷ 0 ∷ []) (2 ∷ []) ([] ∷ (0 ∷ []) ∷ [] ∷ []) steps
@@ -92,7 +92,7 @@ abbrev pub stays : Plan
 stays = apart [] []
 
 abbrev pub comes_back : Plan
-comes_back = apart (allSlice ((1 ∷ []) ∷ []) ∷ allGather ((1 ∷ []) ∷ []) ∷ []) (1 ∷ 1 ∷ [])
+comes_back = apart (all_slice ((1 ∷ []) ∷ []) ∷ all_gather ((1 ∷ []) ∷ []) ∷ []) (1 ∷ 1 ∷ [])
 
 abbrev pub apart_file : List (List ℕ) → List ℕ
 apart_file steps = file_of (2 ∷ 1 ∷ []) (1 ∷ []) ([] ∷ (0 ∷ []) ∷ []) steps

@@ -4,7 +4,7 @@ use Rattle.std.specs.Prelude.{ℕ, ◌+◌, ◌-◌, ◌*◌, ◌%◌, ◌≤◌
 use Rattle.rules.specs.Lists.{product}
 use Rattle.rules.specs.Mesh.{devices, span}
 use Rattle.rules.specs.Sharding.{Sharding}
-use Rattle.rules.specs.Collectives.{Step, allSlice, allGather, all_reduce, all_to_all, reduce_scatter, step_axes}
+use Rattle.rules.specs.Collectives.{Step, all_slice, all_gather, all_reduce, all_to_all, reduce_scatter, step_axes}
 use Rattle.rules.specs.Refusals.{accept, refuse}
 use Rattle.rules.specs.PlanFile.{StepsRead, steps_at, repeat_at, item_at, Plan, judge, announced_shape}
 use Rattle.rules.specs.Calls.{CheckAnswer, check_of, run_of}
@@ -12,8 +12,8 @@ use Rattle.rules.specs.Moved.{moved_by, added_on, moved_from, words_moved, charg
 
 -- "D·m·(g-1)/g for all-to-all and reduce-scatter": this division leaves no remainder
 abbrev pub DividesExactly : (mesh : List ℕ) → Step → (shape : List ℕ) → Type 0
-DividesExactly mesh (allSlice Ss) shape = Unit {0}
-DividesExactly mesh (allGather Gs) shape = Unit {0}
+DividesExactly mesh (all_slice Ss) shape = Unit {0}
+DividesExactly mesh (all_gather Gs) shape = Unit {0}
 DividesExactly mesh (all_reduce L) shape = Unit {0}
 DividesExactly mesh (all_to_all source target L) shape = devices mesh * product shape * (span mesh L - 1) % span mesh L ≡ 0
 DividesExactly mesh (reduce_scatter Ss) shape =

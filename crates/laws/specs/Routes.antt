@@ -5,7 +5,7 @@ use Rattle.std.specs.Prelude.{ℕ, ◌+◌, ◌*◌, ◌%◌, ◌^◌, ◌≡◌
 use Rattle.rules.specs.Lists.{product, In, Below}
 use Rattle.rules.specs.Mesh.{devices, Agree}
 use Rattle.rules.specs.Sharding.{Sharding, varying}
-use Rattle.rules.specs.Collectives.{Step, allSlice, allGather}
+use Rattle.rules.specs.Collectives.{Step, all_slice, all_gather}
 use Rattle.rules.specs.Refusals.{accept}
 use Rattle.rules.specs.PlanFile.{Plan, judge, announced, announced_shape}
 use Rattle.rules.specs.Factor.{factor_after}
@@ -100,7 +100,7 @@ pub record GivesBack (p : Plan) (work : List ℕ) (k : ℕ) : Type 0 where
 abbrev pub GatherUndoesSlice : Type 0
 GatherUndoesSlice =
     (file : List ℕ) (p : Plan) → judge file ≡ accept p → (k : ℕ) (Ss : List (List ℕ)) (rest : List Step)
-    → drop k p.steps ≡ allSlice Ss ∷ allGather Ss ∷ rest → (work : List ℕ) → GivesBack p work k
+    → drop k p.steps ≡ all_slice Ss ∷ all_gather Ss ∷ rest → (work : List ℕ) → GivesBack p work k
 
 -- "run to the end, gives back the sharding and, from a faithful spread, every word of the shards": of a plan that is these two steps
 pub record RunGivesBack (p : Plan) (work : List ℕ) (ran : Ran) : Type 0 where
@@ -109,5 +109,5 @@ pub record RunGivesBack (p : Plan) (work : List ℕ) (ran : Ran) : Type 0 where
 
 abbrev pub ThereAndBack : Type 0
 ThereAndBack =
-    (file : List ℕ) (p : Plan) → judge file ≡ accept p → (Ss : List (List ℕ)) → p.steps ≡ allSlice Ss ∷ allGather Ss ∷ []
+    (file : List ℕ) (p : Plan) → judge file ≡ accept p → (Ss : List (List ℕ)) → p.steps ≡ all_slice Ss ∷ all_gather Ss ∷ []
     → (work spare : List ℕ) → (run_of file work spare).outcome ≡ accept tt → RunGivesBack p work (run_of file work spare)

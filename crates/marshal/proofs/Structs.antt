@@ -9,7 +9,7 @@ use lib.Arith.{digits_div, digits_mod}
 use Rattle.rules.specs.Lists.{tab, flat}
 use Rattle.rules.specs.Limits.{most_axes, most_dims}
 use Rattle.rules.specs.Sharding.{Sharding}
-use Rattle.rules.specs.Collectives.{Step, allSlice, allGather, all_reduce, all_to_all, reduce_scatter}
+use Rattle.rules.specs.Collectives.{Step, all_slice, all_gather, all_reduce, all_to_all, reduce_scatter}
 use Rattle.rules.specs.PlanFile.{plain}
 use Rattle.types.specs.Types.{axes_of, dims_of, sharding_of, list_from, lists_from, sharding_from}
 use Rattle.types.specs.declared.Kind.{Kind}
@@ -77,8 +77,8 @@ no-lists : ShortLists []
 no-lists d = omega arith
 
 pub step-numbers : (t : Step) → ShortStep t → step_numbers (step_record_of t) ≡ step_reply (plain t)
-step-numbers (allSlice Ss) h = with-numbers AllSlice 0 0 Ss [] h (omega arith)
-step-numbers (allGather Gs) h = with-numbers AllGather 0 0 Gs [] h (omega arith)
+step-numbers (all_slice Ss) h = with-numbers AllSlice 0 0 Ss [] h (omega arith)
+step-numbers (all_gather Gs) h = with-numbers AllGather 0 0 Gs [] h (omega arith)
 step-numbers (all_reduce L) h = with-numbers AllReduce 0 0 [] L no-lists h
 step-numbers (all_to_all source target L) h = with-numbers AllToAll source target [] L no-lists h
 step-numbers (reduce_scatter Ss) h = with-numbers ReduceScatter 0 0 Ss [] h (omega arith)

@@ -4,7 +4,7 @@ use Rattle.std.specs.Prelude.{ℕ, ◌+◌, ◌*◌, ◌/◌, ◌%◌, ◌≡◌
 use Rattle.rules.specs.Lists.{tab, flat}
 use Rattle.rules.specs.Limits.{most_axes, most_dims}
 use Rattle.rules.specs.Sharding.{Sharding}
-use Rattle.rules.specs.Collectives.{allSlice, allGather, all_reduce, all_to_all, reduce_scatter}
+use Rattle.rules.specs.Collectives.{all_slice, all_gather, all_reduce, all_to_all, reduce_scatter}
 use Rattle.rules.specs.PlanFile.{Record, plain, repeat}
 use Rattle.types.specs.Types.{four_places, sharding_of}
 use Rattle.types.specs.declared.AxisList.{AxisList}
@@ -82,8 +82,8 @@ reply_bytes r = r.kind ∷ r.source ∷ r.target ∷ (r.counts ++ r.axes)
 
 pub reply-record : (g : Record) → reply_bytes (step_reply g) ≡ record_of g
 unfolding record_of
-reply-record (plain (allSlice Ss)) = refl
-reply-record (plain (allGather Gs)) = refl
+reply-record (plain (all_slice Ss)) = refl
+reply-record (plain (all_gather Gs)) = refl
 reply-record (plain (all_reduce L)) = refl
 reply-record (plain (all_to_all source target L)) = refl
 reply-record (plain (reduce_scatter Ss)) = refl

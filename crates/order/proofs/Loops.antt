@@ -15,7 +15,7 @@ use lib.Arith.{digits_div, digits_mod}
 use Rattle.rules.specs.Lists.{tab, pick, mem}
 use Rattle.rules.specs.Mesh.{plain_order, place_in, Rearrangement}
 use Rattle.rules.specs.PlanFile.{all_below, fresh, same, rearranges, order_allowed}
-use Rattle.laws.proofs.Lists.{length-tab, getD-tab, map-tab, tab-cong}
+use Rattle.laws.proofs.Lists.{length-tab, get_or-tab, map-tab, tab-cong}
 use Rattle.laws.proofs.Fronts.{whole-tab, part-tab, part_cut}
 use Rattle.laws.proofs.Orders.{rearranged, place-below, listed_at}
 use Rattle.order.specs.Order.{places_of}
@@ -55,7 +55,7 @@ module _ {l : List ℕ} {i : ℕ} (g : Plain l i) where
     plain_turn =
         let n : ℕ = length l in
         g.rest ∙ ap₂ same (next-at l i h) (next-at (plain_order n) i (omega (arith, length-tab n (λ d. d))))
-        ∙ ap (λ (d : ℕ). eqb (get_or l i 0) d && same (drop (i + 1) l) (drop (i + 1) (plain_order n))) (getD-tab n i (λ d. d) 0 h)
+        ∙ ap (λ (d : ℕ). eqb (get_or l i 0) d && same (drop (i + 1) l) (drop (i + 1) (plain_order n))) (get_or-tab n i (λ d. d) 0 h)
 
     pub not_plain : ¬ (get_or l i 0 ≡ i) → same l (plain_order (length l)) ≡ false
     not_plain n = plain_turn ∙ rw (ne_eqb (get_or l i 0) i n) refl

@@ -12,7 +12,7 @@ use Rattle.rules.specs.Lists.{tab, product}
 use Rattle.rules.specs.Mesh.{number, coords, devices, plain_order, place_in, Rearrangement}
 use Rattle.rules.specs.Spread.{StateOf, tabulate, held, tabulate_by, held_by}
 use Rattle.rules.specs.Collectives.{Shards, Stands}
-use Rattle.laws.proofs.Lists.{length-tab, getD-tab, tab-cong}
+use Rattle.laws.proofs.Lists.{length-tab, get_or-tab, tab-cong}
 use Rattle.laws.proofs.Positions.{pos_of_lt, div-lt}
 use Rattle.laws.proofs.Buffers.{number_lt, number-coords, length-tabulate, tabulate-held, tabulate-same}
 use Rattle.laws.proofs.Orders.{plain-rearranged, place-below, place-of}
@@ -35,7 +35,7 @@ module _ {n : ℕ} {order : List ℕ} (r : Rearrangement n order) where
 
   pub place_at : (d : ℕ) → d < n → get_or (places_of order) d 0 ≡ place_in d order
   unfolding places_of
-  place_at d h = getD-tab (length order) d (λ d. place_in d order) 0 (omega (arith, r.size))
+  place_at d h = get_or-tab (length order) d (λ d. place_in d order) 0 (omega (arith, r.size))
 
   pub order-fits : (m : ℕ) {to from : ℕ} → n * m ≤ to → n * m ≤ from → ShardsFit order m to from
   order-fits = shards-fit order r.size r.below
@@ -74,7 +74,7 @@ module _ {W : Type 0} (z : W) (mesh order : List ℕ) (r : Rearrangement (device
       let word : (p k : ℕ) → p < n → k < m → get_or b (p * m + k) z ≡ w p k = λ p k lp lk.
       let l : p * m + k < n * m = digits_lt lp lk in
       sym (get_or-take (n * m) b (p * m + k) z l) ∙ ap (λ (a : List W). get_or a (p * m + k) z) h
-      ∙ getD-tab (n * m) (p * m + k) (λ t. w (t / m) (t % m)) z l ∙ ap₂ w (digits_div p lk) (digits_mod p lk) in
+      ∙ get_or-tab (n * m) (p * m + k) (λ t. w (t / m) (t % m)) z l ∙ ap₂ w (digits_div p lk) (digits_mod p lk) in
       ap (λ (k : ℕ). tab (k * m) (λ t. get_or b (get_or (places_of order) (t / m) 0 * m + t % m) z)) (length-places r)
       ∙ tab-cong (n * m) _ (λ t. w (place_in (t / m) order) (t % m)) (λ t l.
       let d : t / m < n = div-lt n m l in
@@ -88,7 +88,7 @@ module _ {W : Type 0} (mesh : List ℕ) where
       → Stands mesh (record { shape = shape; words = held_by z (plain_order (devices mesh)) mesh shape b }) b
   unfolding held_by held
   plain-stands z shape b h = sym (tabulate-same mesh shape _ (held z mesh shape b) (λ x i bx bi.
-      ap (λ (d : ℕ). get_or b (d * product shape + number shape i) z) (getD-tab (devices mesh) (number mesh x) (λ d. d) 0 (number_lt bx)))
+      ap (λ (d : ℕ). get_or b (d * product shape + number shape i) z) (get_or-tab (devices mesh) (number mesh x) (λ d. d) 0 (number_lt bx)))
       ∙ tabulate-held mesh shape z b h)
 
   pub plain-tabulate : (shape : List ℕ) (w : StateOf W) → tabulate_by (plain_order (devices mesh)) mesh shape w ≡ tabulate mesh shape w
@@ -99,5 +99,5 @@ module _ {W : Type 0} (mesh : List ℕ) where
       tab-cong (n * m) _ _ (λ t l.
       let d : t / m < n = div-lt n m l in
       let e : place_in (t / m) (plain_order n) ≡ t / m =
-      ap (λ (k : ℕ). place_in k (plain_order n)) (sym (getD-tab n (t / m) (λ d. d) 0 d)) ∙ place-of n (plain_order n) (plain-rearranged n) (t / m) d in
+      ap (λ (k : ℕ). place_in k (plain_order n)) (sym (get_or-tab n (t / m) (λ d. d) 0 d)) ∙ place-of n (plain_order n) (plain-rearranged n) (t / m) d in
       ap (λ (p : ℕ). w (coords mesh p) (coords shape (t % m))) e)

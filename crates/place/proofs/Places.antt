@@ -20,7 +20,7 @@ use Rattle.types.specs.declared.Refusal.{Refusal}
 use Rattle.laws.proofs.Positions.{pos_of_lt, position-lt}
 use Rattle.laws.proofs.Buffers.{below-coords}
 use Rattle.laws.proofs.Orders.{plain-rearranged, place-below, place-of}
-use Rattle.laws.proofs.Lists.{getD-tab}
+use Rattle.laws.proofs.Lists.{get_or-tab}
 use Rattle.laws.proofs.Shapes.{Cut, uncut, cut}
 use Rattle.laws.proofs.Sizes.{cut-divisible}
 use Rattle.laws.proofs.Accepted.{AcceptedPlan, accepted, state-inv}
@@ -59,7 +59,7 @@ module _ (file : List ℕ) (n devices d : ℕ) where
   pub place-plain : d < devices → carries_order (edition file) ≡ false → d ≡ place_in d (order_in file n devices)
   place-plain l c =
       sym (ap (λ (b : Bool). place_in d (order_of b devices file (18 + 2 * n))) c
-      ∙ ap (λ (k : ℕ). place_in k (plain_order devices)) (sym (getD-tab devices d (λ k. k) 0 l))
+      ∙ ap (λ (k : ℕ). place_in k (plain_order devices)) (sym (get_or-tab devices d (λ k. k) 0 l))
       ∙ place-of devices (plain_order devices) (plain-rearranged devices) d l)
 
   pub place-carried : carries_order (edition file) ≡ true → place_in d (order_in file n devices) ≡ place_in d (tab devices (λ i. u16_at file (18 + 2 * n + 2 * i)))

@@ -20,7 +20,7 @@ use Rattle.rules.specs.Mesh.{position, coords, plain_order, place_in}
 use Rattle.types.specs.Types.{dims_of, sizes_of}
 use Rattle.types.specs.declared.DimLists.{DimLists}
 use Rattle.types.specs.declared.Table.{Table}
-use Rattle.laws.proofs.Lists.{length-each, length-tab, tab-cong, getD-tab}
+use Rattle.laws.proofs.Lists.{length-each, length-tab, tab-cong, get_or-tab}
 use Rattle.laws.proofs.Orders.{plain-rearranged, place-of}
 use Rattle.order.specs.Order.{places_of}
 use Rattle.laws.proofs.Fronts.{part-tab, whole-tab, part_in}
@@ -96,7 +96,7 @@ led-few most (d ∷ ds) = go (ltb d most) (led-few most ds)
 pub places-plain : (n : ℕ) → plain_order n ≡ places_of (plain_order n)
 unfolding places_of
 places-plain n =
-    tab-cong n (λ k. k) (λ d. place_in d (plain_order n)) (λ d h. sym (ap (λ (k : ℕ). place_in k (plain_order n)) (sym (getD-tab n d (λ k. k) 0 h))
+    tab-cong n (λ k. k) (λ d. place_in d (plain_order n)) (λ d h. sym (ap (λ (k : ℕ). place_in k (plain_order n)) (sym (get_or-tab n d (λ k. k) 0 h))
     ∙ place-of n (plain_order n) (plain-rearranged n) d h))
     ∙ ap (λ (m : ℕ). tab m (λ d. place_in d (plain_order n))) (sym (length-tab n (λ k. k)))
 

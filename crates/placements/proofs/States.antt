@@ -12,7 +12,7 @@ use Rattle.rules.specs.Sharding.{first_indexes}
 use Rattle.rules.specs.Refusals.{accept}
 use Rattle.rules.specs.PlanFile.{Plan, StateAnswer, state_of}
 use Rattle.types.specs.Types.{dims_of, mesh_of, sizes_of}
-use Rattle.laws.proofs.Lists.{getD-tab, length-tab}
+use Rattle.laws.proofs.Lists.{get_or-tab, length-tab}
 use Rattle.laws.proofs.Accepted.{AcceptedPlan, accepted, state-inv}
 use Rattle.reader.specs.Reading.{order_in}
 use Rattle.reader.specs.declared.Next.TheVariants as next
@@ -54,7 +54,7 @@ module _ (file : List ℕ) (k : ℕ) (r : code.State) (e : StateTells file (stat
   unfolding places_of
   place_is d l =
       let order = order_in file r.mesh.n r.devices in
-      getD-tab (length order) d (λ c. place_in c order) 0 (subst (λ (n : ℕ). d < n) (sym ordered.size) l)
+      get_or-tab (length order) d (λ c. place_in c order) 0 (subst (λ (n : ℕ). d < n) (sym ordered.size) l)
 
   many : length (places_of (order_in file r.mesh.n r.devices)) ≡ r.devices
   unfolding places_of

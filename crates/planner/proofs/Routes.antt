@@ -29,7 +29,7 @@ use Rattle.records.specs.RoundTrip.{Shorts}
 use Rattle.records.specs.Planning.{plan_steps, reachable, plan_of}
 use Rattle.records.specs.Promises.{PlanPromise}
 use Rattle.records.proofs.Arrives.{planner-promise, plan-again, plan-steps}
-use Rattle.given.specs.Given.{judgeShape, meshFrom, tableFrom}
+use Rattle.given.specs.Given.{judge_shape, mesh_from, table_from}
 use Rattle.given.proofs.Sizes.{mesh_is, table_is}
 use Rattle.given.proofs.Whole.{axes_few, dims-few}
 use Rattle.given.proofs.Counts.{sharding-fits}
@@ -60,7 +60,7 @@ halts : {j : Judged (Unit {0})} (rest : Judged (Unit {0})) {v : Verdict} {x : Re
 halts {j} rest {v} {x} e f = ap meaning f ∙ ap (λ (i : Judged (Unit {0})). ◌>>◌ i rest) (ap meaning (sym f) ∙ e)
 
 -- a sharding judged for the mesh and the table of sizes that passed
-pub sharding-judged : (mesh order sizes : List ℕ) → judgeShape mesh order sizes 0 ≡ accept tt → (m : Mesh) (t : Table) (s : code.Sharding) → m ≡ meshFrom mesh → t ≡ tableFrom sizes
+pub sharding-judged : (mesh order sizes : List ℕ) → judge_shape mesh order sizes 0 ≡ accept tt → (m : Mesh) (t : Table) (s : code.Sharding) → m ≡ mesh_from mesh → t ≡ table_from sizes
     → (v : Verdict) → meaning v ≡ judge_sharding (mesh_of m) (sizes_of t) (sharding_given t.rank s) → meaning v ≡ judge_sharding mesh sizes (sharding_given (length sizes) s)
 sharding-judged mesh order sizes h m t s a b v e =
     let p = mesh_is mesh (axes_few mesh order sizes 0 h) a in
@@ -84,14 +84,14 @@ module _ (mesh order sizes : List ℕ) (start goal : code.Sharding) where
   G = sharding_given (length sizes) goal
 
   module _ {v : Verdict} {x : Refusal} where
-    pub shape-halts : meaning v ≡ judgeShape mesh order sizes 0 → v ≡ verdict.Refused x → meaning v ≡ judge_route mesh order sizes start goal
+    pub shape-halts : meaning v ≡ judge_shape mesh order sizes 0 → v ≡ verdict.Refused x → meaning v ≡ judge_route mesh order sizes start goal
     shape-halts e f = halts (◌>>◌ (judge_sharding mesh sizes S) (◌>>◌ (judge_sharding mesh sizes G) (reachable S G))) e f
 
-    pub start-halts : judgeShape mesh order sizes 0 ≡ accept tt → meaning v ≡ judge_sharding mesh sizes S → v ≡ verdict.Refused x
+    pub start-halts : judge_shape mesh order sizes 0 ≡ accept tt → meaning v ≡ judge_sharding mesh sizes S → v ≡ verdict.Refused x
         → meaning v ≡ judge_route mesh order sizes start goal
     start-halts s e f = rw s (halts (◌>>◌ (judge_sharding mesh sizes G) (reachable S G)) e f)
 
-    pub goal-halts : judgeShape mesh order sizes 0 ≡ accept tt → judge_sharding mesh sizes S ≡ accept tt → meaning v ≡ judge_sharding mesh sizes G
+    pub goal-halts : judge_shape mesh order sizes 0 ≡ accept tt → judge_sharding mesh sizes S ≡ accept tt → meaning v ≡ judge_sharding mesh sizes G
         → v ≡ verdict.Refused x → meaning v ≡ judge_route mesh order sizes start goal
     goal-halts s o e f = rw (s, o) (halts (reachable S G) e f)
 
@@ -105,7 +105,7 @@ module _ (mesh order sizes : List ℕ) (start goal : code.Sharding) where
       let o = then-inv (judge_counts (length mesh) (z.unreduced ∷ z.replicated ∷ [])) _ tt d.1 in
       sharding-fits (length mesh) (length sizes) s n d.0.1 o.0.1
 
-  pub reach-decides : length mesh ≤ most_axes → judgeShape mesh order sizes 0 ≡ accept tt → judge_sharding mesh sizes S ≡ accept tt → judge_sharding mesh sizes G ≡ accept tt
+  pub reach-decides : length mesh ≤ most_axes → judge_shape mesh order sizes 0 ≡ accept tt → judge_sharding mesh sizes S ≡ accept tt → judge_sharding mesh sizes G ≡ accept tt
       → (v : Verdict) → meaning v ≡ reachable (sharding_of (length sizes) start) (sharding_of (length sizes) goal) → meaning v ≡ judge_route mesh order sizes start goal
   reach-decides n s o q v e = rw (s, o, q) (e ∙ (λ i. reachable (sym (fits start n o) i) (sym (fits goal n q) i)))
 
@@ -135,13 +135,13 @@ module _ (mesh order sizes : List ℕ) (start goal : code.Sharding) where
         )
 
   pub route-rank : judge_route mesh order sizes start goal ≡ accept tt → length sizes ≤ most_dims
-  route-rank e = dims-few mesh order sizes 0 (then-inv (judgeShape mesh order sizes 0) _ tt e).0.1
+  route-rank e = dims-few mesh order sizes 0 (then-inv (judge_shape mesh order sizes 0) _ tt e).0.1
 
   pub plan-made : judge_route mesh order sizes start goal ≡ accept tt → {made : Steps}
       → made ≡ steps_from (plan_steps (sharding_of (length sizes) start) (sharding_of (length sizes) goal))
       → Answered (record { outcome = outcome.Made; plan = made })
   plan-made e {made} q =
-      let s = then-inv (judgeShape mesh order sizes 0) _ tt e in
+      let s = then-inv (judge_shape mesh order sizes 0) _ tt e in
       let n : length mesh ≤ most_axes = axes_few mesh order sizes 0 s.0.1 in
       let o = then-inv (judge_sharding mesh sizes S) _ tt s.1 in
       let g = then-inv (judge_sharding mesh sizes G) _ tt o.1 in (

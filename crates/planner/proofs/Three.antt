@@ -9,7 +9,7 @@ use lib.ListN.{length, set}
 use lib.Dec.{eqb}
 use Rattle.rules.specs.Lists.{pick, flat}
 use Rattle.rules.specs.Sharding.{Sharding}
-use Rattle.rules.specs.Collectives.{Step, allSlice, allGather, all_reduce, step_axes}
+use Rattle.rules.specs.Collectives.{Step, all_slice, all_gather, all_reduce, step_axes}
 use Rattle.rules.specs.PlanFile.{some}
 use Rattle.types.specs.declared.Step as code
 use Rattle.records.specs.Planning.{to_reduce, to_gather, to_slice, if_naming, plan_steps}
@@ -78,10 +78,10 @@ second-room false false x y e = subst (λ (z : Steps). z.count < 3) (sym e) (ome
 
 pub three-steps : (start goal : Sharding) {a b c : Bool} {L : List ℕ} {Gs Ss : List (List ℕ)}
     → L ≡ to_reduce start goal → Gs ≡ to_gather start goal → Ss ≡ to_slice start goal → a ≡ some L → b ≡ some (flat Gs) → c ≡ some (flat Ss)
-    → pick c (second_of a b (all_reduce L) (allGather Gs) ++ allSlice Ss ∷ []) (second_of a b (all_reduce L) (allGather Gs)) ≡ plan_steps start goal
+    → pick c (second_of a b (all_reduce L) (all_gather Gs) ++ all_slice Ss ∷ []) (second_of a b (all_reduce L) (all_gather Gs)) ≡ plan_steps start goal
 unfolding plan_steps
 three-steps start goal {a} {b} {c} {L} {Gs} {Ss} eL eG eS na nb nc =
-    joined a b c (all_reduce L) (allGather Gs) (allSlice Ss)
-    ∙ (λ i. pick (na i) (all_reduce L ∷ pick (nb i) (allGather Gs ∷ pick (nc i) (allSlice Ss ∷ []) []) (pick (nc i) (allSlice Ss ∷ []) []))
-    (pick (nb i) (allGather Gs ∷ pick (nc i) (allSlice Ss ∷ []) []) (pick (nc i) (allSlice Ss ∷ []) [])))
-    ∙ (λ i. if_naming (all_reduce (eL i)) (if_naming (allGather (eG i)) (if_naming (allSlice (eS i)) [])))
+    joined a b c (all_reduce L) (all_gather Gs) (all_slice Ss)
+    ∙ (λ i. pick (na i) (all_reduce L ∷ pick (nb i) (all_gather Gs ∷ pick (nc i) (all_slice Ss ∷ []) []) (pick (nc i) (all_slice Ss ∷ []) []))
+    (pick (nb i) (all_gather Gs ∷ pick (nc i) (all_slice Ss ∷ []) []) (pick (nc i) (all_slice Ss ∷ []) [])))
+    ∙ (λ i. if_naming (all_reduce (eL i)) (if_naming (all_gather (eG i)) (if_naming (all_slice (eS i)) [])))

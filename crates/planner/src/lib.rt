@@ -5,7 +5,7 @@
 ghost use Rattle.std.specs.Prelude.{◌≡◌, List, [], ◌∷◌, ◌++◌, ℕ, ◌≤◌, ◌<◌, length, take, drop};
 ghost use Rattle.rules.specs.Lists.{each, pick};
 ghost use Rattle.rules.specs.Limits.{most_dims};
-ghost use Rattle.rules.specs.Collectives.{allSlice, allGather, all_reduce};
+ghost use Rattle.rules.specs.Collectives.{all_slice, all_gather, all_reduce};
 ghost use Rattle.rules.specs.Collectives as rules;
 ghost use Rattle.types.specs.Types.{axes_of, dims_of, sharding_of};
 ghost use Rattle.start.specs.Start.{meaning};
@@ -95,7 +95,7 @@ fn reduce_of(list: AxisList) -> Step
 
 // An all-gather, and an all-slice, of a table of a rank.
 fn gather_of(lists: DimLists, rank: usize) -> Step
-    ensures { result ≡ step_record_of (allGather (take rank (dims_of lists))) }
+    ensures { result ≡ step_record_of (all_gather (take rank (dims_of lists))) }
 {
     let none = AxisList::empty();
     Step {
@@ -108,7 +108,7 @@ fn gather_of(lists: DimLists, rank: usize) -> Step
 }
 
 fn slice_of(lists: DimLists, rank: usize) -> Step
-    ensures { result ≡ step_record_of (allSlice (take rank (dims_of lists))) }
+    ensures { result ≡ step_record_of (all_slice (take rank (dims_of lists))) }
 {
     let none = AxisList::empty();
     Step {

@@ -10,12 +10,66 @@ use lib.ListN.{length, get_or, drop, replicate, length-append, length-drop}
 use lib.Dec.{T, leb, eqb, eqb→eq, leb→le, le→leb}
 use Rattle.rules.specs.Lists.{pick, each, both, flat, in_turn, without, In, Distinct}
 use Rattle.rules.specs.Sharding.{Sharding, varying, named, divisible, shard_sizes, IsSharding}
-use Rattle.rules.specs.Collectives.{Step, allSlice, allGather, all_reduce, all_to_all, reduce_scatter, step_axes, sliced, gathered, reduced, after, grown}
+<<<<<<< HEAD
+use Rattle.rules.specs.Collectives.{Step, all_slice, all_gather, all_reduce, all_to_all, reduce_scatter, step_axes, sliced, gathered, reduced, after, grown}
 use Rattle.rules.specs.Limits.{most_axes, most_dims, most_run, most_depth, every_kind}
 use Rattle.rules.specs.Refusals.{accept}
 use Rattle.rules.specs.PlanFile.{judge_axes, judge_start, some, all_below, fresh, is_tail, increasing_from, none_in, gather_off, slice_on, judge_kind, judge_step, plain, kind_byte, plain_at, is_repeat, item_with, item_at, Outermost, outermost_at}
 use Rattle.laws.proofs.Lists.{T→true, n_t→false, both-length, length-each, in_left, in_right, in-append, joined-right, distinct-split, Apart, split-joined, of-without, without-none}
 use Rattle.laws.proofs.Judging.{need-inv, then-inv, off-none_in, distinct-fresh}
+=======
+use Rattle.rules.specs.Collectives.{Step, all_slice, all_gather, all_reduce, all_to_all, reduce_scatter, step_axes, cut_tail, sliced, gathered, reduced, after, grown}
+use Rattle.rules.specs.Limits.{most_axes, most_devices, most_dims, most_words, most_steps, most_run, most_depth, every_kind}
+use Rattle.rules.specs.Refusals.{Judged, accept, refuse, ◌>>=◌, ◌>>◌, need, need_at}
+use Rattle.rules.specs.PlanFile.{
+  axes_allowed,
+  rank_allowed,
+  judge_sizes,
+  judge_axes,
+  judge_start,
+  same,
+  some,
+  all_below,
+  fresh,
+  is_tail,
+  increasing_from,
+  none_in,
+  gather_off,
+  slice_on,
+  step_at,
+  judge_kind,
+  judge_step,
+  plain,
+  kind_byte,
+  StepsRead,
+  plain_at,
+  is_repeat,
+  item_with,
+  item_at,
+  Outermost,
+  outermost_at,
+}
+use Rattle.laws.proofs.Lists.{
+  T?,
+  T→true,
+  n_t→false,
+  T_and,
+  and_T,
+  both-length,
+  length-each,
+  in_left,
+  in_right,
+  in-append,
+  joined-left,
+  joined-right,
+  distinct-split,
+  Apart,
+  split-joined,
+  of-without,
+  without-none,
+}
+use Rattle.laws.proofs.Judging.{accept-inj, need-inv, need-true, then-inv, bind_inv, off-none_in, distinct-fresh, all_in-in, same-eq}
+>>>>>>> d08089a3 (Names declared several on a line, or at a level, and those of the crate given, in today's spelling)
 use Rattle.laws.proofs.Steps.{Varies, varies}
 use Rattle.laws.proofs.Shapes.{Cut}
 use Rattle.laws.proofs.Sizes.{cut-divisible, cut-is, cut-grown}
@@ -98,8 +152,8 @@ counts-few n (l ∷ ls) h e =
 
 step-few : {n rank : ℕ} (t : Step) → n ≤ most_axes → rank ≤ most_dims → RankedStep rank t → judge_counts n (step_lists t) ≡ accept tt → length (step_bytes t) ≤ 29
 unfolding step_bytes lists_bytes
-step-few {n} (allSlice Ss) hn hr r e = omega (arith, counts-few n Ss hn e)
-step-few {n} (allGather Gs) hn hr r e = omega (arith, counts-few n Gs hn e)
+step-few {n} (all_slice Ss) hn hr r e = omega (arith, counts-few n Ss hn e)
+step-few {n} (all_gather Gs) hn hr r e = omega (arith, counts-few n Gs hn e)
 step-few {n} (all_reduce L) hn hr r e = omega (arith, counts-few n (L ∷ []) hn e, length-append L [])
 step-few {n} (all_to_all source target L) hn hr r e = omega (arith, counts-few n (L ∷ []) hn e, length-append L [])
 step-few {n} (reduce_scatter Ss) hn hr r e = omega (arith, counts-few n Ss hn e)
@@ -166,12 +220,12 @@ module _ (mesh sizes : List ℕ) where
       let U : List ℕ = flat s.dims ++ s.replicated in
       rw (T→true (increasing_from 0 L) i, T→true (none_in L U) (off-none_in L U off))
 
-  gather-passes : (Gs : List (List ℕ)) (s : Sharding) (k : ℕ) → T (both is_tail s.dims Gs) → judge_kind mesh sizes k (allGather Gs) s ≡ accept (after (allGather Gs) s)
+  gather-passes : (Gs : List (List ℕ)) (s : Sharding) (k : ℕ) → T (both is_tail s.dims Gs) → judge_kind mesh sizes k (all_gather Gs) s ≡ accept (after (all_gather Gs) s)
   unfolding judge_kind gather_off after
   gather-passes Gs s k t = rw (T→true (both is_tail s.dims Gs) t)
 
   slice_passes : (Ss : List (List ℕ)) (s : Sharding) (k : ℕ) → T (fresh (named s) (flat Ss)) → T (divisible mesh (shard_sizes mesh sizes s.dims) Ss)
-      → judge_kind mesh sizes k (allSlice Ss) s ≡ accept (after (allSlice Ss) s)
+      → judge_kind mesh sizes k (all_slice Ss) s ≡ accept (after (all_slice Ss) s)
   unfolding judge_kind slice_on after
   slice_passes Ss s k f d = rw (T→true (fresh (named s) (flat Ss)) f, T→true (divisible mesh (shard_sizes mesh sizes s.dims) Ss) d)
 
@@ -230,11 +284,11 @@ module _ (mesh sizes : List ℕ) (pos : (a : ℕ) → 0 < get_or mesh a 1) (s g 
   unfolding after reduced to_reduce
   after-reduce = ap (λ (u : List ℕ). record { dims = s.dims; unreduced = u; replicated = s.replicated }) (without-without s.unreduced g.unreduced hs.increasing hg.increasing sub)
 
-  after-gather : after (allGather (to_gather s g)) reduced_to ≡ gathered_to
+  after-gather : after (all_gather (to_gather s g)) reduced_to ≡ gathered_to
   unfolding after gathered to_gather
   after-gather = ap (λ (d : List (List ℕ)). record { dims = d; unreduced = g.unreduced; replicated = s.replicated }) (cut-rest s.dims g.dims)
 
-  after-slice : after (allSlice (to_slice s g)) gathered_to ≡ g
+  after-slice : after (all_slice (to_slice s g)) gathered_to ≡ g
   unfolding after sliced to_slice
   after-slice = λ i. record { dims = join-rest s.dims g.dims ranks i; unreduced = g.unreduced; replicated = kept i }
 
@@ -250,13 +304,13 @@ module _ (mesh sizes : List ℕ) (pos : (a : ℕ) → 0 < get_or mesh a 1) (s g 
       (λ a i j. ⊎_elim (λ d. (distinct-split (flat s.dims) s.unreduced v.once).2 a d (u a i)) (v.off a (in_right a (flat s.dims) s.unreduced (u a i)))
       (in-append a (flat s.dims) s.replicated j)))
 
-  gather-step : T (some (flat (to_gather s g))) → (k : ℕ) → judge_step mesh sizes k (allGather (to_gather s g)) reduced_to ≡ accept (after (allGather (to_gather s g)) reduced_to)
+  gather-step : T (some (flat (to_gather s g))) → (k : ℕ) → judge_step mesh sizes k (all_gather (to_gather s g)) reduced_to ≡ accept (after (all_gather (to_gather s g)) reduced_to)
   unfolding to_gather
   gather-step n k =
-      passes mesh sizes (allGather (to_gather s g)) reduced_to k n (λ a i. hs.is.of_mesh a (in_left a (varying s) s.replicated (in_left a (flat s.dims) s.unreduced (rest-in-start a s.dims g.dims i))))
+      passes mesh sizes (all_gather (to_gather s g)) reduced_to k n (λ a i. hs.is.of_mesh a (in_left a (varying s) s.replicated (in_left a (flat s.dims) s.unreduced (rest-in-start a s.dims g.dims i))))
       (gather-passes mesh sizes (to_gather s g) reduced_to k (tails-rest s.dims g.dims ranks))
 
-  slice-step : T (some (flat (to_slice s g))) → (k : ℕ) → judge_step mesh sizes k (allSlice (to_slice s g)) gathered_to ≡ accept (after (allSlice (to_slice s g)) gathered_to)
+  slice-step : T (some (flat (to_slice s g))) → (k : ℕ) → judge_step mesh sizes k (all_slice (to_slice s g)) gathered_to ≡ accept (after (all_slice (to_slice s g)) gathered_to)
   unfolding to_slice
   slice-step n k =
       let cs : List (List ℕ) = each shared s.dims g.dims in
@@ -279,7 +333,7 @@ module _ (mesh sizes : List ℕ) (pos : (a : ℕ) → 0 < get_or mesh a 1) (s g 
       let c : Cut mesh Ss (grown mesh Ss old) old × Cut mesh cs sizes (grown mesh Ss old) =
       cut-grown mesh cs Ss l (subst (λ (z : List (List ℕ)). Cut mesh z sizes old) (sym j) (cut-divisible mesh sizes g.dims hg.is.divides)) in
       let d : T (divisible mesh (shard_sizes mesh sizes cs) Ss) = subst (λ (z : List ℕ). T (divisible mesh z Ss)) (cut-is mesh pos c.1).1 (cut-is mesh pos c.0).0 in
-      passes mesh sizes (allSlice Ss) gathered_to k n (λ a i. hg.is.of_mesh a (in_left a (varying g) g.replicated (in_left a (flat g.dims) g.unreduced (inG a i))))
+      passes mesh sizes (all_slice Ss) gathered_to k n (λ a i. hg.is.of_mesh a (in_left a (varying g) g.replicated (in_left a (flat g.dims) g.unreduced (inG a i))))
       (slice_passes mesh sizes Ss gathered_to k (distinct-fresh (named gathered_to) (flat Ss) q.right off) d)
 
   reduce-none : to_reduce s g ≡ [] → reduced_to ≡ s
@@ -307,8 +361,8 @@ module _ (mesh sizes : List ℕ) (pos : (a : ℕ) → 0 < get_or mesh a 1) (s g 
   unfolding plan_steps
   plan-goes =
       naming (all_reduce (to_reduce s g)) _ s reduced_to after-reduce tt reduced-counts reduce-step reduce-none
-      (naming (allGather (to_gather s g)) _ reduced_to gathered_to after-gather gather-ranked gathered-counts gather-step gather_none
-      (naming (allSlice (to_slice s g)) [] gathered_to g after-slice slice-ranked sliced-counts slice-step slice-none (goes_none mesh sizes g)))
+      (naming (all_gather (to_gather s g)) _ reduced_to gathered_to after-gather gather-ranked gathered-counts gather-step gather_none
+      (naming (all_slice (to_slice s g)) [] gathered_to g after-slice slice-ranked sliced-counts slice-step slice-none (goes_none mesh sizes g)))
     where
       gather-ranked : length (to_gather s g) ≡ length sizes
       gather-ranked = unfold to_gather in (length-each rest_of_start s.dims g.dims ranks ∙ sym (both-length _ sizes g.dims hg.is.divides))
@@ -343,5 +397,5 @@ pub plan-few : (s g : Sharding) → length (plan_steps s g) ≤ 3
 unfolding plan_steps
 plan-few s g =
     let none : length {A = Step} [] ≤ 0 = omega arith in
-    naming-few (all_reduce (to_reduce s g)) (if_naming (allGather (to_gather s g)) (if_naming (allSlice (to_slice s g)) [])) 2
-    (naming-few (allGather (to_gather s g)) (if_naming (allSlice (to_slice s g)) []) 1 (naming-few (allSlice (to_slice s g)) [] 0 none))
+    naming-few (all_reduce (to_reduce s g)) (if_naming (all_gather (to_gather s g)) (if_naming (all_slice (to_slice s g)) [])) 2
+    (naming-few (all_gather (to_gather s g)) (if_naming (all_slice (to_slice s g)) []) 1 (naming-few (all_slice (to_slice s g)) [] 0 none))

@@ -11,9 +11,15 @@ use lib.Dec.{T, T_not, ltb, leb, eqb, ltb→lt, nltb→le, leb→le, eqb→eq, e
 use Rattle.rules.specs.Lists.{tab, pick}
 use Rattle.rules.specs.Mesh.{span, devices, plain_order}
 use Rattle.rules.specs.Sharding.{divisible, Sharding, shard_sizes, IsSharding}
-use Rattle.rules.specs.Collectives.{Step, allSlice, allGather, all_reduce, all_to_all, reduce_scatter, after}
+<<<<<<< HEAD
+use Rattle.rules.specs.Collectives.{Step, all_slice, all_gather, all_reduce, all_to_all, reduce_scatter, after}
 use Rattle.rules.specs.Limits.{present, most_bytes, least_bytes, most_devices, most_words, most_depth, every_kind}
 use Rattle.rules.specs.Refusals.{accept}
+=======
+use Rattle.rules.specs.Collectives.{Step, all_slice, all_gather, all_reduce, all_to_all, reduce_scatter, after}
+use Rattle.rules.specs.Limits.{present, most_bytes, least_bytes, most_steps, most_devices, most_words, most_depth, every_kind}
+use Rattle.rules.specs.Refusals.{Judged, accept, ◌>>=◌, ◌>>◌}
+>>>>>>> d08089a3 (Names declared several on a line, or at a level, and those of the crate given, in today's spelling)
 use Rattle.rules.specs.PlanFile.{
   Read,
   u16_at,
@@ -61,7 +67,7 @@ use Rattle.rules.specs.PlanFile.{
   judge_by,
 }
 use Rattle.laws.specs.Demands.{one_pass}
-use Rattle.laws.proofs.Lists.{T?, T_and, n_t→false, T→true, length-tab, getD-tab, both-length, length-each}
+use Rattle.laws.proofs.Lists.{T?, T_and, n_t→false, T→true, length-tab, get_or-tab, both-length, length-each}
 use Rattle.laws.proofs.Judging.{accept-inj, need-inv, then-inv, bind_inv}
 use Rattle.laws.proofs.Steps.{AcceptedStep, after-sharding}
 use Rattle.laws.proofs.Turns.{Fine}
@@ -126,8 +132,8 @@ module _ (mesh sizes : List ℕ) (pos : (a : ℕ) → 0 < get_or mesh a 1) where
       sym (both-length _ (shard_sizes mesh sizes s.dims) Ss d) ∙ length-each (λ n d. n / span mesh d) sizes s.dims (rank_is s h) ∙ sym (rank_is s h)
 
   step-ranked : (t : Step) (s : Sharding) → IsSharding mesh sizes s → AcceptedStep mesh sizes t s → RankedStep (length sizes) t
-  step-ranked (allSlice Ss) s h f = slices-ranked Ss s h f.by_kind.divides
-  step-ranked (allGather Gs) s h f = sym (both-length is_tail s.dims Gs f.by_kind.tailed) ∙ sym (rank_is s h)
+  step-ranked (all_slice Ss) s h f = slices-ranked Ss s h f.by_kind.divides
+  step-ranked (all_gather Gs) s h f = sym (both-length is_tail s.dims Gs f.by_kind.tailed) ∙ sym (rank_is s h)
   step-ranked (all_reduce L) s h f = tt
   step-ranked (all_to_all source target L) s h f = tt
   step-ranked (reduce_scatter Ss) s h f = slices-ranked Ss s h f.by_kind.divides
@@ -148,7 +154,7 @@ module _ (file : List ℕ) (bytes : Bytes file) where
   numbers-short : (count : ℕ) (at : ℕ → ℕ) → Shorts (tab count (λ i. u16_at file (at i)))
   numbers-short count at i =
       let f : ℕ → ℕ = λ j. u16_at file (at j) in
-      ⊎_elim (λ t. subst (λ z. z < 65536) (sym (getD-tab count i f 0 (ltb→lt i count t))) (number_short (at i)))
+      ⊎_elim (λ t. subst (λ z. z < 65536) (sym (get_or-tab count i f 0 (ltb→lt i count t))) (number_short (at i)))
       (λ t. subst (λ z. z < 65536) (sym (get_or-eq_default (tab count f) 0 (subst (λ z. z ≤ i) (sym (length-tab count f)) (nltb→le i count t)))) (lit< tt))
       (T? (ltb i count))
 

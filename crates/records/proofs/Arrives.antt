@@ -12,9 +12,15 @@ use Rattle.rules.specs.Lists.{pick, in_turn, product}
 use Rattle.rules.specs.Mesh.{devices}
 use Rattle.rules.specs.Sharding.{Sharding, shard_sizes}
 use Rattle.rules.specs.Spread.{Faithful, add_words, held_by}
-use Rattle.rules.specs.Collectives.{Step, allSlice, allGather, all_reduce, step_axes, after}
+<<<<<<< HEAD
+use Rattle.rules.specs.Collectives.{Step, all_slice, all_gather, all_reduce, step_axes, after}
 use Rattle.rules.specs.Limits.{most_axes, most_dims, every_kind, most_devices, most_words, most_steps}
 use Rattle.rules.specs.Refusals.{accept}
+=======
+use Rattle.rules.specs.Collectives.{Step, all_slice, all_gather, all_reduce, step_axes, after}
+use Rattle.rules.specs.Limits.{most_axes, most_dims, every_kind, most_devices, most_words, most_steps, most_bytes, most_run}
+use Rattle.rules.specs.Refusals.{Judged, accept, ◌>>=◌, ◌>>◌}
+>>>>>>> d08089a3 (Names declared several on a line, or at a level, and those of the crate given, in today's spelling)
 use Rattle.rules.specs.PlanFile.{axes_allowed, rank_allowed, judge_sizes, same, some, all_in, plain, outermost_at, Plan, judge, announced, announced_shape}
 use Rattle.rules.specs.Factor.{step_factor, factor_of, factor_after}
 use Rattle.rules.specs.Calls.{shards_after, run_of}
@@ -48,7 +54,7 @@ plan-one : (mesh : List ℕ) (s g : Sharding) → factor_of mesh (plan_steps s g
 unfolding plan_steps to_reduce
 plan-one mesh s g =
     naming (all_reduce (to_reduce s g)) _ s (step-one mesh (all_reduce (to_reduce s g)) s (λ a i. of-without a g.unreduced s.unreduced i))
-    (λ x. naming (allGather (to_gather s g)) _ x refl (λ y. naming (allSlice (to_slice s g)) [] y refl (λ z. refl)))
+    (λ x. naming (all_gather (to_gather s g)) _ x refl (λ y. naming (all_slice (to_slice s g)) [] y refl (λ z. refl)))
   where
     naming : (t : Step) (ts : List Step) (x : Sharding) → step_factor mesh t x ≡ 1 → ((y : Sharding) → factor_of mesh ts y ≡ 1) → factor_of mesh (if_naming t ts) x ≡ 1
     naming t ts x e h = go (some (step_axes t))

@@ -7,7 +7,7 @@ use native.Mathlib.Omega.{arith}
 use lib.ListN.{length, get_or}
 use lib.Dec.{T, ltb, leb, ltb→lt, eqb→eq}
 use Rattle.rules.specs.Sharding.{Sharding}
-use Rattle.rules.specs.Collectives.{Step, allSlice, allGather, all_reduce, all_to_all, reduce_scatter}
+use Rattle.rules.specs.Collectives.{Step, all_slice, all_gather, all_reduce, all_to_all, reduce_scatter}
 use Rattle.rules.specs.Limits.{most_run, most_depth}
 use Rattle.rules.specs.Refusals.{accept}
 use Rattle.rules.specs.PlanFile.{Read, kind_of, lists_of, step_at, judge_step, Record, plain, repeat, kind_byte, StepsRead, JudgesStep, JudgesSteps, steps_at, plain_at, repeat_at, is_repeat, item_with, too_deep, item_at, Outermost, outermost_at, Unknown}
@@ -22,8 +22,8 @@ use Rattle.records.proofs.Lists.{read, step_lists, step_from}
 -- the first byte of a plain step is the kind of one
 pub kind-first : (t : Step) → (rest : List ℕ) × (step_bytes t ≡ kind_byte (plain t) ∷ rest) × (kind_byte (plain t) < 9)
 unfolding step_bytes
-kind-first (allSlice Ss) = (_, refl, omega arith)
-kind-first (allGather Gs) = (_, refl, omega arith)
+kind-first (all_slice Ss) = (_, refl, omega arith)
+kind-first (all_gather Gs) = (_, refl, omega arith)
 kind-first (all_reduce L) = (_, refl, omega arith)
 kind-first (all_to_all source target L) = (_, refl, omega arith)
 kind-first (reduce_scatter Ss) = (_, refl, omega arith)

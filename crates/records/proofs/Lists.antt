@@ -7,7 +7,7 @@ use native.Mathlib.Omega.{arith}
 use native.Mathlib.Nat.{add_assoc}
 use lib.ListN.{length, length-append}
 use lib.Dec.{T, ltb, leb, eqb, le→leb, lt→ltb, eqb_refl}
-use Rattle.rules.specs.Collectives.{Step, allSlice, allGather, all_reduce, all_to_all, reduce_scatter}
+use Rattle.rules.specs.Collectives.{Step, all_slice, all_gather, all_reduce, all_to_all, reduce_scatter}
 use Rattle.rules.specs.Refusals.{Judged, accept, refuse, ◌>>=◌, ◌>>◌, need}
 use Rattle.rules.specs.PlanFile.{Read, list_read_at, lists_at, lists_of, step_at}
 use Rattle.laws.proofs.Lists.{T→true}
@@ -79,8 +79,8 @@ module _ (n : ℕ) (file : List ℕ) where
 
 -- the lists of a step, in file order
 abbrev pub step_lists : Step → List (List ℕ)
-step_lists (allSlice Ss) = Ss
-step_lists (allGather Gs) = Gs
+step_lists (all_slice Ss) = Ss
+step_lists (all_gather Gs) = Gs
 step_lists (all_reduce L) = L ∷ []
 step_lists (all_to_all source target L) = L ∷ []
 step_lists (reduce_scatter Ss) = Ss
@@ -89,12 +89,12 @@ module _ (n rank k : ℕ) (file : List ℕ) where
   pub step_from : (at : ℕ) (t : Step) (rest : List ℕ) → RankedStep rank t → From at file (step_bytes t ++ rest)
       → step_at n rank k file at ≡ ◌>>◌ (judge_counts n (step_lists t)) (accept (read t (at + length (step_bytes t))))
   unfolding step_at lists_of step_bytes judge_counts
-  step_from at (allSlice Ss) rest e f =
+  step_from at (all_slice Ss) rest e f =
       let b : List ℕ = lists_bytes Ss in
       let g : From (at + 1) file (b ++ rest) = from-rest at file 1 (b ++ rest) f in
       let next : at + 1 + length b ≡ at + suc (length b) = omega arith in
       rw (is_lt at (length file) (from-lt at file 1 (b ++ rest) f), from_byte at file 1 (b ++ rest) f, ← e, lists-from n file (at + 1) Ss rest g, then-bind, next)
-  step_from at (allGather Gs) rest e f =
+  step_from at (all_gather Gs) rest e f =
       let b : List ℕ = lists_bytes Gs in
       let g : From (at + 1) file (b ++ rest) = from-rest at file 2 (b ++ rest) f in
       let next : at + 1 + length b ≡ at + suc (length b) = omega arith in

@@ -11,7 +11,7 @@ use lib.ListN.{length, get_or, replicate, length-append}
 use lib.Dec.{ltb, leb, leb→le}
 use Rattle.rules.specs.Lists.{flat, both, pick}
 use Rattle.rules.specs.Sharding.{Sharding, named, divisible, shard_sizes}
-use Rattle.rules.specs.Collectives.{Step, allSlice, allGather, all_reduce, all_to_all, reduce_scatter, step_axes, only, sliced, gathered, reduced}
+use Rattle.rules.specs.Collectives.{Step, all_slice, all_gather, all_reduce, all_to_all, reduce_scatter, step_axes, only, sliced, gathered, reduced}
 use Rattle.rules.specs.Limits.{most_run, most_depth}
 use Rattle.rules.specs.Refusals.{Judged, accept, refuse, ◌>>=◌, ◌>>◌, need, need_at}
 use Rattle.rules.specs.PlanFile.{
@@ -150,8 +150,8 @@ module _ (mesh sizes : List ℕ) (k : ℕ) where
 
   kind-renumbered : (t : Step) (s : Sharding) → judge_kind mesh sizes k t s ≡ renumbered k (judge_kind mesh sizes 0 t s)
   unfolding judge_kind
-  kind-renumbered (allSlice Ss) s = tested (fresh (named s) (flat Ss)) 23 _ (slice_on mesh sizes 0 Ss s) (slice-renumbered Ss s)
-  kind-renumbered (allGather Gs) s = gather-renumbered Gs s
+  kind-renumbered (all_slice Ss) s = tested (fresh (named s) (flat Ss)) 23 _ (slice_on mesh sizes 0 Ss s) (slice-renumbered Ss s)
+  kind-renumbered (all_gather Gs) s = gather-renumbered Gs s
   kind-renumbered (all_reduce L) s =
       let free : Bool = none_in L (flat s.dims ++ s.replicated) in
       tested (increasing_from 0 L) 26 _ (◌>>◌ (need_at 0 free 27) (accept (reduced L s)))

@@ -12,10 +12,10 @@ use Rattle.rules.specs.Lists.{tab, flat, In}
 use Rattle.rules.specs.Sharding.{Sharding, varying, IsSharding}
 use Rattle.rules.specs.Refusals.{accept}
 use Rattle.rules.specs.Limits.{most_axes, most_dims, every_kind}
-use Rattle.rules.specs.Collectives.{allSlice, allGather, all_reduce, all_to_all, reduce_scatter}
+use Rattle.rules.specs.Collectives.{all_slice, all_gather, all_reduce, all_to_all, reduce_scatter}
 use Rattle.rules.specs.PlanFile.{Record, plain, repeat, step_count, outermost_at, judge_front, Plan, judge, judge_by}
 use Rattle.types.specs.Types.{list_from, lists_from, sharding_from}
-use Rattle.laws.proofs.Lists.{length-tab, getD-tab, in_left, in_right, at-flat, distinct-split, distinct-at, few-distinct}
+use Rattle.laws.proofs.Lists.{length-tab, get_or-tab, in_left, in_right, at-flat, distinct-split, distinct-at, few-distinct}
 use Rattle.laws.proofs.Judging.{accept-inj, need-inv, bind_inv}
 use Rattle.laws.proofs.Accepted.{AcceptedPlan, accepted, front-accepted}
 use Rattle.types.proofs.Types.{list-axes}
@@ -69,8 +69,8 @@ sharding-again rank s e few short = λ i. record {
 
 pub record-length : (g : Record) → length (record_of g) ≡ record_bytes
 unfolding record_of
-record-length (plain (allSlice Ss)) = refl
-record-length (plain (allGather Gs)) = refl
+record-length (plain (all_slice Ss)) = refl
+record-length (plain (all_gather Gs)) = refl
 record-length (plain (all_reduce L)) = refl
 record-length (plain (all_to_all source target L)) = refl
 record-length (plain (reduce_scatter Ss)) = refl
@@ -107,10 +107,10 @@ module _ (bytes : List ℕ) (at : ℕ) where
 module _ (rank : ℕ) (few : rank ≤ most_dims) where
   record-again : (g : Record) (rest : List ℕ) → Ranked rank (known g) → ShortGiven (known g) → given_at rank (record_of g ++ rest) 0 ≡ known g
   unfolding given_at record_of
-  record-again (plain (allSlice Ss)) rest r s =
-      ap (λ (ls : List (List ℕ)). known (plain (allSlice ls))) (unfold lists_from in dims-again rank Ss r few s)
-  record-again (plain (allGather Gs)) rest r s =
-      ap (λ (ls : List (List ℕ)). known (plain (allGather ls))) (unfold lists_from in dims-again rank Gs r few s)
+  record-again (plain (all_slice Ss)) rest r s =
+      ap (λ (ls : List (List ℕ)). known (plain (all_slice ls))) (unfold lists_from in dims-again rank Ss r few s)
+  record-again (plain (all_gather Gs)) rest r s =
+      ap (λ (ls : List (List ℕ)). known (plain (all_gather ls))) (unfold lists_from in dims-again rank Gs r few s)
   record-again (plain (all_reduce L)) rest r s = ap (λ (l : List ℕ). known (plain (all_reduce l))) (unfold list_from in list-again L s)
   record-again (plain (all_to_all source target L)) rest r s =
       ap (λ (l : List ℕ). known (plain (all_to_all source target l))) (unfold list_from in list-again L s)
@@ -155,7 +155,7 @@ module _ (rank : ℕ) (few : rank ≤ most_dims) where
       let many : length (tab n f) ≡ length (map known gs) = length-tab n f ∙ records-count gs ∙ sym (length-map gs known) in
       ext_get_or unknown (tab n f) (map known gs) many (λ i h.
       (let less : i < n = omega (arith, h, length-tab n f) in
-      getD-tab n i f unknown less ∙ record-from (records_bytes gs) (record_bytes * i) rank
+      get_or-tab n i f unknown less ∙ record-from (records_bytes gs) (record_bytes * i) rank
       ∙ ap (λ (l : List ℕ). given_at rank l 0) (records-drop gs i) ∙ entry-again gs i (omega (arith, less, records-count gs)) ranked short))
 
 -- ---- an accepted plan

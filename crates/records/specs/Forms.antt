@@ -4,7 +4,7 @@ use Rattle.std.specs.Prelude.{ℕ, ◌+◌, ◌*◌, ◌/◌, List, [], ◌∷�
 use Rattle.rules.specs.Lists.{tab, pick, flat}
 use Rattle.rules.specs.Limits.{most_axes}
 use Rattle.rules.specs.Sharding.{Sharding}
-use Rattle.rules.specs.Collectives.{allSlice, allGather, all_reduce, all_to_all, reduce_scatter}
+use Rattle.rules.specs.Collectives.{all_slice, all_gather, all_reduce, all_to_all, reduce_scatter}
 use Rattle.rules.specs.PlanFile.{kind_of, Record, plain, repeat}
 use Rattle.types.specs.Types.{axes_of, four_places, kind_from}
 use Rattle.types.specs.declared.Axis.{Axis}
@@ -56,8 +56,8 @@ step_record bytes at = record {
 }
 
 abbrev pub given_kind : Kind → (rank : ℕ) → Step → Given
-given_kind AllSlice rank t = known (plain (allSlice (dims_given rank t.lists)))
-given_kind AllGather rank t = known (plain (allGather (dims_given rank t.lists)))
+given_kind AllSlice rank t = known (plain (all_slice (dims_given rank t.lists)))
+given_kind AllGather rank t = known (plain (all_gather (dims_given rank t.lists)))
 given_kind AllReduce rank t = known (plain (all_reduce (list_given t.list)))
 given_kind AllToAll rank t = known (plain (all_to_all t.source.0 t.target.0 (list_given t.list)))
 given_kind ReduceScatter rank t = known (plain (reduce_scatter (dims_given rank t.lists)))
@@ -90,8 +90,8 @@ records_given mesh order sizes start steps = record {
 
 -- kind, source and target
 abbrev pub record_head : Record → List ℕ
-record_head (plain (allSlice Ss)) = 1 ∷ 0 ∷ 0 ∷ []
-record_head (plain (allGather Gs)) = 2 ∷ 0 ∷ 0 ∷ []
+record_head (plain (all_slice Ss)) = 1 ∷ 0 ∷ 0 ∷ []
+record_head (plain (all_gather Gs)) = 2 ∷ 0 ∷ 0 ∷ []
 record_head (plain (all_reduce L)) = 3 ∷ 0 ∷ 0 ∷ []
 record_head (plain (all_to_all source target L)) = 4 ∷ source ∷ target ∷ []
 record_head (plain (reduce_scatter Ss)) = 5 ∷ 0 ∷ 0 ∷ []
@@ -102,8 +102,8 @@ abbrev pub five_lists : List (List ℕ) → List ℕ → List (List ℕ)
 five_lists ls l = four_places [] ls ++ l ∷ []
 
 abbrev pub record_lists : Record → List (List ℕ)
-record_lists (plain (allSlice Ss)) = five_lists Ss []
-record_lists (plain (allGather Gs)) = five_lists Gs []
+record_lists (plain (all_slice Ss)) = five_lists Ss []
+record_lists (plain (all_gather Gs)) = five_lists Gs []
 record_lists (plain (all_reduce L)) = five_lists [] L
 record_lists (plain (all_to_all source target L)) = five_lists [] L
 record_lists (plain (reduce_scatter Ss)) = five_lists Ss []

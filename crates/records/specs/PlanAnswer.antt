@@ -1,7 +1,7 @@
 -- The planner's answer as the code has it: every place is fixed, and those that are not used hold no axes, no step. Assumes nothing.
 use Rattle.std.specs.Prelude.{ℕ, List, [], map, length, get_or}
 use Rattle.rules.specs.Lists.{tab}
-use Rattle.rules.specs.Collectives.{allSlice, allGather, all_reduce, all_to_all, reduce_scatter}
+use Rattle.rules.specs.Collectives.{all_slice, all_gather, all_reduce, all_to_all, reduce_scatter}
 use Rattle.rules.specs.Collectives as rules
 use Rattle.types.specs.Types.{list_from, lists_from}
 use Rattle.types.specs.declared.Kind.{Kind}
@@ -26,8 +26,8 @@ step_with kind source target lists list = record {
 }
 
 abbrev pub step_record_of : rules.Step → Step
-step_record_of (allSlice Ss) = step_with AllSlice 0 0 Ss []
-step_record_of (allGather Gs) = step_with AllGather 0 0 Gs []
+step_record_of (all_slice Ss) = step_with AllSlice 0 0 Ss []
+step_record_of (all_gather Gs) = step_with AllGather 0 0 Gs []
 step_record_of (all_reduce L) = step_with AllReduce 0 0 [] L
 step_record_of (all_to_all source target L) = step_with AllToAll source target [] L
 step_record_of (reduce_scatter Ss) = step_with ReduceScatter 0 0 Ss []

@@ -4,7 +4,7 @@ use Rattle.rules.specs.Lists.{pick, each, without}
 use Rattle.rules.specs.Mesh.{devices}
 use Rattle.rules.specs.Sharding.{Sharding, shard_sizes}
 use Rattle.rules.specs.Spread.{Faithful, add_words, held_by}
-use Rattle.rules.specs.Collectives.{Step, allSlice, allGather, all_reduce, step_axes}
+use Rattle.rules.specs.Collectives.{Step, all_slice, all_gather, all_reduce, step_axes}
 use Rattle.rules.specs.Limits.{most_devices, most_words}
 use Rattle.rules.specs.Refusals.{Judged, accept, ◌>>◌, need}
 use Rattle.rules.specs.PlanFile.{axes_allowed, rank_allowed, judge_sizes, same, some, all_in, plain, Plan, judge, announced}
@@ -47,7 +47,7 @@ if_naming t ts = pick (some (step_axes t)) (t ∷ ts) ts
 -- with the goal's, one all-slice of the goal's rest"
 unfoldable pub plan_steps : Sharding → Sharding → List Step
 unfolding to_reduce to_gather to_slice
-plan_steps s g = if_naming (all_reduce (to_reduce s g)) (if_naming (allGather (to_gather s g)) (if_naming (allSlice (to_slice s g)) []))
+plan_steps s g = if_naming (all_reduce (to_reduce s g)) (if_naming (all_gather (to_gather s g)) (if_naming (all_slice (to_slice s g)) []))
 
 -- 40: the goal has an unreduced axis that the start lacks, or another replicated list
 unfoldable pub reachable : (start goal : Sharding) → Judged (Unit {0})

@@ -3,7 +3,7 @@ use Rattle.std.specs.Prelude.{ℕ, zero, suc, ◌+◌, ◌*◌, ◌/◌, ◌%◌
 use Rattle.rules.specs.Lists.{pick}
 use Rattle.rules.specs.Mesh.{devices, plain_order}
 use Rattle.rules.specs.Sharding.{Sharding}
-use Rattle.rules.specs.Collectives.{Step, allSlice, allGather, all_reduce, all_to_all, reduce_scatter}
+use Rattle.rules.specs.Collectives.{Step, all_slice, all_gather, all_reduce, all_to_all, reduce_scatter}
 use Rattle.rules.specs.Limits.{least_bytes}
 use Rattle.rules.specs.PlanFile.{same, some, Record, plain, repeat, Plan}
 
@@ -80,8 +80,8 @@ sharding_bytes e s = lists_bytes s.dims ++ (list_bytes s.unreduced ++ replicated
 -- "A step is a kind byte and its lists"
 unfoldable pub step_bytes : Step → List ℕ
 unfolding lists_bytes
-step_bytes (allSlice Ss) = 1 ∷ lists_bytes Ss
-step_bytes (allGather Gs) = 2 ∷ lists_bytes Gs
+step_bytes (all_slice Ss) = 1 ∷ lists_bytes Ss
+step_bytes (all_gather Gs) = 2 ∷ lists_bytes Gs
 step_bytes (all_reduce L) = 3 ∷ list_bytes L
 step_bytes (all_to_all source target L) = 4 ∷ source ∷ target ∷ list_bytes L
 step_bytes (reduce_scatter Ss) = 5 ∷ lists_bytes Ss

@@ -3,7 +3,7 @@
 use Rattle.std.specs.Prelude.{ℕ, ◌≤◌, ◌<◌, ◌≡◌, List, [], ◌∷◌, length, get_or, T}
 use Rattle.rules.specs.Mesh.{devices}
 use Rattle.rules.specs.Sharding.{Sharding}
-use Rattle.rules.specs.Collectives.{Step, allSlice, allGather, all_reduce, all_to_all, reduce_scatter}
+use Rattle.rules.specs.Collectives.{Step, all_slice, all_gather, all_reduce, all_to_all, reduce_scatter}
 use Rattle.rules.specs.Limits.{most_axes, most_bytes}
 use Rattle.rules.specs.Refusals.{accept}
 use Rattle.rules.specs.PlanFile.{Record, plain, repeat, some, Plan, judge}
@@ -19,8 +19,8 @@ Bytes file = (j : ℕ) → get_or file j 0 < 256
 
 -- a list for each dimension
 abbrev pub RankedStep : ℕ → Step → Type 0
-RankedStep rank (allSlice Ss) = length Ss ≡ rank
-RankedStep rank (allGather Gs) = length Gs ≡ rank
+RankedStep rank (all_slice Ss) = length Ss ≡ rank
+RankedStep rank (all_gather Gs) = length Gs ≡ rank
 RankedStep rank (all_reduce L) = Unit {0}
 RankedStep rank (all_to_all source target L) = Unit {0}
 RankedStep rank (reduce_scatter Ss) = length Ss ≡ rank
@@ -44,8 +44,8 @@ pub record ShortSharding (s : Sharding) : Type 0 where
   pub replicated : length s.replicated ≤ most_axes
 
 abbrev pub ShortStep : Step → Type 0
-ShortStep (allSlice Ss) = ShortLists Ss
-ShortStep (allGather Gs) = ShortLists Gs
+ShortStep (all_slice Ss) = ShortLists Ss
+ShortStep (all_gather Gs) = ShortLists Gs
 ShortStep (all_reduce L) = length L ≤ most_axes
 ShortStep (all_to_all source target L) = length L ≤ most_axes
 ShortStep (reduce_scatter Ss) = ShortLists Ss

@@ -3,7 +3,7 @@
 use Rattle.std.specs.Prelude.{ℕ, zero, suc, ◌+◌, ◌<◌, ◌≡◌, refl, List, [], ◌∷◌, ◌++◌, map, length, take, replicate}
 use Rattle.rules.specs.Lists.{flat, All, done, ◌&◌}
 use Rattle.rules.specs.Sharding.{Sharding}
-use Rattle.rules.specs.Collectives.{Step, allSlice, allGather, all_reduce, all_to_all, reduce_scatter}
+use Rattle.rules.specs.Collectives.{Step, all_slice, all_gather, all_reduce, all_to_all, reduce_scatter}
 use Rattle.rules.specs.Refusals.{Judged, accept, refuse}
 use Rattle.rules.specs.PlanFile.{plain, repeat, Plan}
 use Rattle.rules.specs.Ledger.{w1, nines}
@@ -71,7 +71,7 @@ times count number = known (repeat count number)
 
 -- W1
 abbrev pub first : Records
-first = records_for (2 ∷ 2 ∷ []) [] (4 ∷ 4 ∷ []) (sharding ((0 ∷ []) ∷ (1 ∷ []) ∷ []) [] []) (step (allGather ([] ∷ (1 ∷ []) ∷ [])) ∷ [])
+first = records_for (2 ∷ 2 ∷ []) [] (4 ∷ 4 ∷ []) (sharding ((0 ∷ []) ∷ (1 ∷ []) ∷ []) [] []) (step (all_gather ([] ∷ (1 ∷ []) ∷ [])) ∷ [])
 
 -- mesh 2x2, table 4x3, with the lists of dimension 0, of unreduced and of replicated axes, and steps; with steps alone; with the lists alone
 abbrev pub small : (dim unreduced replicated : List ℕ) → List Given → Records
@@ -89,10 +89,10 @@ on mesh order sizes = records_for mesh order sizes (sharding (map (λ (n : ℕ).
 
 -- slice and gather of dimension 0 along axis 0, and both in turn, so many times
 abbrev pub slice : Given
-slice = step (allSlice ((0 ∷ []) ∷ [] ∷ []))
+slice = step (all_slice ((0 ∷ []) ∷ [] ∷ []))
 
 abbrev pub gather : Given
-gather = step (allGather ((0 ∷ []) ∷ [] ∷ []))
+gather = step (all_gather ((0 ∷ []) ∷ [] ∷ []))
 
 abbrev pub swings : ℕ → List Given
 swings n = flat (replicate n (slice ∷ gather ∷ []))
@@ -139,9 +139,9 @@ writes =
     -- "Step kind 9 is a repeat: a count byte .., a byte with the number of inner steps, then those steps": a block in a block in a block. "State numbers
     -- and the header's step count still count outermost steps."
     ∷ writes_as (records_for (2 ∷ 1 ∷ 2 ∷ []) [] (8 ∷ []) (sharding ((0 ∷ 2 ∷ 1 ∷ []) ∷ []) [] []) (
-    step (allGather ((0 ∷ 2 ∷ 1 ∷ []) ∷ []))
-    ∷ times 3 3 ∷ times 1 1 ∷ times 3 2 ∷ step (allSlice ((0 ∷ 1 ∷ 2 ∷ []) ∷ [])) ∷ step (allGather ((0 ∷ 1 ∷ 2 ∷ []) ∷ []))
-    ∷ step (allSlice ((2 ∷ 0 ∷ []) ∷ [])) ∷ step (allGather ((2 ∷ 0 ∷ []) ∷ [])) ∷ []
+    step (all_gather ((0 ∷ 2 ∷ 1 ∷ []) ∷ []))
+    ∷ times 3 3 ∷ times 1 1 ∷ times 3 2 ∷ step (all_slice ((0 ∷ 1 ∷ 2 ∷ []) ∷ [])) ∷ step (all_gather ((0 ∷ 1 ∷ 2 ∷ []) ∷ []))
+    ∷ step (all_slice ((2 ∷ 0 ∷ []) ∷ [])) ∷ step (all_gather ((2 ∷ 0 ∷ []) ∷ [])) ∷ []
     )) (
     0x01 ∷ 0 ∷ 0x03 ∷ 0 ∷ 0x01 ∷ 0 ∷ 0x02 ∷ 0 ∷ 0x12 ∷ 0 ∷ 0x18 ∷ 0 ∷ 0x1a ∷ 0 ∷ 0x1f ∷ 0 ∷ 0x3f ∷ 0 ∷ 2 ∷ 0 ∷ 1 ∷ 0 ∷ 2 ∷ 0 ∷ 8 ∷ 0
     ∷ 3 ∷ 0 ∷ 2 ∷ 1 ∷ 0 ∷ 2 ∷ 3 ∷ 0 ∷ 2 ∷ 1 ∷ 9 ∷ 3 ∷ 3 ∷ 9 ∷ 1 ∷ 1 ∷ 9 ∷ 3 ∷ 2 ∷ 1 ∷ 3 ∷ 0 ∷ 1 ∷ 2 ∷ 2 ∷ 3 ∷ 0 ∷ 1 ∷ 2
@@ -219,17 +219,17 @@ refusals =
     ∷ refused (whole (unknown ∷ [])) 20 1
     ∷ refused (whole (slice ∷ unknown ∷ [])) 20 2
     ∷ refused (whole (step (all_reduce (7 ∷ 7 ∷ 7 ∷ [])) ∷ [])) 8 0
-    ∷ refused (whole (step (allSlice ([] ∷ (0 ∷ 1 ∷ 0 ∷ []) ∷ [])) ∷ [])) 8 0
+    ∷ refused (whole (step (all_slice ([] ∷ (0 ∷ 1 ∷ 0 ∷ []) ∷ [])) ∷ [])) 8 0
     ∷ refused (whole (step (all_to_all 0 1 (0 ∷ 1 ∷ 0 ∷ [])) ∷ [])) 8 0
-    ∷ refused (whole (step (allSlice ([] ∷ [] ∷ [])) ∷ [])) 21 1
+    ∷ refused (whole (step (all_slice ([] ∷ [] ∷ [])) ∷ [])) 21 1
     ∷ refused (whole (slice ∷ step (all_reduce []) ∷ [])) 21 2
     ∷ refused (whole (step (all_to_all 0 0 (2 ∷ [])) ∷ [])) 22 1
     ∷ refused (whole (slice ∷ slice ∷ [])) 23 2
     ∷ refused (small [] (0 ∷ []) [] (slice ∷ [])) 23 1
     ∷ refused (small [] [] (0 ∷ []) (slice ∷ [])) 23 1
-    ∷ refused (small (1 ∷ 0 ∷ []) [] [] (step (allGather ((1 ∷ []) ∷ [] ∷ [])) ∷ [])) 24 1
+    ∷ refused (small (1 ∷ 0 ∷ []) [] [] (step (all_gather ((1 ∷ []) ∷ [] ∷ [])) ∷ [])) 24 1
     ∷ refused (small (0 ∷ []) [] [] (step (all_to_all 0 1 (1 ∷ [])) ∷ [])) 24 1
-    ∷ refused (whole (step (allSlice ([] ∷ (0 ∷ []) ∷ [])) ∷ [])) 25 1
+    ∷ refused (whole (step (all_slice ([] ∷ (0 ∷ []) ∷ [])) ∷ [])) 25 1
     ∷ refused (small (0 ∷ []) [] [] (step (all_to_all 0 1 (0 ∷ [])) ∷ [])) 25 1
     ∷ refused (whole (step (all_reduce (1 ∷ 0 ∷ [])) ∷ [])) 26 1
     ∷ refused (small (0 ∷ []) (1 ∷ []) [] (step (all_reduce (0 ∷ 1 ∷ [])) ∷ [])) 27 1
@@ -310,16 +310,16 @@ six_axes steps out w =
 abbrev pub forms : List Case
 forms =
     -- a record of each kind, in a table of two dimensions: its lists are the first two, or the fifth
-    given 2 (record_of 1 77 77 ((0 ∷ 1 ∷ []) ∷ [] ∷ (3 ∷ []) ∷ (4 ∷ []) ∷ (5 ∷ []) ∷ [])) (step (allSlice ((0 ∷ 1 ∷ []) ∷ [] ∷ [])) ∷ [])
+    given 2 (record_of 1 77 77 ((0 ∷ 1 ∷ []) ∷ [] ∷ (3 ∷ []) ∷ (4 ∷ []) ∷ (5 ∷ []) ∷ [])) (step (all_slice ((0 ∷ 1 ∷ []) ∷ [] ∷ [])) ∷ [])
     ∷ given 2 (record_of 2 77 77 ([] ∷ (5 ∷ 4 ∷ 3 ∷ 2 ∷ 1 ∷ 0 ∷ []) ∷ [] ∷ [] ∷ (5 ∷ []) ∷ [])) (
-    step (allGather ([] ∷ (5 ∷ 4 ∷ 3 ∷ 2 ∷ 1 ∷ 0 ∷ []) ∷ [])) ∷ []
+    step (all_gather ([] ∷ (5 ∷ 4 ∷ 3 ∷ 2 ∷ 1 ∷ 0 ∷ []) ∷ [])) ∷ []
     )
     ∷ given 2 (record_of 3 77 77 ((0 ∷ []) ∷ (1 ∷ []) ∷ (2 ∷ []) ∷ (3 ∷ []) ∷ (4 ∷ 5 ∷ []) ∷ [])) (step (all_reduce (4 ∷ 5 ∷ [])) ∷ [])
     ∷ given 2 (record_of 4 1 0 ((0 ∷ []) ∷ [] ∷ [] ∷ [] ∷ (4 ∷ 5 ∷ []) ∷ [])) (step (all_to_all 1 0 (4 ∷ 5 ∷ [])) ∷ [])
     ∷ given 2 (record_of 5 77 77 ((1 ∷ 0 ∷ []) ∷ [] ∷ (3 ∷ []) ∷ (4 ∷ []) ∷ (5 ∷ []) ∷ [])) (step (reduce_scatter ((1 ∷ 0 ∷ []) ∷ [] ∷ [])) ∷ [])
     ∷ given 2 (record_of 9 3 2 ((0 ∷ []) ∷ [] ∷ [] ∷ [] ∷ (4 ∷ 5 ∷ []) ∷ [])) (times 3 2 ∷ [])
     ∷ given 4 (record_of 1 0 0 ((0 ∷ []) ∷ (1 ∷ []) ∷ (2 ∷ []) ∷ (3 ∷ []) ∷ (4 ∷ []) ∷ [])) (
-    step (allSlice ((0 ∷ []) ∷ (1 ∷ []) ∷ (2 ∷ []) ∷ (3 ∷ []) ∷ [])) ∷ []
+    step (all_slice ((0 ∷ []) ∷ (1 ∷ []) ∷ (2 ∷ []) ∷ (3 ∷ []) ∷ [])) ∷ []
     )
     -- the kinds that there are: 1 to 5, and 9
     ∷ given 1 (record_of 0 0 0 (replicate 5 [])) (unknown ∷ [])
@@ -383,33 +383,33 @@ plannings =
     plans (sharding ((0 ∷ 1 ∷ []) ∷ [] ∷ (2 ∷ []) ∷ []) (3 ∷ []) (4 ∷ [])) (sharding ((0 ∷ 1 ∷ []) ∷ [] ∷ (2 ∷ []) ∷ []) (3 ∷ []) (4 ∷ [])) []
     -- one of each alone
     ∷ plans (sharding ([] ∷ [] ∷ [] ∷ []) (0 ∷ 1 ∷ 2 ∷ []) []) (sharding ([] ∷ [] ∷ [] ∷ []) (1 ∷ []) []) (all_reduce (0 ∷ 2 ∷ []) ∷ [])
-    ∷ plans (sharding ((0 ∷ 1 ∷ []) ∷ [] ∷ (2 ∷ []) ∷ []) [] []) (sharding ((0 ∷ []) ∷ [] ∷ [] ∷ []) [] []) (allGather ((1 ∷ []) ∷ [] ∷ (2 ∷ []) ∷ []) ∷ [])
-    ∷ plans (sharding ((0 ∷ []) ∷ [] ∷ [] ∷ []) [] []) (sharding ((0 ∷ 1 ∷ []) ∷ [] ∷ (2 ∷ []) ∷ []) [] []) (allSlice ((1 ∷ []) ∷ [] ∷ (2 ∷ []) ∷ []) ∷ [])
+    ∷ plans (sharding ((0 ∷ 1 ∷ []) ∷ [] ∷ (2 ∷ []) ∷ []) [] []) (sharding ((0 ∷ []) ∷ [] ∷ [] ∷ []) [] []) (all_gather ((1 ∷ []) ∷ [] ∷ (2 ∷ []) ∷ []) ∷ [])
+    ∷ plans (sharding ((0 ∷ []) ∷ [] ∷ [] ∷ []) [] []) (sharding ((0 ∷ 1 ∷ []) ∷ [] ∷ (2 ∷ []) ∷ []) [] []) (all_slice ((1 ∷ []) ∷ [] ∷ (2 ∷ []) ∷ []) ∷ [])
     -- an axis that goes from one dimension to another
     ∷ plans (sharding ((0 ∷ []) ∷ [] ∷ [] ∷ []) [] []) (sharding ([] ∷ (0 ∷ []) ∷ [] ∷ []) [] []) (
-    allGather ((0 ∷ []) ∷ [] ∷ [] ∷ []) ∷ allSlice ([] ∷ (0 ∷ []) ∷ [] ∷ []) ∷ []
+    all_gather ((0 ∷ []) ∷ [] ∷ [] ∷ []) ∷ all_slice ([] ∷ (0 ∷ []) ∷ [] ∷ []) ∷ []
     )
     -- one that goes from the unreduced axes into a dimension
     ∷ plans (sharding ([] ∷ [] ∷ [] ∷ []) (0 ∷ 1 ∷ []) []) (sharding ([] ∷ (0 ∷ []) ∷ [] ∷ []) (1 ∷ []) []) (
-    all_reduce (0 ∷ []) ∷ allSlice ([] ∷ (0 ∷ []) ∷ [] ∷ []) ∷ []
+    all_reduce (0 ∷ []) ∷ all_slice ([] ∷ (0 ∷ []) ∷ [] ∷ []) ∷ []
     )
     -- "one all-gather that cuts each dimension's list back to its longest common beginning with the goal's, one all-slice of the goal's rest": of two
     -- axes, of one, and of none, though the lists end alike; the same axes in another order; an axis before the common ones
     ∷ plans (sharding ((0 ∷ 1 ∷ 2 ∷ []) ∷ (3 ∷ []) ∷ (4 ∷ []) ∷ []) [] []) (sharding ((0 ∷ 1 ∷ []) ∷ (3 ∷ 4 ∷ []) ∷ (2 ∷ []) ∷ []) [] []) (
-    allGather ((2 ∷ []) ∷ [] ∷ (4 ∷ []) ∷ []) ∷ allSlice ([] ∷ (4 ∷ []) ∷ (2 ∷ []) ∷ []) ∷ []
+    all_gather ((2 ∷ []) ∷ [] ∷ (4 ∷ []) ∷ []) ∷ all_slice ([] ∷ (4 ∷ []) ∷ (2 ∷ []) ∷ []) ∷ []
     )
     ∷ plans (sharding ((0 ∷ 1 ∷ 2 ∷ []) ∷ [] ∷ [] ∷ []) [] []) (sharding ((0 ∷ 3 ∷ 2 ∷ []) ∷ [] ∷ [] ∷ []) [] []) (
-    allGather ((1 ∷ 2 ∷ []) ∷ [] ∷ [] ∷ []) ∷ allSlice ((3 ∷ 2 ∷ []) ∷ [] ∷ [] ∷ []) ∷ []
+    all_gather ((1 ∷ 2 ∷ []) ∷ [] ∷ [] ∷ []) ∷ all_slice ((3 ∷ 2 ∷ []) ∷ [] ∷ [] ∷ []) ∷ []
     )
     ∷ plans (sharding ((0 ∷ 1 ∷ []) ∷ [] ∷ [] ∷ []) [] []) (sharding ((1 ∷ 0 ∷ []) ∷ [] ∷ [] ∷ []) [] []) (
-    allGather ((0 ∷ 1 ∷ []) ∷ [] ∷ [] ∷ []) ∷ allSlice ((1 ∷ 0 ∷ []) ∷ [] ∷ [] ∷ []) ∷ []
+    all_gather ((0 ∷ 1 ∷ []) ∷ [] ∷ [] ∷ []) ∷ all_slice ((1 ∷ 0 ∷ []) ∷ [] ∷ [] ∷ []) ∷ []
     )
     ∷ plans (sharding ((0 ∷ []) ∷ [] ∷ [] ∷ []) [] []) (sharding ((1 ∷ 0 ∷ []) ∷ [] ∷ [] ∷ []) [] []) (
-    allGather ((0 ∷ []) ∷ [] ∷ [] ∷ []) ∷ allSlice ((1 ∷ 0 ∷ []) ∷ [] ∷ [] ∷ []) ∷ []
+    all_gather ((0 ∷ []) ∷ [] ∷ [] ∷ []) ∷ all_slice ((1 ∷ 0 ∷ []) ∷ [] ∷ [] ∷ []) ∷ []
     )
     -- all three steps, on a mesh with an order
     ∷ plans_on (2 ∷ 2 ∷ 2 ∷ []) (0 ∷ 2 ∷ 1 ∷ 3 ∷ 4 ∷ 5 ∷ 6 ∷ 7 ∷ []) (8 ∷ []) (sharding ((2 ∷ []) ∷ []) (0 ∷ 1 ∷ []) []) (sharding ((0 ∷ []) ∷ []) (1 ∷ []) [])
-    (all_reduce (0 ∷ []) ∷ allGather ((2 ∷ []) ∷ []) ∷ allSlice ((0 ∷ []) ∷ []) ∷ [])
+    (all_reduce (0 ∷ []) ∷ all_gather ((2 ∷ []) ∷ []) ∷ all_slice ((0 ∷ []) ∷ []) ∷ [])
     -- "a bad mesh (order as in the writer) or table gets 5, 10, 11, 19, 12, 13": each before the next
     ∷ no_plan [] [] [] (sharding [] [] []) (sharding [] [] []) 5
     ∷ no_plan (replicate 7 0) [] (4 ∷ []) (sharding ([] ∷ []) [] []) (sharding ([] ∷ []) [] []) 5

@@ -7,7 +7,7 @@ use mathlib.Core.List.{List, [], ◌∷◌, ◌++◌}
 use native.Mathlib.Omega.{arith}
 use Rattle.rules.specs.Lists.{pick, in_turn}
 use Rattle.rules.specs.Spread.{add_words}
-use Rattle.rules.specs.Collectives.{Step, allSlice, allGather, all_reduce, all_to_all, reduce_scatter, Shards, stepped, Stands, with_shards}
+use Rattle.rules.specs.Collectives.{Step, all_slice, all_gather, all_reduce, all_to_all, reduce_scatter, Shards, stepped, Stands, with_shards}
 use Rattle.types.specs.Types.{of_kind, step_of}
 use Rattle.types.specs.declared.Kind.{Kind}
 use Rattle.types.specs.declared.Kind.TheVariants.{AllSlice, AllGather, AllReduce, AllToAll, ReduceScatter, Unknown}
@@ -31,8 +31,8 @@ stays-in rank t = go t.kind
 
 -- a step that is done in place spends nothing besides
 stays-spends : (mesh : List ℕ) (t : Step) → stays_in t ≡ true → (v : Shards ℕ) (l : List ℕ) → spent_shards add_words mesh t v l ≡ l
-stays-spends mesh (allSlice Ss) e v l = refl
-stays-spends mesh (allGather Gs) e v l = refl
+stays-spends mesh (all_slice Ss) e v l = refl
+stays-spends mesh (all_gather Gs) e v l = refl
 stays-spends mesh (all_reduce L) e v l = refl
 stays-spends mesh (all_to_all source target L) e v l = refl
 stays-spends mesh (reduce_scatter Ss) e v l = let z : ◌≡◌ {A = ℕ} 0 1 = cc in absurd (omega arith)

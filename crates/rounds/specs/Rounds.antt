@@ -5,7 +5,7 @@ use Rattle.rules.specs.Lists.{pick, in_turn, product}
 use Rattle.rules.specs.Mesh.{devices, OnMesh}
 use Rattle.rules.specs.Sharding.{Sharding, shard_sizes}
 use Rattle.rules.specs.Spread.{add_words}
-use Rattle.rules.specs.Collectives.{Step, allSlice, allGather, all_reduce, all_to_all, reduce_scatter, Shards, stepped, Stands, with_shards}
+use Rattle.rules.specs.Collectives.{Step, all_slice, all_gather, all_reduce, all_to_all, reduce_scatter, Shards, stepped, Stands, with_shards}
 use Rattle.rules.specs.Limits.{most_dims, most_words, most_bytes, every_kind}
 use Rattle.rules.specs.Refusals.{Judged, accept}
 use Rattle.rules.specs.PlanFile.{Read, StepsRead, JudgesStep, steps_at, repeat_at, item_at}
@@ -71,8 +71,8 @@ put_in mesh v in_work m = record {
 
 -- whether the state stays in its buffer, of a step of the rules
 abbrev pub stays_in : Step → Bool
-stays_in (allSlice Ss) = false
-stays_in (allGather Gs) = false
+stays_in (all_slice Ss) = false
+stays_in (all_gather Gs) = false
 stays_in (all_reduce L) = true
 stays_in (all_to_all source target L) = false
 stays_in (reduce_scatter Ss) = false

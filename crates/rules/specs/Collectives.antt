@@ -10,15 +10,15 @@ use Rattle.rules.specs.Spread.{StateOf, tabulate, held, from}
 -- "All-slice has one axis list per dimension", "All-gather has one list per dimension", "All-reduce has one list", "All-to-all has a source
 -- dimension, another target dimension and one list." Document 02, Ask 5, of reduce-scatter: "with one list per dimension as in all-slice".
 pub data Step : Type 0 where
-  allSlice allGather : List (List ℕ) → Step
+  all_slice all_gather : List (List ℕ) → Step
   all_reduce : List ℕ → Step
   all_to_all : ℕ → ℕ → List ℕ → Step
   reduce_scatter : List (List ℕ) → Step
 
 -- the step's axes, in file order
 abbrev pub step_axes : Step → List ℕ
-step_axes (allSlice Ss) = flat Ss
-step_axes (allGather Gs) = flat Gs
+step_axes (all_slice Ss) = flat Ss
+step_axes (all_gather Gs) = flat Gs
 step_axes (all_reduce L) = L
 step_axes (all_to_all source target L) = L
 step_axes (reduce_scatter Ss) = flat Ss
@@ -49,8 +49,8 @@ reduced L s = record { dims = s.dims; unreduced = without s.unreduced L; replica
 -- joins the end of its dimension's list" (02, Ask 5).
 unfoldable pub after : Step → Sharding → Sharding
 unfolding sliced gathered reduced
-after (allSlice Ss) s = sliced Ss s
-after (allGather Gs) s = gathered Gs s
+after (all_slice Ss) s = sliced Ss s
+after (all_gather Gs) s = gathered Gs s
 after (all_reduce L) s = reduced L s
 after (all_to_all source target L) s = sliced (only (length s.dims) target L) (gathered (only (length s.dims) source L) s)
 after (reduce_scatter Ss) s = sliced Ss (reduced (flat Ss) s)
@@ -64,8 +64,8 @@ abbrev pub grown : List ℕ → List (List ℕ) → List ℕ → List ℕ
 grown mesh Gs shape = each (λ n G. span mesh G * n) shape Gs
 
 abbrev pub shape_after : List ℕ → Step → List ℕ → List ℕ
-shape_after mesh (allSlice Ss) shape = shard_sizes mesh shape Ss
-shape_after mesh (allGather Gs) shape = grown mesh Gs shape
+shape_after mesh (all_slice Ss) shape = shard_sizes mesh shape Ss
+shape_after mesh (all_gather Gs) shape = grown mesh Gs shape
 shape_after mesh (all_reduce L) shape = shape
 shape_after mesh (all_to_all source target L) shape =
     shard_sizes mesh (grown mesh (only (length shape) source L) shape) (only (length shape) target L)
@@ -73,8 +73,8 @@ shape_after mesh (reduce_scatter Ss) shape = shard_sizes mesh shape Ss
 
 -- "without remainder": of an all-slice and a reduce-scatter, the sizes that it is given; of an all-to-all, those that its gather leaves
 abbrev pub WithoutRemainder : List ℕ → Step → List ℕ → Type 0
-WithoutRemainder mesh (allSlice Ss) shape = T (divisible mesh shape Ss)
-WithoutRemainder mesh (allGather Gs) shape = Unit {0}
+WithoutRemainder mesh (all_slice Ss) shape = T (divisible mesh shape Ss)
+WithoutRemainder mesh (all_gather Gs) shape = Unit {0}
 WithoutRemainder mesh (all_reduce L) shape = Unit {0}
 WithoutRemainder mesh (all_to_all source target L) shape =
     T (divisible mesh (grown mesh (only (length shape) source L) shape) (only (length shape) target L))
@@ -129,8 +129,8 @@ and_then s m x i = s (m x i).device (m x i).index
 
 unfoldable pub sources : List ℕ → Step → List ℕ → Sources
 unfolding slice_place gather_place reduce_places ascending
-sources mesh (allSlice Ss) shape = single (slice_place mesh Ss shape)
-sources mesh (allGather Gs) shape = single (gather_place mesh Gs shape)
+sources mesh (all_slice Ss) shape = single (slice_place mesh Ss shape)
+sources mesh (all_gather Gs) shape = single (gather_place mesh Gs shape)
 sources mesh (all_reduce L) shape = reduce_places mesh L
 sources mesh (all_to_all source target L) shape =
     and_then (single (gather_place mesh (only (length shape) source L) shape))

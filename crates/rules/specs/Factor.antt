@@ -3,7 +3,7 @@ use Rattle.std.specs.Prelude.{ℕ, ◌*◌, ◌%◌, ◌^◌, List, [], ◌∷�
 use Rattle.rules.specs.Lists.{flat, without}
 use Rattle.rules.specs.Mesh.{span}
 use Rattle.rules.specs.Sharding.{Sharding, varying}
-use Rattle.rules.specs.Collectives.{Step, allSlice, allGather, all_reduce, all_to_all, reduce_scatter, after}
+use Rattle.rules.specs.Collectives.{Step, all_slice, all_gather, all_reduce, all_to_all, reduce_scatter, after}
 use Rattle.rules.specs.PlanFile.{Plan}
 
 -- "the starting table multiplied, modulo 2^32, by one factor"
@@ -12,8 +12,8 @@ scaled c table i = c * table i % 2 ^ 32
 
 -- the axes that a step reduces
 abbrev pub reduced_axes : Step → List ℕ
-reduced_axes (allSlice Ss) = []
-reduced_axes (allGather Gs) = []
+reduced_axes (all_slice Ss) = []
+reduced_axes (all_gather Gs) = []
 reduced_axes (all_reduce L) = L
 reduced_axes (all_to_all source target L) = []
 reduced_axes (reduce_scatter Ss) = flat Ss

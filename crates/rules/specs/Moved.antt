@@ -7,8 +7,8 @@ use Rattle.rules.specs.Sharding.{Sharding, shard_sizes}
 use Rattle.rules.specs.Spread.{tabulate}
 use Rattle.rules.specs.Collectives.{
   Step,
-  allSlice,
-  allGather,
+  all_slice,
+  all_gather,
   all_reduce,
   all_to_all,
   reduce_scatter,
@@ -61,8 +61,8 @@ words_moved p = added_on (moved_from p.mesh p.sizes) p.start p.steps
 -- "with g the group size along all axes of the step and m the shard before it: nothing for all-slice, D·m·(g-1) for all-gather and all-reduce,
 -- D·m·(g-1)/g for all-to-all and reduce-scatter"
 abbrev pub closed_form : Step → (D m g : ℕ) → ℕ
-closed_form (allSlice Ss) D m g = 0
-closed_form (allGather Gs) D m g = D * m * (g - 1)
+closed_form (all_slice Ss) D m g = 0
+closed_form (all_gather Gs) D m g = D * m * (g - 1)
 closed_form (all_reduce L) D m g = D * m * (g - 1)
 closed_form (all_to_all source target L) D m g = D * m * (g - 1) / g
 closed_form (reduce_scatter Ss) D m g = D * m * (g - 1) / g

@@ -5,7 +5,7 @@ use Rattle.std.specs.Prelude.{ℕ, zero, suc, ◌+◌, ◌-◌, ◌*◌, Bool, t
 use Rattle.rules.specs.Lists.{tab, both, flat, pick, in_turn, product, total, largest, mem}
 use Rattle.rules.specs.Mesh.{devices, plain_order}
 use Rattle.rules.specs.Sharding.{Sharding, varying, named, divisible, shard_sizes}
-use Rattle.rules.specs.Collectives.{Step, allSlice, allGather, all_reduce, all_to_all, reduce_scatter, step_axes, only, sliced, gathered, reduced, after}
+use Rattle.rules.specs.Collectives.{Step, all_slice, all_gather, all_reduce, all_to_all, reduce_scatter, step_axes, only, sliced, gathered, reduced, after}
 use Rattle.rules.specs.Limits.{most_axes, most_dims, most_steps, most_run, most_depth, least_bytes, Reader, present}
 use Rattle.rules.specs.Refusals.{Judged, accept, refuse, ◌>>=◌, ◌>>◌, need, need_at}
 
@@ -96,20 +96,20 @@ same (a ∷ L) (b ∷ M) = eqb a b && same L M
 -- ---- mesh and tensor sizes
 
 -- "each size in turn (zero, then running product)"
-unfoldable pub judge_sizes : (most ifZero ifOver running : ℕ) → List ℕ → Judged (Unit {0})
-judge_sizes most ifZero ifOver running [] = accept tt
-judge_sizes most ifZero ifOver running (n ∷ sizes) = do
-  need (ltb 0 n) ifZero
-  need (leb (running * n) most) ifOver
-  judge_sizes most ifZero ifOver (running * n) sizes
+unfoldable pub judge_sizes : (most on_zero on_over running : ℕ) → List ℕ → Judged (Unit {0})
+judge_sizes most on_zero on_over running [] = accept tt
+judge_sizes most on_zero on_over running (n ∷ sizes) = do
+  need (ltb 0 n) on_zero
+  need (leb (running * n) most) on_over
+  judge_sizes most on_zero on_over (running * n) sizes
 
 -- "At each section its offset (6), then its bytes. Mesh and tensor sections: 7 if they don't fit"
-unfoldable pub sizes_at : (most ifZero ifOver count offset : ℕ) → List ℕ → ℕ → Judged (Read (List ℕ))
+unfoldable pub sizes_at : (most on_zero on_over count offset : ℕ) → List ℕ → ℕ → Judged (Read (List ℕ))
 unfolding u16_at judge_sizes
-sizes_at most ifZero ifOver count offset file at = do
+sizes_at most on_zero on_over count offset file at = do
   need (eqb offset at) 6
   need (leb (at + 2 * count) (length file)) 7
-  judge_sizes most ifZero ifOver 1 (tab count (λ i. u16_at file (at + 2 * i)))
+  judge_sizes most on_zero on_over 1 (tab count (λ i. u16_at file (at + 2 * i)))
   accept (record { value = tab count (λ i. u16_at file (at + 2 * i)); next = at + 2 * count })
 
 -- ---- the order of the devices
@@ -251,10 +251,10 @@ unfoldable pub lists_of : (n rank k : ℕ) → List ℕ → ℕ → Kind → Jud
 unfolding lists_at list_read_at
 lists_of n rank k file at AllSlice = do
   ls ← lists_at n rank file at
-  accept (record { value = allSlice ls.value; next = ls.next })
+  accept (record { value = all_slice ls.value; next = ls.next })
 lists_of n rank k file at AllGather = do
   ls ← lists_at n rank file at
-  accept (record { value = allGather ls.value; next = ls.next })
+  accept (record { value = all_gather ls.value; next = ls.next })
 lists_of n rank k file at AllReduce = do
   l ← list_read_at n file at
   accept (record { value = all_reduce l.value; next = l.next })
@@ -321,10 +321,10 @@ slice_on mesh sizes k Ss s = do
 -- reduce-scatter: "Each axis must be named once in the step (23, tested over the whole step first) and be unreduced (27, in file order, then 25)."
 unfoldable pub judge_kind : (mesh sizes : List ℕ) → ℕ → Step → Sharding → Judged Sharding
 unfolding fresh gather_off slice_on increasing_from none_in all_in reduced
-judge_kind mesh sizes k (allSlice Ss) s = do
+judge_kind mesh sizes k (all_slice Ss) s = do
   need_at k (fresh (named s) (flat Ss)) 23
   slice_on mesh sizes k Ss s
-judge_kind mesh sizes k (allGather Gs) s = gather_off k Gs s
+judge_kind mesh sizes k (all_gather Gs) s = gather_off k Gs s
 judge_kind mesh sizes k (all_reduce L) s = do
   need_at k (increasing_from 0 L) 26
   need_at k (none_in L (flat s.dims ++ s.replicated)) 27
@@ -360,8 +360,8 @@ pub data Record : Type 0 where
 
 -- the kind byte of a record
 abbrev pub kind_byte : Record → ℕ
-kind_byte (plain (allSlice Ss)) = 1
-kind_byte (plain (allGather Gs)) = 2
+kind_byte (plain (all_slice Ss)) = 1
+kind_byte (plain (all_gather Gs)) = 2
 kind_byte (plain (all_reduce L)) = 3
 kind_byte (plain (all_to_all source target L)) = 4
 kind_byte (plain (reduce_scatter Ss)) = 5

@@ -2,7 +2,7 @@
 -- such plans after each of their steps. Assumes nothing.
 use Rattle.std.specs.Prelude.{ℕ, ◌+◌, ◌≡◌, refl, List, [], ◌∷◌, length}
 use Rattle.rules.specs.Lists.{tab, All, done, ◌&◌}
-use Rattle.rules.specs.Collectives.{allSlice, allGather, all_to_all}
+use Rattle.rules.specs.Collectives.{all_slice, all_gather, all_to_all}
 use Rattle.rules.specs.Refusals.{Judged, accept, refuse, ◌>>=◌}
 use Rattle.rules.specs.PlanFile.{judge, judge_by}
 use Rattle.rules.specs.Calls.{check_of, run_of}
@@ -112,7 +112,7 @@ pub record FactorsCounted : Type 0 where
   pub others : factors_of (on2x3 [] (slice_second ∷ reduce ∷ gather_second ∷ reduce_second ∷ [])) ≡ accept (1 ∷ 1 ∷ 2 ∷ 2 ∷ 6 ∷ [])
   pub scatter : factors_of (on2x3 (0 ∷ []) ((5 ∷ 1 ∷ 0 ∷ []) ∷ reduce_second ∷ [])) ≡ accept (1 ∷ 1 ∷ 3 ∷ [])
   pub block : factors_of (one_word (times 3 (reduce ∷ []) ∷ [])) ≡ accept (1 ∷ 2 ∷ 4 ∷ 8 ∷ [])
-  pub moves : (reduced_axes (allSlice ((0 ∷ []) ∷ [])) ≡ []) × (reduced_axes (allGather ((0 ∷ []) ∷ [])) ≡ []) × (reduced_axes (all_to_all 0 1 (0 ∷ [])) ≡ [])
+  pub moves : (reduced_axes (all_slice ((0 ∷ []) ∷ [])) ≡ []) × (reduced_axes (all_gather ((0 ∷ []) ∷ [])) ≡ []) × (reduced_axes (all_to_all 0 1 (0 ∷ [])) ≡ [])
   pub block_of_32 : ◌>>=◌ (judge (one_word (times 32 (reduce ∷ []) ∷ []))) (λ p. accept (factor_after p 32)) ≡ accept 4294967296
   -- a file that the judgement refuses has none
   pub none : factors_of (on2x3 [] (slice ∷ reduce ∷ [])) ≡ refuse 27 2

@@ -2,7 +2,7 @@
 -- of every file that passes. Assumes nothing.
 use Rattle.std.specs.Prelude.{ℕ, ◌≡◌, refl, List, [], ◌∷◌, map, replicate}
 use Rattle.rules.specs.Lists.{tab}
-use Rattle.rules.specs.Collectives.{Place, allSlice, allGather, all_reduce, all_to_all, reduce_scatter, sources}
+use Rattle.rules.specs.Collectives.{Place, all_slice, all_gather, all_reduce, all_to_all, reduce_scatter, sources}
 use Rattle.rules.specs.Refusals.{Judged, accept, ◌>>=◌}
 use Rattle.rules.specs.Calls.{check_of, run_of}
 use Rattle.rules.specs.Moved.{other_devices, moved_at, moved_by, charge_of, most_moved}
@@ -32,16 +32,16 @@ pub record MovesCounted : Type 0 where
   pub others : other_devices row (1 ∷ []) (words_of (0 ∷ 1 ∷ 2 ∷ [])) ≡ 2
   pub each_once : other_devices row (1 ∷ []) (words_of (2 ∷ 0 ∷ 1 ∷ 2 ∷ 2 ∷ [])) ≡ 2
   -- word by word, of device 1: all but its own part of what it gathers, and of what it gets in an all-to-all
-  pub word_by_word : tab 6 (λ j. moved_at row (allGather ((0 ∷ []) ∷ [])) (2 ∷ []) (1 ∷ []) (j ∷ [])) ≡ 1 ∷ 1 ∷ 0 ∷ 0 ∷ 1 ∷ 1 ∷ []
+  pub word_by_word : tab 6 (λ j. moved_at row (all_gather ((0 ∷ []) ∷ [])) (2 ∷ []) (1 ∷ []) (j ∷ [])) ≡ 1 ∷ 1 ∷ 0 ∷ 0 ∷ 1 ∷ 1 ∷ []
   pub word_by_word_to_all : tab 3 (λ j. moved_at row (all_to_all 0 1 (0 ∷ [])) (1 ∷ 3 ∷ []) (1 ∷ []) (j ∷ 0 ∷ [])) ≡ 1 ∷ 0 ∷ 1 ∷ []
   -- "nothing for all-slice"
-  pub slice : moved_by row (allSlice ((0 ∷ []) ∷ [])) (6 ∷ []) ≡ 0
+  pub slice : moved_by row (all_slice ((0 ∷ []) ∷ [])) (6 ∷ []) ≡ 0
   -- "D·m·(g-1) for all-gather": m is the shard before it, 2 words, not the 6 after it; along all axes of the step, one in each dimension; D is all devices,
   -- where only groups of two, or of three, are gathered
-  pub gather : moved_by row (allGather ((0 ∷ []) ∷ [])) (2 ∷ []) ≡ 12
-  pub gather_both : moved_by grid (allGather ((1 ∷ []) ∷ (0 ∷ []) ∷ [])) (1 ∷ 1 ∷ []) ≡ 30
-  pub gather_first : moved_by grid (allGather ((0 ∷ []) ∷ [])) (1 ∷ []) ≡ 6
-  pub gather_last : moved_by grid (allGather ((1 ∷ []) ∷ [])) (1 ∷ []) ≡ 12
+  pub gather : moved_by row (all_gather ((0 ∷ []) ∷ [])) (2 ∷ []) ≡ 12
+  pub gather_both : moved_by grid (all_gather ((1 ∷ []) ∷ (0 ∷ []) ∷ [])) (1 ∷ 1 ∷ []) ≡ 30
+  pub gather_first : moved_by grid (all_gather ((0 ∷ []) ∷ [])) (1 ∷ []) ≡ 6
+  pub gather_last : moved_by grid (all_gather ((1 ∷ []) ∷ [])) (1 ∷ []) ≡ 12
   -- "and all-reduce"
   pub reduce : moved_by row (all_reduce (0 ∷ [])) (2 ∷ []) ≡ 12
   pub reduce_last : moved_by grid (all_reduce (1 ∷ [])) (2 ∷ []) ≡ 24
@@ -51,10 +51,10 @@ pub record MovesCounted : Type 0 where
   pub scatter_row : moved_by row (reduce_scatter ((0 ∷ []) ∷ [])) (3 ∷ []) ≡ 6
   pub scatter_both_moves : moved_by grid (reduce_scatter ((1 ∷ []) ∷ (0 ∷ []) ∷ [])) (3 ∷ 2 ∷ []) ≡ 30
   -- an axis of size 1 makes groups of one device
-  pub alone : moved_by (1 ∷ 3 ∷ []) (allGather ((0 ∷ []) ∷ [])) (2 ∷ []) ≡ 0
+  pub alone : moved_by (1 ∷ 3 ∷ []) (all_gather ((0 ∷ []) ∷ [])) (2 ∷ []) ≡ 0
   -- the closed forms by themselves: g is the group's size, not D, and the product is divided as a whole
-  pub charged_slice : charge_of row (allSlice ((0 ∷ []) ∷ [])) (6 ∷ []) ≡ 0
-  pub charged_gather : charge_of grid (allGather ((1 ∷ []) ∷ [])) (1 ∷ []) ≡ 12
+  pub charged_slice : charge_of row (all_slice ((0 ∷ []) ∷ [])) (6 ∷ []) ≡ 0
+  pub charged_gather : charge_of grid (all_gather ((1 ∷ []) ∷ [])) (1 ∷ []) ≡ 12
   pub charged_to_all : charge_of grid (all_to_all 1 0 (1 ∷ [])) (6 ∷ 1 ∷ []) ≡ 24
   -- and at the limits: "1,023 times" 67,108,864, with 1,024 devices in one group and a table of 65,536 words
   pub charged : charge_of (1024 ∷ []) (all_reduce (0 ∷ [])) (256 ∷ 256 ∷ []) ≡ 68_652_367_872

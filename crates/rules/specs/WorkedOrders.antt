@@ -2,7 +2,7 @@
 -- the ledger; and what the reader of editions 1 and 2 answers. Assumes nothing.
 use Rattle.std.specs.Prelude.{ℕ, ◌+◌, ◌%◌, ◌≡◌, refl, List, [], ◌∷◌, ◌++◌, length, set, take}
 use Rattle.rules.specs.Lists.{tab, flat, All, done, ◌&◌}
-use Rattle.rules.specs.Collectives.{allSlice, allGather, all_reduce}
+use Rattle.rules.specs.Collectives.{all_slice, all_gather, all_reduce}
 use Rattle.rules.specs.Refusals.{accept, refuse}
 use Rattle.rules.specs.PlanFile.{plain, judge_by}
 use Rattle.rules.specs.Calls.{check_of, place_of, groups_ordered_of, groups_ordered_leave, run_of}
@@ -129,8 +129,8 @@ SecondEdition =
       order = 0 ∷ 1 ∷ 2 ∷ 3 ∷ [];
       sizes = 4 ∷ [];
       start = record { dims = [] ∷ []; unreduced = 0 ∷ []; replicated = 1 ∷ [] };
-      records = plain (all_reduce (0 ∷ [])) ∷ plain (allSlice ((0 ∷ []) ∷ [])) ∷ plain (allGather ((0 ∷ []) ∷ [])) ∷ [];
-      steps = all_reduce (0 ∷ []) ∷ allSlice ((0 ∷ []) ∷ []) ∷ allGather ((0 ∷ []) ∷ []) ∷ [];
+      records = plain (all_reduce (0 ∷ [])) ∷ plain (all_slice ((0 ∷ []) ∷ [])) ∷ plain (all_gather ((0 ∷ []) ∷ [])) ∷ [];
+      steps = all_reduce (0 ∷ []) ∷ all_slice ((0 ∷ []) ∷ []) ∷ all_gather ((0 ∷ []) ∷ []) ∷ [];
       runs = 1 ∷ 1 ∷ 1 ∷ [];
     }))
 

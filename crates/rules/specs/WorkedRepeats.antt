@@ -2,7 +2,7 @@
 -- limit, and what the reader just before repeats answers. Assumes nothing.
 use Rattle.std.specs.Prelude.{ℕ, zero, suc, ◌+◌, ◌≡◌, refl, true, false, List, [], ◌∷◌, ◌++◌, length, set, replicate}
 use Rattle.rules.specs.Lists.{tab, flat, All, done, ◌&◌}
-use Rattle.rules.specs.Collectives.{Step, allSlice, allGather}
+use Rattle.rules.specs.Collectives.{Step, all_slice, all_gather}
 use Rattle.rules.specs.Refusals.{Judged, accept, refuse, ◌>>=◌}
 use Rattle.rules.specs.PlanFile.{plain, repeat, same_sharding, repeat_at, judge, judge_by}
 use Rattle.rules.specs.Calls.{check_of, place_of, run_of}
@@ -219,10 +219,10 @@ repeated =
 
 -- slice and gather along axis 0
 abbrev pub slices : Step
-slices = allSlice ((0 ∷ []) ∷ [])
+slices = all_slice ((0 ∷ []) ∷ [])
 
 abbrev pub gathers : Step
-gathers = allGather ((0 ∷ []) ∷ [])
+gathers = all_gather ((0 ∷ []) ∷ [])
 
 -- how many plain steps each outermost step of a file runs
 abbrev pub runs_of : (file : List ℕ) → Judged (List ℕ)

@@ -3,7 +3,7 @@
 use Rattle.std.specs.Prelude.{ℕ, ◌+◌, ◌≡◌, refl, List, [], ◌∷◌, map, length, replicate}
 use Rattle.std.proofs.Common.{sym}
 use Rattle.rules.specs.Lists.{tab, flat, ascending, All, done, ◌&◌}
-use Rattle.rules.specs.Collectives.{Place, allSlice, all_reduce, reduce_scatter, sources, Shards, stepped}
+use Rattle.rules.specs.Collectives.{Place, all_slice, all_reduce, reduce_scatter, sources, Shards, stepped}
 use Rattle.rules.specs.Collectives as changes
 use Rattle.rules.specs.Sharding.{Sharding}
 use Rattle.rules.specs.Refusals.{accept, refuse}
@@ -155,10 +155,10 @@ scatters_read = record {
 -- whose sum of one is itself; and so is the sharding
 pub scatter-means : (W : Type 0) (addAll : List W → W) → ((w : W) → addAll (w ∷ []) ≡ w) → (mesh : List ℕ) (Ss : List (List ℕ)) (v : Shards W) (x i : List ℕ)
     → (stepped addAll mesh (reduce_scatter Ss) v).words x i
-    ≡ (stepped addAll mesh (allSlice Ss) (stepped addAll mesh (all_reduce (ascending (length mesh) (flat Ss))) v)).words x i
+    ≡ (stepped addAll mesh (all_slice Ss) (stepped addAll mesh (all_reduce (ascending (length mesh) (flat Ss))) v)).words x i
 unfolding stepped
 scatter-means W addAll single mesh Ss v x i = sym (single _)
 
-pub scatter-shards : (Ss : List (List ℕ)) (s : Sharding) → changes.after (reduce_scatter Ss) s ≡ changes.after (allSlice Ss) (changes.after (all_reduce (flat Ss)) s)
+pub scatter-shards : (Ss : List (List ℕ)) (s : Sharding) → changes.after (reduce_scatter Ss) s ≡ changes.after (all_slice Ss) (changes.after (all_reduce (flat Ss)) s)
 unfolding changes.after
 scatter-shards Ss s = refl

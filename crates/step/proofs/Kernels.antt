@@ -13,8 +13,8 @@ use Rattle.rules.specs.Sharding.{Sharding, shard_sizes, IsSharding}
 use Rattle.rules.specs.Spread.{StateOf, tabulate, held, add_words}
 use Rattle.rules.specs.Collectives.{
   Step,
-  allSlice,
-  allGather,
+  all_slice,
+  all_gather,
   all_reduce,
   all_to_all,
   reduce_scatter,
@@ -138,7 +138,7 @@ module _ {mesh shape : List ℕ} {t : Step} {words : ℕ} (h : Accepts mesh shap
 
 module _ {mesh shape : List ℕ} {Ss : List (List ℕ)} {words : ℕ} (h : Accepts mesh shape (reduce_scatter Ss) words) where
   -- its slice is an accepted one
-  slice_of : Accepts mesh shape (allSlice Ss) words
+  slice_of : Accepts mesh shape (all_slice Ss) words
   unfolding reduced
   slice_of = record {
     sizes = h.sizes;
@@ -159,7 +159,7 @@ module _ {mesh shape : List ℕ} {Ss : List (List ℕ)} {words : ℕ} (h : Accep
 
   -- the state between stands at the front of the old buffer
   then-sliced : {W : Type 0} (addAll : List W → W) (one : (a : W) → addAll (a ∷ []) ≡ a) (z : W) (olds rest news : List W)
-      → stepped_buffer addAll z mesh shape (allSlice Ss) words
+      → stepped_buffer addAll z mesh shape (all_slice Ss) words
       (tabulate mesh shape (made addAll (reduce_places mesh (ascending (length mesh) (flat Ss))) (held z mesh shape olds)) ++ rest) news
       ≡ stepped_buffer addAll z mesh shape (reduce_scatter Ss) words olds news
   unfolding sources slice_place
@@ -198,7 +198,7 @@ module _ {mesh shape : List ℕ} {words old new : ℕ} (on : DimLists) (h : Step
 
     module _ (none : DimLists) (e : dims_of none ≡ replicate most_dims []) where
       -- the slice of each group's sum
-      slicing : Accepts mesh shape (allSlice (lists shape on)) words
+      slicing : Accepts mesh shape (all_slice (lists shape on)) words
       slicing = slice_of (accepts h)
 
       moving : Moving mesh shape (lists shape none) (lists shape on)
@@ -221,15 +221,15 @@ module _ {mesh shape : List ℕ} {words old new : ℕ} (on : DimLists) (h : Step
             q ∙ ap (λ (b : List W). first_buffer z mesh shape L (lists shape none) Ss words b news) p
                 ∙ ap (λ (b : List W). b ++ drop (devices mesh * words) news) (first-sums addAll mesh L moving along z (held z mesh shape olds) rest)
                 ∙ move-leaves slicing tt none on (no-lists slicing none e) refl addAll one z (reduced_buffer addAll z mesh shape L olds) news
-                ∙ ap (λ (m : List ℕ). stepped_buffer addAll z mesh shape (allSlice Ss) words (reduced_buffer addAll z mesh shape m olds) news) l
+                ∙ ap (λ (m : List ℕ). stepped_buffer addAll z mesh shape (all_slice Ss) words (reduced_buffer addAll z mesh shape m olds) news) l
                 ∙ then-sliced (accepts h) addAll one z olds rest news,
           )
 
 -- a step that only moves words reads the old buffer
 moving-spends : {W : Type 0} (addAll : List W → W) (z : W) (mesh shape : List ℕ) (t : Step) → bridge.Moving t → (olds : List W)
     → spent_buffer addAll z mesh shape t olds ≡ olds
-moving-spends addAll z mesh shape (allSlice Ss) m olds = refl
-moving-spends addAll z mesh shape (allGather Gs) m olds = refl
+moving-spends addAll z mesh shape (all_slice Ss) m olds = refl
+moving-spends addAll z mesh shape (all_gather Gs) m olds = refl
 moving-spends addAll z mesh shape (all_reduce L) m olds = refl
 moving-spends addAll z mesh shape (all_to_all source target L) m olds = refl
 moving-spends addAll z mesh shape (reduce_scatter Ss) m olds = absurd m

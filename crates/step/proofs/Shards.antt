@@ -8,7 +8,7 @@ use Rattle.rules.specs.Lists.{flat, product, ascending}
 use Rattle.rules.specs.Mesh.{devices}
 use Rattle.rules.specs.Sharding.{Sharding, shard_sizes, IsSharding}
 use Rattle.rules.specs.Spread.{tabulate, held}
-use Rattle.rules.specs.Collectives.{Step, allSlice, allGather, all_reduce, all_to_all, reduce_scatter, after, shape_after, Shards, stepped, Stands, with_shards}
+use Rattle.rules.specs.Collectives.{Step, all_slice, all_gather, all_reduce, all_to_all, reduce_scatter, after, shape_after, Shards, stepped, Stands, with_shards}
 use Rattle.rules.specs.Refusals.{accept}
 use Rattle.rules.specs.PlanFile.{judge_step}
 use Rattle.laws.proofs.Buffers.{held-tabulate}
@@ -61,8 +61,8 @@ module _ {mesh shape : List ℕ} {t : Step} {words old new : ℕ} (h : Stepping 
 pub spends-shards : {W : Type 0} (addAll : List W → W) (z : W) (mesh : List ℕ) {shape : List ℕ} (t : Step) (v : Shards W) → v.shape ≡ shape → (olds : List W)
     → Stands mesh v olds → spent_buffer addAll z mesh shape t olds ≡ spent_shards addAll mesh t v olds
 unfolding stepped
-spends-shards addAll z mesh (allSlice Ss) v q olds st = refl
-spends-shards addAll z mesh (allGather Gs) v q olds st = refl
+spends-shards addAll z mesh (all_slice Ss) v q olds st = refl
+spends-shards addAll z mesh (all_gather Gs) v q olds st = refl
 spends-shards addAll z mesh (all_reduce L) v q olds st = refl
 spends-shards addAll z mesh (all_to_all source target L) v q olds st = refl
 spends-shards {W} addAll z mesh (reduce_scatter Ss) v q olds st =

@@ -5,7 +5,7 @@ use Rattle.rules.specs.Lists.{flat, product, ascending}
 use Rattle.rules.specs.Mesh.{devices, OnMesh}
 use Rattle.rules.specs.Sharding.{Sharding, shard_sizes, IsSharding}
 use Rattle.rules.specs.Spread.{tabulate, held}
-use Rattle.rules.specs.Collectives.{Step, allSlice, allGather, all_reduce, all_to_all, reduce_scatter, shape_after, sources, made, Shards, with_shards}
+use Rattle.rules.specs.Collectives.{Step, all_slice, all_gather, all_reduce, all_to_all, reduce_scatter, shape_after, sources, made, Shards, with_shards}
 use Rattle.sums.specs.Sums.{summed, summed_buffer}
 use Rattle.rules.specs.Limits.{most_dims, most_words}
 use Rattle.rules.specs.Refusals.{accept}
@@ -50,16 +50,16 @@ in_place Unknown = true
 -- What stands in the buffer of the old state where the new one stands in the other: a reduce-scatter has put each group's sum in place of its first
 -- member's shard, every other step has only read.
 abbrev pub spent_buffer : {W : Type 0} → (List W → W) → W → (mesh shape : List ℕ) → Step → List W → List W
-spent_buffer addAll z mesh shape (allSlice Ss) old = old
-spent_buffer addAll z mesh shape (allGather Gs) old = old
+spent_buffer addAll z mesh shape (all_slice Ss) old = old
+spent_buffer addAll z mesh shape (all_gather Gs) old = old
 spent_buffer addAll z mesh shape (all_reduce L) old = old
 spent_buffer addAll z mesh shape (all_to_all source target L) old = old
 spent_buffer addAll z mesh shape (reduce_scatter Ss) old = summed_buffer addAll z mesh shape (ascending (length mesh) (flat Ss)) 1 old
 
 -- the same of any shards that stood in it
 abbrev pub spent_shards : {W : Type 0} → (List W → W) → (mesh : List ℕ) → Step → Shards W → List W → List W
-spent_shards addAll mesh (allSlice Ss) v old = old
-spent_shards addAll mesh (allGather Gs) v old = old
+spent_shards addAll mesh (all_slice Ss) v old = old
+spent_shards addAll mesh (all_gather Gs) v old = old
 spent_shards addAll mesh (all_reduce L) v old = old
 spent_shards addAll mesh (all_to_all source target L) v old = old
 spent_shards addAll mesh (reduce_scatter Ss) v old =

@@ -11,7 +11,7 @@ use lib.ListN.{length, get_or, take, drop, length-drop, take-append-drop, get_or
 use lib.Seq.{get_or-take, drop_at, drop-drop}
 use lib.Arith.{digits_mod}
 use Rattle.rules.specs.Lists.{tab}
-use Rattle.laws.proofs.Lists.{length-tab, getD-tab, tab-cong}
+use Rattle.laws.proofs.Lists.{length-tab, get_or-tab, tab-cong}
 use Rattle.laws.proofs.Positions.{pos_of_lt}
 use Rattle.laws.proofs.Fronts.{Filled, part-tab, lent_length, lent-put}
 use Rattle.strided.specs.Strided.{offset, Copy, Period, repeated, copied}
@@ -32,7 +32,7 @@ module _ {W : Type 0} (z : W) where
 
   read-front : {f : ℕ → W} {old new : List W} {t : ℕ} → Filled f old new t → (k : ℕ) → k < t → get_or new k z ≡ f k
   read-front {f} {old} {new} {t} g k h =
-      ap (λ (l : List W). get_or l k z) g.front ∙ get_or-append (tab t f) (drop t old) z k (omega (arith, length-tab t f)) ∙ getD-tab t k f z h
+      ap (λ (l : List W). get_or l k z) g.front ∙ get_or-append (tab t f) (drop t old) z k (omega (arith, length-tab t f)) ∙ get_or-tab t k f z h
 
   -- behind the front all is as it was
   drop-front : {f : ℕ → W} {old new : List W} {t : ℕ} → Filled f old new t → (n : ℕ) → drop (t + n) new ≡ drop (t + n) old
@@ -126,5 +126,5 @@ module _ {words at room : ℕ} {digits : List ℕ} (c : Copy digits words at roo
       (λ t l.
       ap (λ (w : List W). get_or w (t % m) z) (lent-put new part m ∙ ap (λ (w : List W). w ++ drop m new) ep)
       ∙ get_or-append (tab m g) (drop m new) z (t % m) (omega (arith, length-tab m g, mod-lt t inner-some))
-      ∙ getD-tab m (t % m) g z (mod-lt t inner-some)
+      ∙ get_or-tab m (t % m) g z (mod-lt t inner-some)
       ∙ ap (λ (o : ℕ). get_or old (at + o) z) (sym (offset-again digits t (one-digit digits c.some c.counts.nested) e)))

@@ -8,7 +8,7 @@ use Rattle.rules.specs.Lists.{tab, pick, product, In, Distinct, Below}
 use Rattle.rules.specs.Mesh.{number, coords, span, position, member, members, IsGroup}
 use Rattle.rules.specs.Spread.{tabulate, held}
 use Rattle.rules.specs.Collectives.{Place, made, reduce_places, word}
-use Rattle.laws.proofs.Lists.{length-tab, getD-tab, tab-cong, map-tab}
+use Rattle.laws.proofs.Lists.{length-tab, get_or-tab, tab-cong, map-tab}
 use Rattle.laws.proofs.Positions.{div-lt, pos_of_lt, position-lt, below-member}
 use Rattle.laws.proofs.Buffers.{number_lt, coords-number, below-coords, number-coords, tabulate-same}
 use Rattle.laws.proofs.Groups.{group_by_position, group-few}
@@ -128,11 +128,11 @@ module _ (mesh L : List ℕ) (m : ℕ) (some : 0 < product mesh) (once : Distinc
 
   first_is : (d : ℕ) → d < product mesh → get_or (first_words mesh L m) d 0 ≡ dot (cleared L (mesh_strides mesh m)) (coords mesh d)
   unfolding first_words
-  first_is d h = getD-tab (product mesh) d _ 0 h ∙ first-at mesh (cleared L (mesh_strides mesh m)) d cleared-strides h
+  first_is d h = get_or-tab (product mesh) d _ 0 h ∙ first-at mesh (cleared L (mesh_strides mesh m)) d cleared-strides h
 
   shift_is : (q : ℕ) → q < span mesh L → get_or (shift_words mesh L m) q 0 ≡ member_part mesh L (mesh_strides mesh m) q
   unfolding shift_words
-  shift_is q h = getD-tab (span mesh L) q _ 0 h ∙ shift-at mesh L (mesh_strides mesh m) q (group-pos mesh L some) h
+  shift_is q h = get_or-tab (span mesh L) q _ 0 h ∙ shift-at mesh L (mesh_strides mesh m) q (group-pos mesh L some) h
 
   pub place_is : (d q : ℕ) → d < product mesh → q < span mesh L
       → get_or (first_words mesh L m) d 0 + get_or (shift_words mesh L m) q 0 ≡ number mesh (member mesh L q (coords mesh d)) * m
@@ -346,7 +346,7 @@ module _ {W : Type 0} (addAll : List W → W) (z : W) (mesh shape L : List ℕ) 
           let hd : p / m < product mesh = div-lt (product mesh) m b in
           let ho : p % m < m = mod-lt p (pos_of_lt (product mesh) m b) in
           ap (λ (k : ℕ). get_or new k z) (sym (div-add-mod' p m)) ∙ at (p / m) (p % m) hd ho (dec_lt (position mesh L (coords mesh (p / m))) n)
-          ∙ sym (get_or-append (tab w f) (drop w old) z p (omega (arith, length-tab w f)) ∙ getD-tab w p f z b)
+          ∙ sym (get_or-append (tab w f) (drop w old) z p (omega (arith, length-tab w f)) ∙ get_or-tab w p f z b)
       go p (no b) =
           let e : p ≡ length (tab w f) + (p - w) = omega (arith, length-tab w f) in
           let x : w + (p - w) ≡ p = omega arith in

@@ -64,8 +64,8 @@ kind_from plan.Unknown = Unknown
 
 -- a step of a plan for a table of a rank; one of an unknown kind, which no read answers, stands for a step that names no axis
 abbrev pub of_kind : Kind → ℕ → Step → rules.Step
-of_kind AllSlice rank t = rules.allSlice (take rank (dims_of t.lists))
-of_kind AllGather rank t = rules.allGather (take rank (dims_of t.lists))
+of_kind AllSlice rank t = rules.all_slice (take rank (dims_of t.lists))
+of_kind AllGather rank t = rules.all_gather (take rank (dims_of t.lists))
 of_kind AllReduce rank t = rules.all_reduce (axes_of t.list)
 of_kind AllToAll rank t = rules.all_to_all t.source.0 t.target.0 (axes_of t.list)
 of_kind ReduceScatter rank t = rules.reduce_scatter (take rank (dims_of t.lists))

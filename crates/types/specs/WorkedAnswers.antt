@@ -2,7 +2,7 @@
 -- Places past a list's count, and past the rank, hold nines: they stand for nothing. The check's and the placement's answers are in WorkedPlaces.
 -- Assumes nothing.
 use Rattle.std.specs.Prelude.{ℕ, ◌-◌, ◌≡◌, refl, List, [], ◌∷◌, ◌++◌, map, length, replicate}
-use Rattle.rules.specs.Collectives.{allSlice, allGather, all_reduce, all_to_all, reduce_scatter}
+use Rattle.rules.specs.Collectives.{all_slice, all_gather, all_reduce, all_to_all, reduce_scatter}
 use Rattle.rules.specs.Limits.{most_axes, most_dims}
 use Rattle.types.specs.Types.{dims_of, step_of}
 use Rattle.rules.specs.Calls.{groups_of, run_of}
@@ -48,8 +48,8 @@ pub meanings :
     × (run_meaning run.Finished ≡ (run_of w1 (nines 32) (nines 32)).outcome)
     × (run_meaning (run.Refused (refusal WorkTooShort 0)) ≡ (run_of w1 (nines 31) (nines 32)).outcome)
     -- the steps: an all-slice, those of W5, W7 and W8, and a reduce-scatter
-    × (step_of 1 (step AllSlice 9 9 ((0 ∷ []) ∷ []) (nines 1)) ≡ allSlice ((0 ∷ []) ∷ []))
-    × (step_of 1 (step AllGather 9 9 ((1 ∷ 0 ∷ []) ∷ []) (nines 1)) ≡ allGather ((1 ∷ 0 ∷ []) ∷ []))
+    × (step_of 1 (step AllSlice 9 9 ((0 ∷ []) ∷ []) (nines 1)) ≡ all_slice ((0 ∷ []) ∷ []))
+    × (step_of 1 (step AllGather 9 9 ((1 ∷ 0 ∷ []) ∷ []) (nines 1)) ≡ all_gather ((1 ∷ 0 ∷ []) ∷ []))
     × (step_of 1 (step AllReduce 9 9 [] (0 ∷ [])) ≡ all_reduce (0 ∷ []))
     × (step_of 2 (step AllToAll 0 1 [] (0 ∷ [])) ≡ all_to_all 0 1 (0 ∷ []))
     × (step_of 1 (step ReduceScatter 9 9 ((1 ∷ 0 ∷ []) ∷ []) (nines 1)) ≡ reduce_scatter ((1 ∷ 0 ∷ []) ∷ []))

@@ -31,7 +31,7 @@ use Rattle.opening.specs.Opening.{judge_opening}
 use Rattle.blocks.specs.Blocks.{shard_words}
 use Rattle.units.specs.Units.{in_mesh, headed, unpriced}
 use Rattle.units.proofs.Steps.{bind-same, outer_rest}
-use Rattle.units.proofs.Rests.{after-need, steps_from, start_from, tableFrom, order_rest_from, mesh_rest, rest_of}
+use Rattle.units.proofs.Rests.{after-need, steps_from, start_from, table_from, order_rest_from, mesh_rest, rest_of}
 
 -- ---- the check is the header and the rest
 
@@ -145,7 +145,7 @@ module _ (file : List ℕ) where
 
   -- the sizes of the table
   table_of : (mesh : List ℕ) (at : ℕ)
-      → ◌>>=◌ (sizes_at most_words 12 13 (rank_count file) (tensor_offset file) file at) (λ (t : Read (List ℕ)). start_from h file mesh t.value t.next) ≡ tableFrom h file mesh at
+      → ◌>>=◌ (sizes_at most_words 12 13 (rank_count file) (tensor_offset file) file at) (λ (t : Read (List ℕ)). start_from h file mesh t.value t.next) ≡ table_from h file mesh at
   table_of mesh at =
       ap (λ (j : Judged (Read (List ℕ))). ◌>>=◌ j (λ (t : Read (List ℕ)). start_from h file mesh t.value t.next))
       (sizes-offset most_words 12 13 (rank_count file) (tensor_offset file) file at)

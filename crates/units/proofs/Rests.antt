@@ -114,8 +114,8 @@ module _ (h : Header) (file : List ℕ) where
     t ← sizes_at most_words 12 13 h.rank at file at
     start_from mesh t.value t.next
 
-  abbrev pub tableFrom : (mesh : List ℕ) → ℕ → Judged CheckAnswer
-  tableFrom mesh at = do
+  abbrev pub table_from : (mesh : List ℕ) → ℕ → Judged CheckAnswer
+  table_from mesh at = do
     need (eqb h.table_at at) 6
     table_rest mesh at
 
@@ -123,12 +123,12 @@ module _ (h : Header) (file : List ℕ) where
   order_rest mesh t at = do
     need (leb (at + 2 * (devices mesh - t.count)) (length file)) 7
     need (ordered (devices mesh) t (tab (devices mesh - t.count) (λ i. u16_at file (at + 2 * i)))) 19
-    tableFrom mesh (at + 2 * (devices mesh - t.count))
+    table_from mesh (at + 2 * (devices mesh - t.count))
 
   abbrev pub order_rest_from : (mesh : List ℕ) → ℕ → Judged CheckAnswer
   order_rest_from mesh at = do
     o ← order_at (carries_order h.edition) (devices mesh) file at
-    tableFrom mesh o.next
+    table_from mesh o.next
 
   abbrev pub mesh_rest : ℕ → Judged CheckAnswer
   mesh_rest at = do
@@ -350,7 +350,7 @@ module _ (head file : List ℕ) where
   table_on mesh at = bind-same (sizes_at most_words 12 13 (rank_count head) at file at) _ _ (λ r e.
       sym (after-need (eqb (sharding_offset head) r.next) 6 (accept (in_the_start mesh r.value)) (rest r.next)))
 
-  table-from : (mesh : List ℕ) (at : ℕ) → ◌>>=◌ (to_table head at mesh) (rest at) ≡ tableFrom h file mesh at
+  table-from : (mesh : List ℕ) (at : ℕ) → ◌>>=◌ (to_table head at mesh) (rest at) ≡ table_from h file mesh at
   table-from mesh at = after-need (eqb (tensor_offset head) at) 6 (accept (in_table mesh)) (rest at)
 
   -- A NUMBER OF THE ORDER, AND THE REST
@@ -367,7 +367,7 @@ module _ (head file : List ℕ) where
       whole = omega arith
 
       left : ℕ → List ℕ → Judged CheckAnswer
-      left k l = ◌>>◌ (need (leb (at + 2 * k) (length file)) 7) (◌>>◌ (need (ordered (devices mesh) t l) 19) (tableFrom h file mesh (at + 2 * k)))
+      left k l = ◌>>◌ (need (leb (at + 2 * k) (length file)) 7) (◌>>◌ (need (ordered (devices mesh) t l) 19) (table_from h file mesh (at + 2 * k)))
 
       then : Judged CheckAnswer
       then = ◌>>=◌ (order_then (ltb (t.count + 1) (devices mesh)) head (at + 2) mesh (counted (devices mesh) t (u16_at file at))) (rest (at + 2))
@@ -377,12 +377,12 @@ module _ (head file : List ℕ) where
       go (no s) zero e =
           let z : at + 0 ≡ at = omega arith in
           let last : ltb (t.count + 1) (devices mesh) ≡ false = le-ltb (t.count + 1) (devices mesh) (omega (arith, e)) in
-          let turn : then ≡ ◌>>◌ (need (ordered (devices mesh) t (u16_at file at ∷ [])) 19) (tableFrom h file mesh (at + 2)) =
+          let turn : then ≡ ◌>>◌ (need (ordered (devices mesh) t (u16_at file at ∷ [])) 19) (table_from h file mesh (at + 2)) =
           ap (λ (b : Bool). ◌>>=◌ (order_then b head (at + 2) mesh (counted (devices mesh) t (u16_at file at))) (rest (at + 2))) last
           ∙ after-need (ordered (devices mesh) t (u16_at file at ∷ [])) 19 (to_table head (at + 2) mesh) (rest (at + 2))
           ∙ ap (◌>>◌ (need (ordered (devices mesh) t (u16_at file at ∷ [])) 19)) (table-from mesh (at + 2)) in
           ap (◌>>◌ (need (leb (at + 2) (length file)) 7))
-          (ap (λ (k : ℕ). ◌>>◌ (need (ordered (devices mesh) t (u16_at file k ∷ [])) 19) (tableFrom h file mesh (at + 2))) z ∙ sym turn)
+          (ap (λ (k : ℕ). ◌>>◌ (need (ordered (devices mesh) t (u16_at file k ∷ [])) 19) (table_from h file mesh (at + 2))) z ∙ sym turn)
       go (no s) (suc m) e =
           let z : at + 2 * 0 ≡ at = omega arith in
           let more : ltb (t.count + 1) (devices mesh) ≡ true = lt-ltb (t.count + 1) (devices mesh) (omega (arith, e)) in
@@ -394,7 +394,7 @@ module _ (head file : List ℕ) where
           ∙ ap₂ (λ (k : ℕ) (l : List ℕ). ordered (devices mesh) (counted (devices mesh) t (u16_at file k)) l) z
           (tab-cong (suc m) (λ i. numbers (suc i)) (λ i. u16_at file (at + 2 + 2 * i)) (λ i b. let k : at + 2 * suc i ≡ at + 2 + 2 * i = omega arith in ap (u16_at file) k)
           ∙ ap (λ (k : ℕ). tab k (λ i. u16_at file (at + 2 + 2 * i))) left_over) in
-          (λ i. ◌>>◌ (need (leb (end i) (length file)) 7) (◌>>◌ (need (o i) 19) (tableFrom h file mesh (end i))))
+          (λ i. ◌>>◌ (need (leb (end i) (length file)) 7) (◌>>◌ (need (o i) 19) (table_from h file mesh (end i))))
           ∙ sym (ap (λ (b : Bool). ◌>>◌ (need b 7) then) (le-leb (at + 2) (length file) (omega (arith, s)))
           ∙ ap (λ (b : Bool). ◌>>=◌ (order_then b head (at + 2) mesh (counted (devices mesh) t (u16_at file at))) (rest (at + 2))) more)
 
@@ -407,7 +407,7 @@ module _ (head file : List ℕ) where
       (omega (arith, (section-facts most_devices 10 11 (axis_count head) at file at r (lit≤ tt) e).sizes.few)))
     where
       go : (carried : Bool) (mesh : List ℕ) (end : ℕ) → devices mesh ≤ most_devices
-          → ◌>>=◌ (order_at carried (devices mesh) file end) (λ (o : Read (List ℕ)). tableFrom h file mesh o.next)
+          → ◌>>=◌ (order_at carried (devices mesh) file end) (λ (o : Read (List ℕ)). table_from h file mesh o.next)
           ≡ ◌>>=◌ (mesh_then carried head end mesh) (rest end)
       go false mesh end few = sym (table-from mesh end)
       go true mesh end few =
@@ -417,4 +417,4 @@ module _ (head file : List ℕ) where
           sym (ordered-is (devices mesh) (tab (devices mesh) f) few (length-tab (devices mesh) f)) ∙ ap (λ (m : ℕ). ordered (devices mesh) no_numbers (tab m f)) d in
           after-need (leb (end + 2 * devices mesh) (length file)) 7 _ _
           ∙ ap (◌>>◌ (need (leb (end + 2 * devices mesh) (length file)) 7)) (after-need (order_allowed (devices mesh) (tab (devices mesh) f)) 19 _ _)
-          ∙ (λ i. ◌>>◌ (need (leb (end + 2 * d i) (length file)) 7) (◌>>◌ (need (o i) 19) (tableFrom h file mesh (end + 2 * d i))))
+          ∙ (λ i. ◌>>◌ (need (leb (end + 2 * d i) (length file)) 7) (◌>>◌ (need (o i) 19) (table_from h file mesh (end + 2 * d i))))

@@ -15,7 +15,7 @@ use Rattle.laws.proofs.Judging.{never, then-inv}
 use Rattle.start.specs.Start.{meaning}
 use Rattle.start.specs.declared.Verdict.{Verdict}
 use Rattle.start.specs.declared.Verdict.TheVariants as verdict
-use Rattle.given.specs.Given.{verdictOf}
+use Rattle.given.specs.Given.{verdict_of}
 use Rattle.records.specs.Records.{Records, records_of, file_length, file_of}
 use Rattle.records.specs.Writing.{judge_records, write_of, write_out, write_leaves}
 use Rattle.records.specs.Forms.{records_given}
@@ -26,11 +26,11 @@ use Rattle.records.proofs.Readback.{reads_back}
 use Rattle.encode.proofs.Accepted.{accepted-proper}
 
 -- what the judgement of records answered
-pub judged-fine : (j : Judged Plan) (v : Verdict) → meaning v ≡ verdictOf j → v ≡ verdict.Fine → (p : Plan) × (j ≡ accept p)
+pub judged-fine : (j : Judged Plan) (v : Verdict) → meaning v ≡ verdict_of j → v ≡ verdict.Fine → (p : Plan) × (j ≡ accept p)
 judged-fine (accept p) v e f = (p, refl)
 judged-fine (refuse n k) v e f = absurd (never (sym e ∙ ap meaning f))
 
-judged-refused : (j : Judged Plan) (v : Verdict) (x : Refusal) → meaning v ≡ verdictOf j → v ≡ verdict.Refused x → j ≡ refused_with x
+judged-refused : (j : Judged Plan) (v : Verdict) (x : Refusal) → meaning v ≡ verdict_of j → v ≡ verdict.Refused x → j ≡ refused_with x
 judged-refused (accept p) v x e f = absurd (never (ap meaning (sym f) ∙ e))
 judged-refused (refuse n k) v x e f = ap₂ refuse (first (sym e ∙ ap meaning f)) (second (sym e ∙ ap meaning f))
   where
@@ -50,7 +50,7 @@ module _ (r : Records) (out : List ℕ) where
     pub nothing_written : out ≡ write_leaves r out
     nothing_written = sym (leaves_by e)
 
-  pub records-refused : (v : Verdict) (x : Refusal) → meaning v ≡ verdictOf (judge_records r) → v ≡ verdict.Refused x → write_of r out ≡ refused_with x
+  pub records-refused : (v : Verdict) (x : Refusal) → meaning v ≡ verdict_of (judge_records r) → v ≡ verdict.Refused x → write_of r out ≡ refused_with x
   unfolding write_of
   records-refused v x e f = rw (judged-refused (judge_records r) v x e f) refl
 

@@ -15,7 +15,7 @@ use Rattle.blocks.proofs.RepeatRead.refusal.Reads as RepeatRead-refusal-reads
 use Rattle.records.specs.Writing.{step_numbered}
 use Rattle.records.specs.Forms.{record_count, steps_given}
 use Rattle.records.proofs.Numbers.{numbered-on, numbered-stops}
-use Rattle.given.specs.Given.{bytesGiven, placeGiven, summarized}
+use Rattle.given.specs.Given.{bytes_given, place_given, summarized}
 use Rattle.encode.proofs.Counting.{given-length}
 use Rattle.given.proofs.Plain.{repeat-inside, is-ranked, no-repeat}
 use Rattle.given.proofs.Heads.{few-inner, repeat-there, repeat-next}
@@ -80,14 +80,14 @@ pub +judge-record-judge-repeat-spec : {M : Type 1} → statement M
     (λ c κs. let s = c.before.before.before in (s.requires.1, sym c.before.is-repeat.ensures ∙ c.if1.false))
     (λ c. let a = c.before.before.before.before.args in
     let e = sym c.before.before.is-repeat.ensures ∙ c.before.if1.true in
-    retold c.judge-repeat.ensures (ap (λ (j : Judged StepsRead). step_numbered (summarized a.i j)) (item-repeat (mesh_of a.mesh) (sizes_of a.table) (bytesGiven a.table.rank a.steps.now) a.depth (a.i + 1)
-    (placeGiven a.table.rank a.steps.now a.i) (sharding_of a.table.rank a.sharding) (repeat-there a.steps.now a.i e a.table.rank a.depth))))
+    retold c.judge-repeat.ensures (ap (λ (j : Judged StepsRead). step_numbered (summarized a.i j)) (item-repeat (mesh_of a.mesh) (sizes_of a.table) (bytes_given a.table.rank a.steps.now) a.depth (a.i + 1)
+    (place_given a.table.rank a.steps.now a.i) (sharding_of a.table.rank a.sharding) (repeat-there a.steps.now a.i e a.table.rank a.depth))))
     (λ c. let s = c.before.before.before.before in
     let a = s.args in
     let p = s.requires.1.shaped in
     let e = sym c.before.before.is-repeat.ensures ∙ c.before.if1.false in
-    retold c.judge-plain.ensures (ap (λ (j : Judged StepsRead). step_numbered (summarized a.i j)) (item-plain (mesh_of a.mesh) (sizes_of a.table) (bytesGiven a.table.rank a.steps.now) a.depth (a.i + 1)
-    (placeGiven a.table.rank a.steps.now a.i) (sharding_of a.table.rank a.sharding) (no-repeat (mesh_of a.mesh) (sizes_of a.table) a.table.rank p.rank_is p.fits.rank a.steps.now a.i e)))))
+    retold c.judge-plain.ensures (ap (λ (j : Judged StepsRead). step_numbered (summarized a.i j)) (item-plain (mesh_of a.mesh) (sizes_of a.table) (bytes_given a.table.rank a.steps.now) a.depth (a.i + 1)
+    (place_given a.table.rank a.steps.now a.i) (sharding_of a.table.rank a.sharding) (no-repeat (mesh_of a.mesh) (sizes_of a.table) a.table.rank p.rank_is p.fits.rank a.steps.now a.i e)))))
     λ t. judge-repeat-lts.spec (
       read-head-reads.Asked,
       read-head-reads.Learnt,
@@ -119,14 +119,14 @@ pub +judge-record-judge-repeat-spec : {M : Type 1} → statement M
     (λ c. let h = c.before.before.before in
     let a = h.before.before.args in
     let r = numbered-on _ (head-on (h.read_head.ensures.0 a.table.rank) c.before.head.given.1) in
-    let f = head-facts a.depth (a.i + 1) (bytesGiven a.table.rank a.steps.now) (placeGiven a.table.rank a.steps.now a.i + 1) r in
+    let f = head-facts a.depth (a.i + 1) (bytes_given a.table.rank a.steps.now) (place_given a.table.rank a.steps.now a.i + 1) r in
     omega (arith, f.allowed))
     (λ c. let s = c.before.before.before.before.before in omega (arith, repeat-inside s.args.steps.now s.args.i s.requires.1.1))
     (λ c. let h = c.before.before.before in
     let s = h.before.before in
     let a = s.args in
     let r = numbered-on _ (head-on (h.read_head.ensures.0 a.table.rank) c.before.head.given.1) in
-    let f = head-facts a.depth (a.i + 1) (bytesGiven a.table.rank a.steps.now) (placeGiven a.table.rank a.steps.now a.i + 1) r in
+    let f = head-facts a.depth (a.i + 1) (bytes_given a.table.rank a.steps.now) (place_given a.table.rank a.steps.now a.i + 1) r in
     within-start (mesh_of a.mesh) (sizes_of a.table) (steps_given a.table.rank a.steps.now) (a.depth - 1) _ a.i (sharding_of a.table.rank a.sharding) (repeat-next a.steps.now a.i s.requires.1.1 a.table.rank a.depth) f.inside
     (omega (arith, repeat-inside a.steps.now a.i s.requires.1.1, given-length a.table.rank a.steps.now)) s.requires.1.0.sound)
     (λ c κs. let s = c.before.before.before.before.before.before.before in

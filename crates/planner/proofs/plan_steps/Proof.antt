@@ -4,7 +4,7 @@ use mathlib.Core.List.{[]}
 use mathlib.Core.Bool.{not}
 use lib.Dec.{eqb}
 use lib.ListN.{take}
-use Rattle.rules.specs.Collectives.{allSlice, allGather, all_reduce}
+use Rattle.rules.specs.Collectives.{all_slice, all_gather, all_reduce}
 use Rattle.types.specs.Types.{axes_of, dims_of, sharding_of}
 use Rattle.records.specs.Planning.{to_reduce, to_gather, to_slice}
 use Rattle.records.specs.PlanAnswer.{steps_from}
@@ -40,7 +40,7 @@ plan-steps-spec =
     let r2 = x.before.before in
     let s = r2.before.before.before.args in
     let X = all_reduce (axes_of r2.before.before.without.result) in
-    let Y = allGather (take s.rank (dims_of r2.before.rests.result)) in
+    let Y = all_gather (take s.rank (dims_of r2.before.rests.result)) in
     let a = not (eqb w.before.len.result 0) in
     let one = w.with-step.ensures [] X x.before.no_steps.ensures x.reduce-of.ensures in
     second-room a w2.before.names-axis.result X Y (w2.with-step2.ensures (first_of a X) Y one w2.before.before.gather-of.ensures))
@@ -50,8 +50,8 @@ plan-steps-spec =
     let r2 = x.before.before in
     let s = r2.before.before.before.args in
     let X = all_reduce (axes_of r2.before.before.without.result) in
-    let Y = allGather (take s.rank (dims_of r2.before.rests.result)) in
-    let Z = allSlice (take s.rank (dims_of r2.rests2.result)) in
+    let Y = all_gather (take s.rank (dims_of r2.before.rests.result)) in
+    let Z = all_slice (take s.rank (dims_of r2.rests2.result)) in
     let a = not (eqb w.before.len.result 0) in
     let b = w2.before.names-axis.result in
     let one = w.with-step.ensures [] X x.before.no_steps.ensures x.reduce-of.ensures in
