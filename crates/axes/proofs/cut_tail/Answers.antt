@@ -1,7 +1,5 @@
-use borrow.Author.Rules.{rules}
 use native.Mathlib.Omega.{arith}
 use mathlib.Core.Path.{refl}
-use lib.ListN.{length-map}
 use Rattle.types.specs.Types.{axes_of}
 use Rattle.types.proofs.Types.{axes-length}
 use Rattle.axes.proofs.Lists.{cut-counted}

@@ -1,10 +1,7 @@
-use borrow.Author.Rules.{rules}
 use Prim.Native.Nat.{◌-◌}
-use mathlib.Core.Path.{sym, ◌∙◌}
-use borrow.Author.Tests.{le-leb, lt-leb}
 use Rattle.rules.specs.PlanFile.{increasing_from}
 use Rattle.types.specs.Types.{axes_of}
-use Rattle.axes.proofs.Going.{Going, begin, ahead, onward, finish}
+use Rattle.axes.proofs.Going.{Going}
 use Rattle.axes.proofs.increasing.Given as goal
 
 abbrev pub invariant-loop-i : goal.invariant-loop-i

@@ -1,9 +1,7 @@
-use borrow.Author.Rules.{rules}
 use native.Mathlib.Omega.{arith}
-use Prim.Native.Nat.{◌-◌}
 use mathlib.Core.Path.{sym}
 use Rattle.types.specs.Types.{axes_of}
-use Rattle.axes.proofs.Lists.{too_long, Tailing, tailing, differ, agree, all-agree}
+use Rattle.axes.proofs.Lists.{too_long, differ, agree, all-agree}
 use Rattle.axes.proofs.is_tail.Goals as goal
 
 pub returns-then-have-want : goal.returns-then-have-want

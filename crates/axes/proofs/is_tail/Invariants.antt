@@ -1,9 +1,6 @@
-use borrow.Author.Rules.{rules}
-use native.Mathlib.Omega.{arith}
 use Prim.Native.Nat.{◌-◌}
-use mathlib.Core.Path.{sym}
 use Rattle.types.specs.Types.{axes_of}
-use Rattle.axes.proofs.Lists.{too_long, Tailing, tailing, differ, agree, all-agree}
+use Rattle.axes.proofs.Lists.{Tailing}
 use Rattle.axes.proofs.is_tail.Given as goal
 
 abbrev pub invariant-loop-i : goal.invariant-loop-i

@@ -1,17 +1,14 @@
-use borrow.Author.Rules.{rules}
-use native.Mathlib.Omega.{arith}
 use Prim.Native.Nat.{ℕ, ◌-◌, ◌+◌, ◌≤◌}
-use mathlib.Core.List.{List, [], ◌∷◌, ◌++◌, append-nil, append_assoc}
-use mathlib.Core.Path.{refl, sym, ap, ◌∙◌}
-use lib.ListN.{length, length-append}
+use mathlib.Core.List.{List, ◌++◌}
+use lib.ListN.{length}
 use Rattle.rules.specs.Limits.{most_axes}
 use Rattle.types.specs.Types.{axes_of}
-use Rattle.axes.proofs.Going.{Going, begin, onward, finish}
+use Rattle.axes.proofs.Going.{Going}
 use Rattle.axes.proofs.join.Given as goal
 
 abbrev pub invariant-loop-i : goal.invariant-loop-i
 invariant-loop-i l =
-    Going (axes_of l.initial.whole ++ axes_of l.tail) (λ (l : List ℕ). axes_of l.whole ++ l) (axes_of l.tail) l.count l.i
+    Going (axes_of l.initial.whole ++ axes_of l.tail) (λ (xs : List ℕ). axes_of l.whole ++ xs) (axes_of l.tail) l.count l.i
     × (length (axes_of l.whole) + l.count ≤ most_axes + l.i)
 
 abbrev pub decreases-loop-i : goal.decreases-loop-i

@@ -1,10 +1,9 @@
-use borrow.Author.Rules.{rules}
 use Prim.Native.Nat.{◌-◌}
-use mathlib.Core.Path.{◌≡◌, refl, sym, ◌∙◌}
+use mathlib.Core.Path.{◌≡◌}
 use lib.ListN.{length}
 use Rattle.types.specs.Types.{axes_of}
 use Rattle.axes.specs.Marks.{marks_with}
-use Rattle.axes.proofs.Going.{Going, begin, onward, finish}
+use Rattle.axes.proofs.Going.{Going}
 use Rattle.axes.proofs.mark_list.Given as goal
 
 abbrev pub invariant-loop-i : goal.invariant-loop-i

@@ -1,14 +1,9 @@
-use borrow.Author.Rules.{rules}
-use native.Mathlib.Omega.{arith}
-use Prim.Native.Nat.{ℕ, ◌-◌, ◌≤◌}
-use mathlib.Core.Bool.{false, not}
-use mathlib.Core.List.{List, [], ◌∷◌, ◌++◌}
-use mathlib.Core.Path.{◌≡◌, ap, ◌∙◌}
+use Prim.Native.Nat.{◌-◌, ◌≤◌}
+use mathlib.Core.Bool.{false}
+use mathlib.Core.Path.{◌≡◌}
 use lib.ListN.{length, get_or}
-use Rattle.rules.specs.Lists.{tab, pick, keep}
+use Rattle.rules.specs.Lists.{tab, keep}
 use Rattle.types.specs.Types.{axes_of}
-use Rattle.axes.proofs.Lists.{kept-length}
-use Rattle.axes.proofs.Naming.{marked_next}
 use Rattle.axes.proofs.marked_below.Given as goal
 
 abbrev pub invariant-loop-i : goal.invariant-loop-i
