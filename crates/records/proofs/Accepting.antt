@@ -10,66 +10,12 @@ use lib.ListN.{length, get_or, drop, replicate, length-append, length-drop}
 use lib.Dec.{T, leb, eqb, eqb→eq, leb→le, le→leb}
 use Rattle.rules.specs.Lists.{pick, each, both, flat, in_turn, without, In, Distinct}
 use Rattle.rules.specs.Sharding.{Sharding, varying, named, divisible, shard_sizes, IsSharding}
-<<<<<<< HEAD
 use Rattle.rules.specs.Collectives.{Step, all_slice, all_gather, all_reduce, all_to_all, reduce_scatter, step_axes, sliced, gathered, reduced, after, grown}
 use Rattle.rules.specs.Limits.{most_axes, most_dims, most_run, most_depth, every_kind}
 use Rattle.rules.specs.Refusals.{accept}
 use Rattle.rules.specs.PlanFile.{judge_axes, judge_start, some, all_below, fresh, is_tail, increasing_from, none_in, gather_off, slice_on, judge_kind, judge_step, plain, kind_byte, plain_at, is_repeat, item_with, item_at, Outermost, outermost_at}
 use Rattle.laws.proofs.Lists.{T→true, n_t→false, both-length, length-each, in_left, in_right, in-append, joined-right, distinct-split, Apart, split-joined, of-without, without-none}
 use Rattle.laws.proofs.Judging.{need-inv, then-inv, off-none_in, distinct-fresh}
-=======
-use Rattle.rules.specs.Collectives.{Step, all_slice, all_gather, all_reduce, all_to_all, reduce_scatter, step_axes, cut_tail, sliced, gathered, reduced, after, grown}
-use Rattle.rules.specs.Limits.{most_axes, most_devices, most_dims, most_words, most_steps, most_run, most_depth, every_kind}
-use Rattle.rules.specs.Refusals.{Judged, accept, refuse, ◌>>=◌, ◌>>◌, need, need_at}
-use Rattle.rules.specs.PlanFile.{
-  axes_allowed,
-  rank_allowed,
-  judge_sizes,
-  judge_axes,
-  judge_start,
-  same,
-  some,
-  all_below,
-  fresh,
-  is_tail,
-  increasing_from,
-  none_in,
-  gather_off,
-  slice_on,
-  step_at,
-  judge_kind,
-  judge_step,
-  plain,
-  kind_byte,
-  StepsRead,
-  plain_at,
-  is_repeat,
-  item_with,
-  item_at,
-  Outermost,
-  outermost_at,
-}
-use Rattle.laws.proofs.Lists.{
-  T?,
-  T→true,
-  n_t→false,
-  T_and,
-  and_T,
-  both-length,
-  length-each,
-  in_left,
-  in_right,
-  in-append,
-  joined-left,
-  joined-right,
-  distinct-split,
-  Apart,
-  split-joined,
-  of-without,
-  without-none,
-}
-use Rattle.laws.proofs.Judging.{accept-inj, need-inv, need-true, then-inv, bind_inv, off-none_in, distinct-fresh, all_in-in, same-eq}
->>>>>>> d08089a3 (Names declared several on a line, or at a level, and those of the crate given, in today's spelling)
 use Rattle.laws.proofs.Steps.{Varies, varies}
 use Rattle.laws.proofs.Shapes.{Cut}
 use Rattle.laws.proofs.Sizes.{cut-divisible, cut-is, cut-grown}

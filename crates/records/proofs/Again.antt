@@ -11,15 +11,9 @@ use lib.Dec.{T, T_not, ltb, leb, eqb, ltb→lt, nltb→le, leb→le, eqb→eq, e
 use Rattle.rules.specs.Lists.{tab, pick}
 use Rattle.rules.specs.Mesh.{span, devices, plain_order}
 use Rattle.rules.specs.Sharding.{divisible, Sharding, shard_sizes, IsSharding}
-<<<<<<< HEAD
 use Rattle.rules.specs.Collectives.{Step, all_slice, all_gather, all_reduce, all_to_all, reduce_scatter, after}
 use Rattle.rules.specs.Limits.{present, most_bytes, least_bytes, most_devices, most_words, most_depth, every_kind}
 use Rattle.rules.specs.Refusals.{accept}
-=======
-use Rattle.rules.specs.Collectives.{Step, all_slice, all_gather, all_reduce, all_to_all, reduce_scatter, after}
-use Rattle.rules.specs.Limits.{present, most_bytes, least_bytes, most_steps, most_devices, most_words, most_depth, every_kind}
-use Rattle.rules.specs.Refusals.{Judged, accept, ◌>>=◌, ◌>>◌}
->>>>>>> d08089a3 (Names declared several on a line, or at a level, and those of the crate given, in today's spelling)
 use Rattle.rules.specs.PlanFile.{
   Read,
   u16_at,

@@ -12,15 +12,9 @@ use Rattle.rules.specs.Lists.{pick, in_turn, product}
 use Rattle.rules.specs.Mesh.{devices}
 use Rattle.rules.specs.Sharding.{Sharding, shard_sizes}
 use Rattle.rules.specs.Spread.{Faithful, add_words, held_by}
-<<<<<<< HEAD
 use Rattle.rules.specs.Collectives.{Step, all_slice, all_gather, all_reduce, step_axes, after}
 use Rattle.rules.specs.Limits.{most_axes, most_dims, every_kind, most_devices, most_words, most_steps}
 use Rattle.rules.specs.Refusals.{accept}
-=======
-use Rattle.rules.specs.Collectives.{Step, all_slice, all_gather, all_reduce, step_axes, after}
-use Rattle.rules.specs.Limits.{most_axes, most_dims, every_kind, most_devices, most_words, most_steps, most_bytes, most_run}
-use Rattle.rules.specs.Refusals.{Judged, accept, ◌>>=◌, ◌>>◌}
->>>>>>> d08089a3 (Names declared several on a line, or at a level, and those of the crate given, in today's spelling)
 use Rattle.rules.specs.PlanFile.{axes_allowed, rank_allowed, judge_sizes, same, some, all_in, plain, outermost_at, Plan, judge, announced, announced_shape}
 use Rattle.rules.specs.Factor.{step_factor, factor_of, factor_after}
 use Rattle.rules.specs.Calls.{shards_after, run_of}

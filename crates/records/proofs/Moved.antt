@@ -8,10 +8,6 @@ use native.Mathlib.Omega.{arith}
 use lib.ListN.{length, get_or, drop}
 use lib.Dec.{T, ltb, leb, eqb, ltb→lt, lt→ltb, leb→le, le→leb}
 use Rattle.rules.specs.Sharding.{Sharding}
-<<<<<<< HEAD
-=======
-use Rattle.rules.specs.Collectives.{Step, all_slice, all_gather, all_reduce, all_to_all}
->>>>>>> d08089a3 (Names declared several on a line, or at a level, and those of the crate given, in today's spelling)
 use Rattle.rules.specs.Limits.{most_run, most_depth}
 use Rattle.rules.specs.Refusals.{Judged, accept, refuse, ◌>>=◌, ◌>>◌, need_at}
 use Rattle.rules.specs.PlanFile.{Read, list_read_at, lists_at, kind_of, lists_of, step_at, judge_step, StepsRead, JudgesStep, JudgesSteps, steps_at, plain_at, positive_at, repeat_at, is_repeat, item_with, too_deep, item_at, Outermost, outermost_at, Kind, AllSlice, AllGather, AllReduce, AllToAll, ReduceScatter, Unknown}

@@ -12,49 +12,9 @@ use lib.Arith.{digits_div, digits_mod}
 use lib.Dec.{T, ltb, leb, eqb, ltb→lt, leb→le, eqb→eq}
 use Rattle.rules.specs.Lists.{tab, pick}
 use Rattle.rules.specs.Sharding.{Sharding}
-<<<<<<< HEAD
 use Rattle.rules.specs.Collectives.{Step}
 use Rattle.rules.specs.Refusals.{accept}
 use Rattle.rules.specs.PlanFile.{Read, u16_at, list_read_at, lists_at, replicated_at, carries_replicated, sharding_at, kind_of, lists_of, step_at, judge_step, Record, StepsRead, JudgesStep, JudgesSteps, steps_at, plain_at, repeat_at, is_repeat, item_with, too_deep, item_at, Kind, AllSlice, AllGather, AllReduce, AllToAll, ReduceScatter, Unknown}
-=======
-use Rattle.rules.specs.Collectives.{Step, all_slice, all_gather, all_reduce, all_to_all}
-use Rattle.rules.specs.Limits.{most_depth}
-use Rattle.rules.specs.Refusals.{Judged, accept, refuse, ◌>>=◌, ◌>>◌}
-use Rattle.rules.specs.PlanFile.{
-  Read,
-  u16_at,
-  list_read_at,
-  lists_at,
-  replicated_at,
-  carries_replicated,
-  sharding_at,
-  kind_of,
-  lists_of,
-  step_at,
-  judge_step,
-  Record,
-  plain,
-  repeat,
-  StepsRead,
-  JudgesStep,
-  JudgesSteps,
-  steps_at,
-  plain_at,
-  positive_at,
-  repeat_at,
-  is_repeat,
-  item_with,
-  too_deep,
-  item_at,
-  Kind,
-  AllSlice,
-  AllGather,
-  AllReduce,
-  AllToAll,
-  ReduceScatter,
-  Unknown,
-}
->>>>>>> d08089a3 (Names declared several on a line, or at a level, and those of the crate given, in today's spelling)
 use Rattle.laws.proofs.Lists.{T?}
 use Rattle.laws.proofs.Judging.{never, accept-inj, need-inv, bind_inv}
 use Rattle.laws.proofs.Repeats.{IsRepeat, repeat-inv, positive-inv}

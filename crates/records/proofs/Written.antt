@@ -10,11 +10,7 @@ use lib.Dec.{T, leb, eqb, lit<}
 use Rattle.rules.specs.Lists.{tab, pick}
 use Rattle.rules.specs.Mesh.{devices}
 use Rattle.rules.specs.Sharding.{Sharding}
-<<<<<<< HEAD
 use Rattle.rules.specs.Collectives.{all_slice, all_gather, all_reduce, all_to_all, reduce_scatter}
-=======
-use Rattle.rules.specs.Collectives.{Step, all_slice, all_gather, all_reduce, all_to_all, reduce_scatter}
->>>>>>> d08089a3 (Names declared several on a line, or at a level, and those of the crate given, in today's spelling)
 use Rattle.rules.specs.Limits.{present, most_bytes, least_bytes, most_steps, most_devices, most_words, every_kind}
 use Rattle.rules.specs.Refusals.{Judged, accept, refuse, ◌>>=◌, ◌>>◌, need}
 use Rattle.rules.specs.PlanFile.{u16_at, edition_known, axes_allowed, rank_allowed, judge_header, judge_header_by, judge_sizes, sizes_at, order_allowed, order_at, carries_order, mesh_and_table_at_by, replicated_at, carries_replicated, sharding_at, judge_start, some, one_meaning, plain, repeat, Outermost, outermost_at, Front, judge_front, judge_front_by, Plan, judge, judge_by}
