@@ -1,9 +1,6 @@
-use borrow.Author.Rules.{rules}
-use native.Mathlib.Omega.{arith}
-use Prim.Native.Nat.{◌<◌, ◌-◌}
-use mathlib.Core.Path.{refl}
+use Prim.Native.Nat.{◌-◌}
 use lib.ListN.{length}
-use Rattle.order.proofs.Loops.{Inverted, invert-on, inverted}
+use Rattle.order.proofs.Loops.{Inverted}
 use Rattle.order.proofs.invert.Given as goal
 
 abbrev pub invariant-loop-i : goal.invariant-loop-i

@@ -1,9 +1,5 @@
-use borrow.Author.Rules.{rules}
-use native.Mathlib.Omega.{arith}
-use Prim.Native.Nat.{◌-◌}
-use mathlib.Core.Path.{refl, sym}
-use lib.ListN.{length}
-use Rattle.order.proofs.Loops.{Plain, not_plain, plain-on, all_plain}
+use mathlib.Core.Path.{sym}
+use Rattle.order.proofs.Loops.{not_plain, plain-on, all_plain}
 use Rattle.order.proofs.is_plain.Goals as goal
 
 pub returns-then-order-i : goal.returns-then-order-i

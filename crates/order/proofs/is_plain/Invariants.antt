@@ -1,9 +1,6 @@
-use borrow.Author.Rules.{rules}
-use native.Mathlib.Omega.{arith}
 use Prim.Native.Nat.{◌-◌}
-use mathlib.Core.Path.{refl, sym}
 use lib.ListN.{length}
-use Rattle.order.proofs.Loops.{Plain, not_plain, plain-on, all_plain}
+use Rattle.order.proofs.Loops.{Plain}
 use Rattle.order.proofs.is_plain.Given as goal
 
 abbrev pub invariant-loop-i : goal.invariant-loop-i

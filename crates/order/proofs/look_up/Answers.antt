@@ -1,10 +1,9 @@
-use borrow.Author.Rules.{rules}
 use native.Mathlib.Omega.{arith}
-use Prim.Native.Nat.{ℕ, ◌<◌, ◌-◌}
+use Prim.Native.Nat.{ℕ}
 use mathlib.Core.Path.{◌≡◌, ap, ◌∙◌}
 use mathlib.Core.List.{List}
-use lib.ListN.{length, get_or}
-use Rattle.laws.proofs.Fronts.{Filled, fill_start, fill-word, fill_end, front-behind}
+use lib.ListN.{get_or}
+use Rattle.laws.proofs.Fronts.{fill-word, fill_end, front-behind}
 use Rattle.order.proofs.Loops.{looked-up}
 use Rattle.order.proofs.look_up.Goals as goal
 use Rattle.order.proofs.look_up.Goals.{In-loop-i}

@@ -1,8 +1,6 @@
-use borrow.Author.Rules.{rules}
-use native.Mathlib.Omega.{arith}
 use Prim.Native.Nat.{◌-◌}
 use lib.ListN.{length}
-use Rattle.order.proofs.Loops.{Finding, found, find-on, not_found}
+use Rattle.order.proofs.Loops.{Finding}
 use Rattle.order.proofs.place_in.Given as goal
 
 abbrev pub invariant-loop-place : goal.invariant-loop-place

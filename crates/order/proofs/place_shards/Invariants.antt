@@ -1,14 +1,6 @@
-use borrow.Author.Rules.{rules}
-use native.Mathlib.Omega.{arith}
-use native.Mathlib.Nat.{zero-mul}
-use Prim.Native.Nat.{ℕ, ◌≤◌, ◌*◌, ◌-◌, ◌+◌, ◌/◌, ◌%◌}
-use mathlib.Core.Path.{◌≡◌, sym, ap, ◌∙◌}
-use mathlib.Core.List.{◌++◌}
-use lib.ListN.{length, get_or, drop}
-use Rattle.rules.specs.Lists.{tab}
-use Rattle.laws.proofs.Fronts.{Filled, fill_start, fill-part, part_length, next-part, part_in}
-use Rattle.order.specs.Order.{words_by_place}
-use Rattle.order.proofs.Loops.{shard-words}
+use Prim.Native.Nat.{◌≤◌, ◌*◌, ◌-◌, ◌+◌, ◌/◌, ◌%◌}
+use lib.ListN.{length, get_or}
+use Rattle.laws.proofs.Fronts.{Filled}
 use Rattle.order.proofs.place_shards.Given as goal
 
 abbrev pub invariant-loop-i : goal.invariant-loop-i

@@ -1,18 +1,17 @@
-use borrow.Author.Rules.{rules}
 use native.Mathlib.Omega.{arith}
-use Prim.Native.Nat.{◌-◌}
-use mathlib.Core.Path.{◌≡◌, refl, sym}
+use mathlib.Core.Path.{refl, sym}
 use mathlib.Core.List.{[]}
-use lib.ListN.{length, length-set, get_or-replicate}
+use lib.ListN.{length-set, get_or-replicate}
 use Rattle.rules.specs.Lists.{mem}
 use Rattle.rules.specs.Limits.{most_devices}
-use Rattle.order.proofs.Loops.{Marked, too-high, again, mark_on, all-marked, wrong-length}
+use Rattle.order.proofs.Loops.{too-high, again, mark_on, all-marked, wrong-length}
 use Rattle.order.proofs.rearranges.Goals as goal
 
 pub returns-then-order-n : goal.returns-then-order-n
 returns-then-order-n c = sym (wrong-length _ _ c.if-order-n.true)
 
 pub loop-i-init : goal.loop-i-init
+unfolding mem
 loop-i-init c = (record { before = []; low = refl; new = refl; told = λ d h. get_or-replicate most_devices d _ _ (omega (arith, c.requires)) }, refl)
 
 pub returns-then-n-device : goal.returns-then-n-device

@@ -1,0 +1,53 @@
+use native.Mathlib.Omega.{arith}
+use Prim.Native.Nat.{ℕ, ◌≤◌, ◌*◌, ◌+◌, ◌/◌, ◌%◌}
+use mathlib.Core.Path.{◌≡◌, ap, ◌∙◌}
+use mathlib.Core.List.{◌++◌}
+use lib.ListN.{length, get_or, drop}
+use Rattle.rules.specs.Lists.{tab}
+use Rattle.laws.proofs.Fronts.{fill-part, next-part, part_in}
+use Rattle.order.specs.Order.{words_by_place}
+use Rattle.order.proofs.Loops.{shard-words}
+use Rattle.order.proofs.place_shards.Goals as goal
+use Rattle.order.proofs.place_shards.Goals.{In-loop-i}
+
+-- the place and the number of the shard are among those of the order, for all of whose shards both buffers have room
+inside : (c : In-loop-i)
+    → (let s = c in
+    let l = c.loop-i in
+    let m = s.args.m in
+    let all = length s.args.order.now * m in
+    (l.i * m + m ≤ all) × (get_or s.args.order.now l.i 0 * m + m ≤ all) × (all ≤ length l.to) × (all ≤ length s.args.from.now))
+inside c =
+    let s = c in
+    let l = c.loop-i in
+    let n = length s.args.order.now in
+    let m = s.args.m in
+    let h = c.loop-i-test.true in (
+      part_in l.i n m (n * m) h (omega arith),
+      part_in (get_or s.args.order.now l.i 0) n m (n * m) (s.requires.below l.i h) (omega arith),
+      omega (arith, s.requires.room, l.invariant.1.size),
+      s.requires.inside,
+    )
+
+pub slice_bounds-copy_shard-end-in-loop-i : goal.slice_bounds-copy_shard-end-in-loop-i
+slice_bounds-copy_shard-end-in-loop-i c = omega (arith, inside ((goal.at.slice_bounds-copy_shard-end-in-loop-i c).In-loop-i))
+
+pub loop-i-preserved : goal.loop-i-preserved
+loop-i-preserved c = let e = c in
+    let l = c in
+    let s = c in
+    let m = s.args.m in
+    let r = c.copy_shard in
+    let u = inside ((goal.at.loop-i-preserved c).In-loop-i) in (
+      omega (arith, e.loop-i-test.true),
+      rw (next-part l.loop-i.i m) (fill-part m l.loop-i.invariant.1 (omega (arith, u, l.loop-i.invariant.1.size)) r.auto.to
+          (r.ensures ∙ shard-words 0 s.args.from.now s.args.order.now l.loop-i.i m (omega (arith, u)))),
+    )
+
+pub returns : goal.returns
+unfolding words_by_place
+returns c = let l = c in
+    let a = l.args in
+    let word : ℕ → ℕ = λ t. get_or a.from.now (get_or a.order.now (t / a.m) 0 * a.m + t % a.m) 0 in
+    let e : l.loop-i.i ≡ length a.order.now = omega (arith, c.loop-i-test.false, l.loop-i.invariant.0) in
+    l.loop-i.invariant.1.front ∙ ap (λ (k : ℕ). tab (k * a.m) word ++ drop (k * a.m) a.to.now) e
