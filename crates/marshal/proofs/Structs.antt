@@ -1,6 +1,6 @@
 -- Laws of C's structs: the six lists, one by one and all, and their places; a step of the library is its record in numbers (`step-numbers`). Assumes nothing.
 use Prim.Native.Nat.{ℕ, zero, suc, ◌+◌, ◌*◌, ◌-◌, ◌/◌, ◌%◌, ◌<◌, ◌≤◌}
-use mathlib.Core.Path.{◌≡◌, refl, sym, ap, ◌∙◌}
+use mathlib.Core.Path.{◌≡◌, refl, ap, ◌∙◌}
 use mathlib.Core.List.{List, [], ◌∷◌, ◌++◌, map, append-nil}
 use borrow.Rule.Slice.PartMut.{put_mid}
 use native.Mathlib.Omega.{arith}
@@ -22,7 +22,6 @@ use Rattle.records.specs.RoundTrip.{ShortLists, ShortSharding, ShortStep, AllSho
 use Rattle.records.specs.PlanAnswer.{step_with, step_record_of}
 use Rattle.records.specs.PlanAnswer as planner
 use Rattle.marshal.specs.Structs.{places, lists_of, list_of, axis_in, sharding_reply, step_reply, blank_step, kind_byte, step_numbers}
-use Rattle.marshal.specs.declared.StepReply.{StepReply}
 
 pub list-unreduced : (s : Sharding) (d : ℕ) → d ≡ most_dims → s.unreduced ≡ list_of s d
 list-unreduced s d e = rw e refl
