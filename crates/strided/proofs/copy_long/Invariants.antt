@@ -1,12 +1,6 @@
-use native.Mathlib.Omega.{arith}
-use native.Mathlib.Nat.{zero-mul, le-mul_of_pos_right}
-use Prim.Native.Nat.{◌≤◌, ◌<◌, ◌*◌, ◌-◌, ◌+◌, ◌/◌, ◌%◌}
-use mathlib.Core.Path.{◌≡◌, ◌∙◌}
-use lib.ListN.{length, get_or}
-use Rattle.laws.proofs.Fronts.{next-part, part_in}
-use Rattle.strided.specs.Strided.{rows}
-use Rattle.laws.proofs.Fronts.{Filled, fill_start, fill-part, fill_end, part_length}
-use Rattle.strided.proofs.Laws.{row_words}
+use Prim.Native.Nat.{◌≤◌, ◌*◌, ◌-◌, ◌+◌, ◌/◌, ◌%◌}
+use lib.ListN.{get_or}
+use Rattle.laws.proofs.Fronts.{Filled}
 use Rattle.strided.proofs.copy_long.Given as goal
 
 abbrev pub invariant-loop-i : goal.invariant-loop-i

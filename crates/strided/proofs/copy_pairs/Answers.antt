@@ -1,8 +1,8 @@
 use native.Mathlib.Omega.{arith}
-use Prim.Native.Nat.{◌≤◌, ◌<◌, ◌*◌, ◌-◌, ◌+◌, ◌/◌, ◌%◌}
+use Prim.Native.Nat.{◌≤◌, ◌<◌, ◌*◌, ◌+◌}
 use mathlib.Core.Path.{◌≡◌}
-use lib.ListN.{length, get_or, length-set}
-use Rattle.laws.proofs.Fronts.{Filled, fill_start, fill-word, fill_end}
+use lib.ListN.{length}
+use Rattle.laws.proofs.Fronts.{fill-word, fill_end}
 use Rattle.strided.specs.Strided.{rows}
 use Rattle.strided.proofs.Laws.{pair-first, pair-second}
 use Rattle.strided.proofs.copy_pairs.Goals as goal
@@ -23,6 +23,7 @@ inside c =
     )
 
 pub loop-i-preserved : goal.loop-i-preserved
+unfolding rows
 loop-i-preserved c = let l = c in
     let a = l.args in
     let u = inside ((goal.at.loop-i-preserved c).In-loop-i) in
@@ -33,4 +34,5 @@ loop-i-preserved c = let l = c in
     )
 
 pub returns : goal.returns
+unfolding rows
 returns c = fill_end c.loop-i.invariant.1 (omega (arith, c.requires.whole, c.loop-i-test.false))

@@ -1,10 +1,6 @@
-use native.Mathlib.Omega.{arith}
-use Prim.Native.Nat.{◌≤◌, ◌<◌, ◌*◌, ◌-◌, ◌+◌, ◌/◌, ◌%◌}
-use mathlib.Core.Path.{◌≡◌}
-use lib.ListN.{length, get_or, length-set}
-use Rattle.laws.proofs.Fronts.{Filled, fill_start, fill-word, fill_end}
-use Rattle.strided.specs.Strided.{rows}
-use Rattle.strided.proofs.Laws.{pair-first, pair-second}
+use Prim.Native.Nat.{◌≤◌, ◌*◌, ◌-◌, ◌+◌, ◌/◌, ◌%◌}
+use lib.ListN.{get_or}
+use Rattle.laws.proofs.Fronts.{Filled}
 use Rattle.strided.proofs.copy_pairs.Given as goal
 
 abbrev pub invariant-loop-i : goal.invariant-loop-i

@@ -1,12 +1,7 @@
-use native.Mathlib.Omega.{arith}
-use native.Mathlib.Nat.{zero-mul}
-use Prim.Native.Nat.{ℕ, ◌≤◌, ◌*◌, ◌-◌, ◌+◌}
-use mathlib.Core.Path.{◌≡◌, refl, ◌∙◌}
-use mathlib.Core.List.{List}
-use lib.ListN.{length, get_or, drop}
-use Rattle.laws.proofs.Fronts.{Filled, fill_start, fill-part, fill_end, part_length, next-part}
-use Rattle.strided.specs.Strided.{Copy, offset, plane_digits, copied}
-use Rattle.strided.proofs.Laws.{Turn, turn, turn-places, rows_in, rows_are}
+use Prim.Native.Nat.{◌≤◌, ◌*◌, ◌-◌, ◌+◌}
+use lib.ListN.{get_or}
+use Rattle.laws.proofs.Fronts.{Filled}
+use Rattle.strided.specs.Strided.{offset, plane_digits}
 use Rattle.strided.proofs.copy_planes.Given as goal
 
 abbrev pub invariant-loop-i : goal.invariant-loop-i

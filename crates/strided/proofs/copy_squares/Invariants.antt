@@ -1,11 +1,7 @@
-use native.Mathlib.Omega.{arith}
 use Prim.Native.Nat.{◌≤◌, ◌*◌, ◌-◌, ◌+◌}
-use mathlib.Core.Path.{◌≡◌}
-use lib.ListN.{length, get_or, length-set}
-use Rattle.laws.proofs.Fronts.{Filled, fill_start, fill_end}
-use Rattle.strided.specs.Strided.{offset, plane_digits, copied}
-use Rattle.strided.proofs.Laws.{fill-four}
-use Rattle.strided.proofs.Leaves.{Square, square, square-words}
+use lib.ListN.{get_or}
+use Rattle.laws.proofs.Fronts.{Filled}
+use Rattle.strided.specs.Strided.{offset, plane_digits}
 use Rattle.strided.proofs.copy_squares.Given as goal
 
 abbrev pub invariant-loop-i : goal.invariant-loop-i

@@ -1,8 +1,6 @@
-use borrow.Author.Rules.{rules}
-use native.Mathlib.Omega.{arith}
-use mathlib.Core.Path.{◌≡◌, refl, ◌∙◌}
+use mathlib.Core.Path.{◌≡◌}
 use lib.ListN.{length}
-use Rattle.strided.proofs.Joins.{Made, made-start, digit-left, put-asked, made-step, made-done}
+use Rattle.strided.proofs.Joins.{Made}
 use Rattle.strided.proofs.join_digits.Given as goal
 
 abbrev pub invariant-loop-i : goal.invariant-loop-i

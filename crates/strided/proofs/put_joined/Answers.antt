@@ -1,12 +1,11 @@
-use borrow.Author.Rules.{rules}
 use native.Mathlib.Omega.{arith}
-use Rattle.strided.proofs.Joins.{end_fits, sizes-fit, put-over, put-none, put_one, put-before}
+use Rattle.strided.proofs.Joins.{end_fits, sizes-fit, put-over, put-none, put_one}
 use Rattle.strided.proofs.put_joined.Goals as goal
 
 pub returns-then-next-eq1 : goal.returns-then-next-eq1
 returns-then-next-eq1 c = let r = c.put_digit in
     let s = c in
-    put-over s.requires r.new.0 c.if-next-eq1.true r.ensures
+    put-over s.requires r.new.digits c.if-next-eq1.true r.ensures
 
 pub returns-then-size-eq1 : goal.returns-then-size-eq1
 returns-then-size-eq1 c = put-none c.requires c.if-size-eq1.true

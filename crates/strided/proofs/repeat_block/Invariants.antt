@@ -1,12 +1,7 @@
-use borrow.Author.Rules.{rules}
-use native.Mathlib.Omega.{arith}
-use native.Mathlib.Nat.{mod_self}
 use Prim.Native.Nat.{◌<◌, ◌-◌, ◌%◌}
 use mathlib.Core.Path.{◌≡◌}
 use lib.ListN.{length, get_or}
-use Rattle.laws.proofs.Fronts.{Filled, fill_end}
-use Rattle.strided.specs.Strided.{Part, repeated}
-use Rattle.strided.proofs.Repeats.{repeat-start, repeat-part, whole-left, whole-more}
+use Rattle.laws.proofs.Fronts.{Filled}
 use Rattle.strided.proofs.repeat_block.Given as goal
 
 abbrev pub invariant-loop-done : goal.invariant-loop-done

@@ -1,9 +1,6 @@
-use native.Mathlib.Omega.{arith}
 use Prim.Native.Nat.{◌≤◌, ◌-◌, ◌%◌}
 use lib.ListN.{length, get_or}
-use Rattle.strided.specs.Strided.{repeated}
-use Rattle.laws.proofs.Fronts.{Filled, fill-word, fill_end}
-use Rattle.strided.proofs.Repeats.{repeat-start, repeat-word}
+use Rattle.laws.proofs.Fronts.{Filled}
 use Rattle.strided.proofs.repeat_words.Given as goal
 
 abbrev pub invariant-loop-t : goal.invariant-loop-t
