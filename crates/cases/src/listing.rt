@@ -7,6 +7,7 @@ use super::input::{MOST, next_number, read_axes, read_mesh, read_order};
 use super::printing::{print_next, print_numbers, print_text};
 use answer::print_refusal;
 use ishkrela::{GroupsOutcome, groups, groups_ordered};
+use std::io::Read;
 
 // The output before the call: 9999 is no device of any mesh.
 fn blank() -> [u16; MOST]
@@ -16,41 +17,42 @@ fn blank() -> [u16; MOST]
 }
 
 // Prints what the call answered and left.
-fn print_outcome(outcome: GroupsOutcome, out: &[u16]) {
+fn print_outcome(rt: &impl Print, outcome: GroupsOutcome, out: &[u16]) {
     match outcome {
         GroupsOutcome::Listed(devices) => {
-            print_text(b"ok");
-            print_next(devices as u64);
-            print_numbers(out);
-            print_text(b"\n");
+            print_text(rt, b"ok");
+            print_next(rt, devices as u64);
+            print_numbers(rt, out);
+            print_text(rt, b"\n");
         }
         GroupsOutcome::Refused(refusal) => {
-            print_refusal(refusal);
+            print_refusal(rt, refusal);
         }
     }
 }
 
-fn answer_groups(mesh: &[u16], axes: &[u8], out: &mut [u16]) {
+fn answer_groups(rt: &impl Print, mesh: &[u16], axes: &[u8], out: &mut [u16]) {
     let outcome = groups(mesh, axes, out);
-    print_outcome(outcome, out);
+    print_outcome(rt, outcome, out);
 }
 
-fn answer_ordered(mesh: &[u16], order: &[u16], axes: &[u8], out: &mut [u16]) {
+fn answer_ordered(rt: &impl Print, mesh: &[u16], order: &[u16], axes: &[u8], out: &mut [u16]) {
     let outcome = groups_ordered(mesh, order, axes, out);
-    print_outcome(outcome, out);
+    print_outcome(rt, outcome, out);
 }
 
 // Reads a case by an order and answers it.
-pub(crate) fn answer_ordered_case() {
+pub(crate) fn answer_ordered_case(rt: &impl Print, input: &mut impl Read) {
     let mut mesh = [0u16; 256];
-    let n = read_mesh(&mut mesh) as usize;
+    let n = read_mesh(input, &mut mesh) as usize;
     let mut order = blank();
-    let devices = read_order(&mut order) as usize;
+    let devices = read_order(input, &mut order) as usize;
     let mut axes = [0u8; 256];
-    let named = read_axes(&mut axes) as usize;
+    let named = read_axes(input, &mut axes) as usize;
     let mut out = blank();
-    let length = next_number() as usize;
+    let length = next_number(input) as usize;
     answer_ordered(
+        rt,
         &mesh[0..n],
         &order[0..devices],
         &axes[0..named],
@@ -59,12 +61,12 @@ pub(crate) fn answer_ordered_case() {
 }
 
 // Reads a case and answers it.
-pub(crate) fn answer_case() {
+pub(crate) fn answer_case(rt: &impl Print, input: &mut impl Read) {
     let mut mesh = [0u16; 256];
-    let n = read_mesh(&mut mesh) as usize;
+    let n = read_mesh(input, &mut mesh) as usize;
     let mut axes = [0u8; 256];
-    let named = read_axes(&mut axes) as usize;
+    let named = read_axes(input, &mut axes) as usize;
     let mut out = blank();
-    let length = next_number() as usize;
-    answer_groups(&mesh[0..n], &axes[0..named], &mut out[0..length]);
+    let length = next_number(input) as usize;
+    answer_groups(rt, &mesh[0..n], &axes[0..named], &mut out[0..length]);
 }

@@ -10,25 +10,27 @@ mod printing;
 mod running;
 
 use input::next_byte;
+use std::io::Read;
 
 // Whether there was one more case of one of these calls; it is answered. Past the end of the input the byte is 0.
-fn one_case() -> bool {
-    let call = next_byte();
+fn one_case(rt: &impl Print, input: &mut impl Read) -> bool {
+    let call = next_byte(input);
     match call {
-        1 => check::answer_case(),
-        2 => placement::answer_case(),
-        3 => listing::answer_case(),
-        4 => running::answer_case(),
-        5 => listing::answer_ordered_case(),
+        1 => check::answer_case(rt, input),
+        2 => placement::answer_case(rt, input),
+        3 => listing::answer_case(rt, input),
+        4 => running::answer_case(rt, input),
+        5 => listing::answer_ordered_case(rt, input),
         _ => return false,
     }
     true
 }
 
 // A proved loop has to end, so it counts down from a number that no run uses up.
-fn main() {
+fn main(rt: HostRuntime) {
+    let mut input = rt.stdin();
     let mut turns = u64::MAX;
-    while turns > 0 && one_case() {
+    while turns > 0 && one_case(&rt, &mut input) {
         turns -= 1;
     }
 }

@@ -1,96 +1,97 @@
 // Printing: text, numbers after each other on a line, and lists in brackets.
+// A write that fails is let go.
+use answer::print_number;
 use ishkrela::{Axis, AxisList, Dim, DimLists};
-use libc::STDOUT_FILENO;
 
-pub(crate) fn print_text(text: &[u8]) {
-    io::write_all(STDOUT_FILENO, text);
+pub(crate) fn print_text(rt: &impl Print, text: &[u8]) {
+    let _ = rt.write_all(text);
 }
 
 // Prints a number after a space.
-pub(crate) fn print_next(n: u64) {
-    print_text(b" ");
-    io::print_decimal(STDOUT_FILENO, n);
+pub(crate) fn print_next(rt: &impl Print, n: u64) {
+    print_text(rt, b" ");
+    print_number(rt, n);
 }
 
 // Prints each number after a space.
-pub(crate) fn print_numbers(numbers: &[u16]) {
+pub(crate) fn print_numbers(rt: &impl Print, numbers: &[u16]) {
     for i in 0..numbers.len() {
-        print_next(numbers[i] as u64);
+        print_next(rt, numbers[i] as u64);
     }
 }
 
 // Prints each word after a space.
-pub(crate) fn print_words(words: &[u32]) {
+pub(crate) fn print_words(rt: &impl Print, words: &[u32]) {
     for i in 0..words.len() {
-        print_next(words[i] as u64);
+        print_next(rt, words[i] as u64);
     }
 }
 
 // Between the entries of a list.
-fn print_comma(i: usize) {
+fn print_comma(rt: &impl Print, i: usize) {
     if 0 < i {
-        print_text(b", ");
+        print_text(rt, b", ");
     }
 }
 
-fn print_axis(list: AxisList, i: usize) {
+fn print_axis(rt: &impl Print, list: AxisList, i: usize) {
     if i < list.len() {
-        print_comma(i);
+        print_comma(rt, i);
         let axis = list.at(i);
-        io::print_decimal(STDOUT_FILENO, axis.0 as u64);
+        print_number(rt, axis.0 as u64);
     }
 }
 
-fn print_axes(list: AxisList) {
+fn print_axes(rt: &impl Print, list: AxisList) {
     for i in 0..Axis::MOST {
-        print_axis(list, i);
+        print_axis(rt, list, i);
     }
 }
 
 // Prints an axis list.
-pub(crate) fn print_list(list: AxisList) {
-    print_text(b"[");
-    print_axes(list);
-    print_text(b"]");
+pub(crate) fn print_list(rt: &impl Print, list: AxisList) {
+    print_text(rt, b"[");
+    print_axes(rt, list);
+    print_text(rt, b"]");
 }
 
 // Nothing past the rank, here and below.
-fn print_dim(lists: DimLists, rank: usize, i: usize) {
+fn print_dim(rt: &impl Print, lists: DimLists, rank: usize, i: usize) {
     if i < rank && i < Dim::MOST {
-        print_comma(i);
-        print_list(lists.at(Dim(i as u8)));
+        print_comma(rt, i);
+        print_list(rt, lists.at(Dim(i as u8)));
     }
 }
 
-fn print_dims(lists: DimLists, rank: usize) {
+fn print_dims(rt: &impl Print, lists: DimLists, rank: usize) {
     for i in 0..Dim::MOST {
-        print_dim(lists, rank, i);
+        print_dim(rt, lists, rank, i);
     }
 }
 
 // Prints the lists of the dimensions.
-pub(crate) fn print_lists(lists: DimLists, rank: usize) {
-    print_text(b"[");
-    print_dims(lists, rank);
-    print_text(b"]");
+pub(crate) fn print_lists(rt: &impl Print, lists: DimLists, rank: usize) {
+    print_text(rt, b"[");
+    print_dims(rt, lists, rank);
+    print_text(rt, b"]");
 }
 
-fn print_size(sizes: [u16; Dim::MOST], rank: usize, i: usize) {
+fn print_size(rt: &impl Print, sizes: [u16; Dim::MOST], rank: usize, i: usize) {
     if i < rank && i < Dim::MOST {
-        print_comma(i);
-        io::print_decimal(STDOUT_FILENO, sizes[i] as u64);
+        print_comma(rt, i);
+        print_number(rt, sizes[i] as u64);
     }
 }
 
-fn print_each(sizes: [u16; Dim::MOST], rank: usize) {
+fn print_each(rt: &impl Print, sizes: [u16; Dim::MOST], rank: usize) {
     for i in 0..Dim::MOST {
-        print_size(sizes, rank, i);
+        print_size(rt, sizes, rank, i);
     }
 }
 
 // Prints sizes or indexes, one for each dimension.
-pub(crate) fn print_sizes(sizes: [u16; Dim::MOST], rank: usize) {
-    print_text(b"[");
-    print_each(sizes, rank);
-    print_text(b"]");
+pub(crate) fn print_sizes(rt: &impl Print, sizes: [u16; Dim::MOST], rank: usize) {
+    print_text(rt, b"[");
+    print_each(rt, sizes, rank);
+    print_text(rt, b"]");
 }

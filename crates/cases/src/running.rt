@@ -2,10 +2,11 @@
 // more all words of work and of spare after the call, refused or not.
 ghost use Rattle.std.specs.Prelude.{◌≡◌, length};
 
-use super::input::{MOST, read_file, read_words};
+use super::input::{MOST, file_buffer, read_file, read_words};
 use super::printing::{print_text, print_words};
 use answer::print_refusal;
 use ishkrela::{RunOutcome, run};
+use std::io::Read;
 
 fn buffer() -> [u32; MOST]
     ensures { 65536 ≡ length result }
@@ -13,39 +14,44 @@ fn buffer() -> [u32; MOST]
     [0; MOST]
 }
 
-fn print_outcome(outcome: RunOutcome) {
+fn print_outcome(rt: &impl Print, outcome: RunOutcome) {
     match outcome {
         RunOutcome::Finished => {
-            print_text(b"ok\n");
+            print_text(rt, b"ok\n");
         }
         RunOutcome::Refused(refusal) => {
-            print_refusal(refusal);
+            print_refusal(rt, refusal);
         }
     }
 }
 
-fn print_buffer(name: &[u8], words: &[u32]) {
-    print_text(name);
-    print_words(words);
-    print_text(b"\n");
+fn print_buffer(rt: &impl Print, name: &[u8], words: &[u32]) {
+    print_text(rt, name);
+    print_words(rt, words);
+    print_text(rt, b"\n");
 }
 
 // Makes the call and prints what it answers and leaves.
-fn answer_run(file: &[u8], work: &mut [u32], spare: &mut [u32]) {
+fn answer_run(rt: &impl Print, file: &[u8], work: &mut [u32], spare: &mut [u32]) {
     let ran = run(file, work, spare);
     let outcome = ran.outcome;
-    print_outcome(outcome);
-    print_buffer(b"work", work);
-    print_buffer(b"spare", spare);
+    print_outcome(rt, outcome);
+    print_buffer(rt, b"work", work);
+    print_buffer(rt, b"spare", spare);
 }
 
 // Reads a case and answers it.
-pub(crate) fn answer_case() {
-    let mut file = io::large_buffer();
-    let n = read_file(&mut file) as usize;
+pub(crate) fn answer_case(rt: &impl Print, input: &mut impl Read) {
+    let mut file = file_buffer();
+    let n = read_file(input, &mut file) as usize;
     let mut work = buffer();
-    let in_work = read_words(&mut work) as usize;
+    let in_work = read_words(input, &mut work) as usize;
     let mut spare = buffer();
-    let in_spare = read_words(&mut spare) as usize;
-    answer_run(&file[0..n], &mut work[0..in_work], &mut spare[0..in_spare]);
+    let in_spare = read_words(input, &mut spare) as usize;
+    answer_run(
+        rt,
+        &file[0..n],
+        &mut work[0..in_work],
+        &mut spare[0..in_spare],
+    );
 }

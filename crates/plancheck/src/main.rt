@@ -1,33 +1,46 @@
 // `plancheck < FILE`: reads one plan file from standard input into a cleared buffer and prints the outcome.
 #![tactic(auto)]
 
-use answer::{print_answer, print_refusal};
-use libc::{STDERR_FILENO, STDIN_FILENO};
+use answer::{print_answer, print_refusal, read_full};
+use std::env::FillError;
+use std::io::Read;
+use std::rt::Env;
 use types::{PlanFile, Reason, Refusal};
 
-fn main() {
-    // The first argument is the program's own name.
-    if 1 < os::arg_count() {
-        io::write_all(
-            STDERR_FILENO,
-            b"plancheck reads standard input and takes no argument: plancheck < FILE\n",
+fn main(rt: HostRuntime) {
+    if has_argument(&rt) {
+        let _ = rt.eprintln(
+            "plancheck reads standard input and takes no argument: plancheck < FILE",
         );
         return;
     }
+    let mut input = rt.stdin();
     let mut buffer = [0u8; PlanFile::MOST];
-    let n = io::read_full(STDIN_FILENO, &mut buffer);
-    if n == PlanFile::MOST && more_input() {
-        print_refusal(Refusal {
-            reason: Reason::FileTooLong,
-            step: 0,
-        });
+    let n = read_full(&mut input, &mut buffer);
+    if n == PlanFile::MOST && more_input(&mut input) {
+        print_refusal(
+            &rt,
+            Refusal {
+                reason: Reason::FileTooLong,
+                step: 0,
+            },
+        );
         return;
     }
-    print_answer(&buffer[..n]);
+    print_answer(&rt, &buffer[..n]);
+}
+
+// Argument 0 is the program's own name. One that doesn't fit the buffer is there too.
+fn has_argument(rt: &impl Env) -> bool {
+    let mut text = [0u8; 1];
+    match rt.arg(1, &mut text) {
+        Err(FillError::NotPresent) => false,
+        _ => true,
+    }
 }
 
 // One byte past a full buffer tells a longer input from one that just fits.
-fn more_input() -> bool {
+fn more_input(input: &mut impl Read) -> bool {
     let mut more = [0u8; 1];
-    0 < io::read_full(STDIN_FILENO, &mut more)
+    0 < read_full(input, &mut more)
 }
