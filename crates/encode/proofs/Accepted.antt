@@ -11,8 +11,6 @@ use lib.Seq.{length-take-le}
 use Rattle.rules.specs.Lists.{tab, pick}
 use Rattle.rules.specs.Limits.{most_axes, most_devices, most_dims, most_words, most_steps, every_kind}
 use Rattle.rules.specs.Mesh.{devices}
-use Rattle.rules.specs.Sharding.{Sharding}
-use Rattle.rules.specs.Collectives.{Step}
 use Rattle.rules.specs.Refusals.{accept}
 use Rattle.rules.specs.PlanFile.{axes_allowed, rank_allowed, judge_sizes, kind_of, Record, repeat, Plan, outermost_at}
 use Rattle.types.specs.declared.DimLists.{DimLists}
@@ -35,7 +33,6 @@ use Rattle.records.proofs.Short.{counts-short, outermost-short}
 use Rattle.records.proofs.Accepting.{sharding-facts}
 use Rattle.encode.specs.Putting.{ShortSteps, Encodable}
 use Rattle.encode.proofs.Counting.{given-length}
-use Rattle.rules.specs.PlanFile as plan
 use Rattle.types.specs.Types.{kind_from}
 
 -- ---- records have a list for each dimension
