@@ -1,2 +1,3 @@
 -- The laws of the boundary.
 pub mod Replies
+pub mod Worked

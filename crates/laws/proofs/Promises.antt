@@ -1,15 +1,15 @@
 -- The rules' own promises (`rules-promise`). Assumes nothing.
-use Rattle.rules.specs.Ledger as table
-use Rattle.rules.specs.WorkedRefusals as files
-use Rattle.rules.specs.WorkedGroups as small
-use Rattle.rules.specs.WorkedLimits as sizes
-use Rattle.rules.specs.WorkedEditions as later
-use Rattle.rules.specs.WorkedOrders as cabled
-use Rattle.rules.specs.WorkedRepeats as repeated
-use Rattle.rules.specs.WorkedScatters as scattered
-use Rattle.rules.specs.WorkedFactors as factored
-use Rattle.rules.specs.WorkedRoutes as routed
-use Rattle.rules.specs.WorkedMoves as moves
+use Rattle.rules.proofs.Ledger as table
+use Rattle.rules.proofs.WorkedRefusals as files
+use Rattle.rules.proofs.WorkedGroups as small
+use Rattle.rules.proofs.WorkedLimits as sizes
+use Rattle.rules.proofs.WorkedEditions as later
+use Rattle.rules.proofs.WorkedOrders as cabled
+use Rattle.rules.proofs.WorkedRepeats as repeated
+use Rattle.rules.proofs.WorkedScatters as scattered
+use Rattle.rules.proofs.WorkedFactors as factored
+use Rattle.rules.proofs.WorkedRoutes as routed
+use Rattle.rules.proofs.WorkedMoves as moves
 use Rattle.laws.specs.Promises.{RulesPromise}
 use Rattle.laws.proofs.Whole as whole
 use Rattle.laws.proofs.Judging as judging

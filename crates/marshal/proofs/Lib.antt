@@ -1,2 +1,3 @@
 -- The laws of C's structs.
 pub mod Structs
+pub mod StructsShown

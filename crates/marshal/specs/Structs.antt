@@ -80,15 +80,6 @@ blank_step = record { kind = 0; source = 0; target = 0; counts = replicate 5 0; 
 abbrev pub reply_bytes : StepReply → List ℕ
 reply_bytes r = r.kind ∷ r.source ∷ r.target ∷ (r.counts ++ r.axes)
 
-pub reply-record : (g : Record) → reply_bytes (step_reply g) ≡ record_of g
-unfolding record_of
-reply-record (plain (all_slice Ss)) = refl
-reply-record (plain (all_gather Gs)) = refl
-reply-record (plain (all_reduce L)) = refl
-reply-record (plain (all_to_all source target L)) = refl
-reply-record (plain (reduce_scatter Ss)) = refl
-reply-record (repeat count number) = refl
-
 -- the same numbers, from a step of the library: its lists by dimension and its one list are the first five of a sharding's
 abbrev pub kind_byte : Kind → ℕ
 kind_byte AllSlice = 1

@@ -38,13 +38,6 @@ moved_first z mesh L Gs Ss shape old = tabulate mesh (moved_shape mesh shape Gs 
 abbrev pub first_buffer : {W : Type 0} → W → (mesh shape L : List ℕ) → (Gs Ss : List (List ℕ)) → ℕ → (old new : List W) → List W
 first_buffer z mesh shape L Gs Ss words old new = moved_first z mesh L Gs Ss shape old ++ drop (devices mesh * words) new
 
--- Four devices, groups along the first axis, the shards halved along it: the devices 0 and 2 have the halves of device 0's shard, 1 and 3 those of
--- device 1's.
-first-case : first_buffer {W = ℕ} 0 (2 ∷ 2 ∷ []) (2 ∷ []) (0 ∷ []) ([] ∷ []) ((0 ∷ []) ∷ []) 1 (10 ∷ 11 ∷ 20 ∷ 21 ∷ 30 ∷ 31 ∷ 40 ∷ 41 ∷ []) (1 ∷ 2 ∷ 3 ∷ 4 ∷ 5 ∷ [])
-    ≡ 10 ∷ 20 ∷ 11 ∷ 21 ∷ 5 ∷ []
-unfolding tabulate held
-first-case = refl
-
 -- ---- its digits
 
 -- the strides that are left where each dimension's gathered axes are cleared

@@ -2,3 +2,4 @@
 pub mod Firsts
 pub mod Promises
 pub mod States
+pub mod WorkedPlaceAll

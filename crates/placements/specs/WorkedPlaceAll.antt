@@ -83,9 +83,3 @@ cases =
     ∷ refuses w1 0 (9 ∷ []) 2 32 0 0
     ∷ refuses w1 0 (0 ∷ 1 ∷ 2 ∷ 3 ∷ 4 ∷ []) 12 32 0 4
     ∷ []
-
-pub worked : All Holds cases
-unfolding file_in file_of place_all_leaves placed_before reason_of
-worked =
-    (refl, refl) & (refl, refl) & (refl, refl) & (refl, refl) & (refl, refl) & (refl, refl) & (refl, refl) & (refl, refl) & (refl, refl) & (refl, refl)
-    & (refl, refl) & (refl, refl) & (refl, refl) & (refl, refl) & (refl, refl) & (refl, refl) & (refl, refl) & (refl, refl) & done

@@ -16,3 +16,6 @@ pub mod Cutting
 pub mod Accepting
 pub mod Arrives
 pub mod Promises
+pub mod WorkedPlans
+pub mod WorkedReading
+pub mod WorkedRecords

@@ -10,8 +10,8 @@ use Rattle.rules.specs.Refusals.{Judged, accept, refuse, ◌>>◌, need}
 use Rattle.records.specs.Records.{file_length}
 use Rattle.records.specs.Writing.{write_of}
 use Rattle.records.specs.RoundTrip.{RecordsPromise}
-use Rattle.records.specs.WorkedReading as reading
-use Rattle.records.specs.WorkedRecords as worked
+use Rattle.records.proofs.WorkedReading as reading
+use Rattle.records.proofs.WorkedRecords as worked
 use Rattle.records.specs.WorkedRecords.{PastLimit, WorkedPromise}
 use Rattle.records.proofs.Written as written
 use Rattle.records.proofs.Readback as back

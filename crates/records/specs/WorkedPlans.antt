@@ -1,33 +1,26 @@
 -- Answers of the planner, every place of them as the code holds it: a plan of all three steps, one of a single step, start equal to goal, and a refused one.
 -- Assumes nothing.
-use Rattle.std.specs.Prelude.{ℕ, ◌≡◌, refl, List, [], ◌∷◌, map}
-use Rattle.types.specs.Types.{list_from, lists_from}
-use Rattle.types.specs.Answers.{reason_of}
+use Rattle.std.specs.Prelude.{ℕ, List, [], ◌∷◌, map}
 use Rattle.types.specs.declared.AxisList.{AxisList}
 use Rattle.types.specs.declared.Kind.{Kind}
-use Rattle.types.specs.declared.Kind.TheVariants.{AllSlice, AllGather, AllReduce, Unknown}
-use Rattle.types.specs.declared.Reason.TheVariants.{GoalOutOfReach}
+use Rattle.types.specs.declared.Kind.TheVariants.{Unknown}
 use Rattle.types.specs.declared.Sharding.{Sharding}
 use Rattle.types.specs.declared.Step.{Step}
-use Rattle.records.specs.Forms.{list_given, dims_given}
-use Rattle.records.specs.Planning.{plan_steps, plan_of}
-use Rattle.records.specs.PlanAnswer.{steps_from, steps_planned, planned_of}
-use Rattle.records.specs.declared.PlanOutcome.TheVariants as outcome
 
-abbrev list : (count : ℕ) → List ℕ → AxisList
+abbrev pub list : (count : ℕ) → List ℕ → AxisList
 list count places = record { count = count; axes = map (λ (a : ℕ). record { 0 = a }) places }
 
-abbrev none : AxisList
+abbrev pub none : AxisList
 none = list 0 (0 ∷ 0 ∷ 0 ∷ 0 ∷ 0 ∷ 0 ∷ [])
 
-abbrev single : ℕ → AxisList
+abbrev pub single : ℕ → AxisList
 single a = list 1 (a ∷ 0 ∷ 0 ∷ 0 ∷ 0 ∷ 0 ∷ [])
 
-abbrev sharded : (first second : AxisList) → (unreduced replicated : AxisList) → Sharding
+abbrev pub sharded : (first second : AxisList) → (unreduced replicated : AxisList) → Sharding
 sharded first second unreduced replicated = record { dims = record { 0 = first ∷ second ∷ none ∷ none ∷ [] }; unreduced = unreduced; replicated = replicated }
 
 -- a step with two lists by dimension, and one with its one list
-abbrev step : Kind → (first second one : AxisList) → Step
+abbrev pub step : Kind → (first second one : AxisList) → Step
 step kind first second one = record {
   kind = kind;
   source = record { 0 = 0 };
@@ -36,35 +29,5 @@ step kind first second one = record {
   list = one;
 }
 
-abbrev blank_step : Step
+abbrev pub blank_step : Step
 blank_step = step Unknown none none none
-
--- mesh 2x2, table 4x4
-pub answers :
-    -- rows split over axis 0, parts of a sum along axis 1; the goal has columns split over both
-    (planned_of (steps_planned (2 ∷ 2 ∷ []) [] (4 ∷ 4 ∷ []) (sharded (single 0) none (single 1) none)
-    (sharded none (list 2 (0 ∷ 1 ∷ 0 ∷ 0 ∷ 0 ∷ 0 ∷ [])) none none)) ≡ record {
-      outcome = outcome.Made;
-      plan = record {
-        count = 3;
-        steps = step AllReduce none none (single 1)
-            ∷ step AllGather (single 0) none none
-            ∷ step AllSlice none (list 2 (0 ∷ 1 ∷ 0 ∷ 0 ∷ 0 ∷ 0 ∷ [])) none
-            ∷ [];
-      };
-    })
-    -- from the start to the goal: a gather alone one way, a slice alone the other
-    × (planned_of (steps_planned (2 ∷ 2 ∷ []) [] (4 ∷ 4 ∷ []) (sharded none (single 1) none none) (sharded none none none none))
-    ≡ record { outcome = outcome.Made; plan = record { count = 1; steps = step AllGather none (single 1) none ∷ blank_step ∷ blank_step ∷ [] } })
-    × (planned_of (steps_planned (2 ∷ 2 ∷ []) [] (4 ∷ 4 ∷ []) (sharded none none none none) (sharded none (single 1) none none))
-    ≡ record { outcome = outcome.Made; plan = record { count = 1; steps = step AllSlice none (single 1) none ∷ blank_step ∷ blank_step ∷ [] } })
-    -- start equal to goal
-    × (planned_of (steps_planned (2 ∷ 2 ∷ []) [] (4 ∷ 4 ∷ []) (sharded (single 0) none none none) (sharded (single 0) none none none))
-    ≡ record { outcome = outcome.Made; plan = record { count = 0; steps = blank_step ∷ blank_step ∷ blank_step ∷ [] } })
-    -- 40, with no step in any place
-    × (planned_of (steps_planned (2 ∷ 2 ∷ []) [] (4 ∷ 4 ∷ []) (sharded (single 0) none none none) (sharded none none (single 1) none)) ≡ record {
-      outcome = outcome.Refused (record { reason = GoalOutOfReach; step = 0 });
-      plan = record { count = 0; steps = blank_step ∷ blank_step ∷ blank_step ∷ [] };
-    })
-unfolding plan_of plan_steps list_given dims_given list_from lists_from steps_from reason_of
-answers = (refl, refl, refl, refl, refl)

@@ -1,8 +1,5 @@
 -- Worked calls of the reading call: every place of its answer, and what the two lent lists hold after it. Assumes nothing.
-use Rattle.std.specs.Prelude.{ℕ, ◌≡◌, refl, List, [], ◌∷◌, ◌++◌, map, take, replicate}
-use Rattle.rules.specs.Lists.{All, done, ◌&◌}
-use Rattle.types.specs.Answers.{reason_of}
-use Rattle.types.specs.Types.{lists_from}
+use Rattle.std.specs.Prelude.{ℕ, ◌≡◌, List, [], ◌∷◌, ◌++◌, map, take, replicate}
 use Rattle.rules.specs.Ledger.{w1, nines}
 use Rattle.types.specs.declared.AxisList.{AxisList}
 use Rattle.types.specs.declared.Sharding as code
@@ -189,9 +186,3 @@ reads =
     ∷ refused no_tail [] [] NotTail 1
     ∷ refused (nines 17) (nines 2) (nines 40) FileTooShort 0
     ∷ []
-
-pub read_as : All Holds reads
-unfolding reason_of lists_from read_of read_leaves_order read_leaves_steps
-read_as =
-    refl & refl & refl & refl & refl & refl & refl & refl & refl & refl & refl & refl
-    & refl & refl & refl & refl & refl & done

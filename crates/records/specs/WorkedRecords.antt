@@ -1,7 +1,7 @@
 -- Document 02, Asks 2 and 10: what is written of records, what the arguments of the calls stand for, and the plans from one sharding to another, as
 -- tables in the form of the ledger. Every refused write but 35 is into a buffer that is too short as well. Assumes nothing.
-use Rattle.std.specs.Prelude.{ℕ, zero, suc, ◌+◌, ◌<◌, ◌≡◌, refl, List, [], ◌∷◌, ◌++◌, map, length, take, replicate}
-use Rattle.rules.specs.Lists.{flat, All, done, ◌&◌}
+use Rattle.std.specs.Prelude.{ℕ, zero, suc, ◌+◌, ◌<◌, ◌≡◌, List, [], ◌∷◌, ◌++◌, map, length, take, replicate}
+use Rattle.rules.specs.Lists.{flat, All}
 use Rattle.rules.specs.Sharding.{Sharding}
 use Rattle.rules.specs.Collectives.{Step, all_slice, all_gather, all_reduce, all_to_all, reduce_scatter}
 use Rattle.rules.specs.Refusals.{Judged, accept, refuse}
@@ -149,10 +149,6 @@ writes =
     )
     ∷ []
 
-pub written : All Holds writes
-unfolding write_of write_leaves
-written = refl & refl & refl & refl & refl & refl & refl & refl & refl & refl & refl & done
-
 -- ---- "Records that the check would refuse get that refusal .., in 01's order."
 
 -- so many repeats, each the whole block of the one before
@@ -261,17 +257,6 @@ refusals =
     ∷ refused (records_for (0 ∷ []) [] (4 ∷ []) (sharding ([] ∷ []) [] []) (nested 65536 [])) 10 0
     ∷ []
 
-pub refused_as : All Holds refusals
-unfolding write_of write_leaves
-refused_as =
-    refl & refl & refl & refl & refl & refl & refl & refl & refl & refl & refl & refl
-    & refl & refl & refl & refl & refl & refl & refl & refl & refl & refl & refl & refl
-    & refl & refl & refl & refl & refl & refl & refl & refl & refl & refl & refl & refl
-    & refl & refl & refl & refl & refl & refl & refl & refl & refl & refl & refl & refl
-    & refl & refl & refl & refl & refl & refl & refl & refl & refl & refl & refl & refl
-    & refl & refl & refl & refl & refl & refl & refl & refl & refl & refl & refl & refl
-    & refl & refl & refl & refl & refl & refl & refl & refl & refl & done
-
 -- ---- what the calls' arguments stand for
 
 -- six places with a list's axes, no axis in those that are not used; and a list of so many axes
@@ -350,12 +335,6 @@ forms =
     ∷ six_axes (record_of 1 0 0 ((0 ∷ 1 ∷ 2 ∷ 3 ∷ 4 ∷ 5 ∷ []) ∷ [] ∷ [] ∷ [] ∷ [] ∷ [])) (nines 17) (untouched 17 35 0)
     ∷ six_axes (3 ∷ 0 ∷ 0 ∷ 0 ∷ 0 ∷ 0 ∷ 0 ∷ 7 ∷ replicate 30 0) (nines 17) (untouched 17 8 0)
     ∷ []
-
-pub formed : All Holds forms
-unfolding write_of write_leaves steps_given
-formed =
-    refl & refl & refl & refl & refl & refl & refl & refl & refl & refl & refl & refl
-    & refl & refl & refl & refl & refl & refl & refl & refl & refl & refl & refl & done
 
 -- ---- plans
 
@@ -441,13 +420,6 @@ plannings =
     ∷ no_plan2x2 (flat_of [] [] []) (flat_of [] [] (0 ∷ [])) 40
     ∷ no_plan2x2 (flat_of [] [] (0 ∷ 1 ∷ [])) (flat_of [] [] (0 ∷ [])) 40
     ∷ []
-
-pub planned-as : All Holds plannings
-unfolding plan_of
-planned-as =
-    refl & refl & refl & refl & refl & refl & refl & refl & refl & refl & refl & refl
-    & refl & refl & refl & refl & refl & refl & refl & refl & refl & refl & refl & refl
-    & refl & refl & refl & refl & refl & refl & refl & refl & refl & refl & refl & refl & done
 
 -- ---- what is promised
 

@@ -2,8 +2,8 @@
 -- that the calls' promises cite. A second table in the same form (`beside`) has what the ledger leaves open: words that are no faithful spread, for
 -- each kind of step; states that shrink; states between the first and the last. WorkedRefusals.antt has the refusals, WorkedLimits.antt the limits.
 -- Assumes nothing.
-use Rattle.std.specs.Prelude.{ℕ, ◌+◌, ◌-◌, ◌*◌, ◌/◌, ◌%◌, ◌≡◌, refl, List, [], ◌∷◌, ◌++◌, length, replicate}
-use Rattle.rules.specs.Lists.{tab, flat, All, done, ◌&◌}
+use Rattle.std.specs.Prelude.{ℕ, ◌+◌, ◌-◌, ◌*◌, ◌/◌, ◌%◌, ◌≡◌, List, [], ◌∷◌, ◌++◌, length, replicate}
+use Rattle.rules.specs.Lists.{tab, flat}
 use Rattle.rules.specs.Refusals.{Judged, accept, refuse}
 use Rattle.rules.specs.Calls.{CheckAnswer, check_of, PlaceAnswer, place_of, groups_of, groups_leave, groups_ordered_of, groups_ordered_leave, Ran, run_of}
 
@@ -44,11 +44,6 @@ abbrev pub w1 : List ℕ
 w1 =
     0x01 ∷ 0x00 ∷ 0x02 ∷ 0x00 ∷ 0x02 ∷ 0x00 ∷ 0x01 ∷ 0x00 ∷ 0x12 ∷ 0x00 ∷ 0x16 ∷ 0x00 ∷ 0x1a ∷ 0x00 ∷ 0x1f ∷ 0x00 ∷ 0x23 ∷ 0x00 ∷ 0x02 ∷ 0x00 ∷ 0x02 ∷ 0x00
     ∷ 0x04 ∷ 0x00 ∷ 0x04 ∷ 0x00 ∷ 0x01 ∷ 0x00 ∷ 0x01 ∷ 0x01 ∷ 0x00 ∷ 0x02 ∷ 0x00 ∷ 0x01 ∷ 0x01 ∷ []
-
--- `file_of` makes these bytes
-w1-bytes : file_of (2 ∷ 2 ∷ []) (4 ∷ 4 ∷ []) ((0 ∷ []) ∷ (1 ∷ []) ∷ [] ∷ []) ((2 ∷ 0 ∷ 1 ∷ 1 ∷ []) ∷ []) ≡ w1
-unfolding file_of
-w1-bytes = refl
 
 -- W4: mesh 2x2, table of 4, sharding [[1, 0]], with the steps given. The other plans: mesh of one axis, with steps.
 abbrev pub w4 : List (List ℕ) → List ℕ
@@ -173,12 +168,6 @@ ledger =
     ∷ checked (w7 2 []) (passed 4 2 1 4 ([] ∷ []) [] (2 ∷ []))
     ∷ []
 
-pub worked : All Holds ledger
-unfolding file_of check_of place_of groups_of groups_leave run_of
-worked =
-    refl & refl & refl & refl & refl & refl & refl & refl & refl & refl & refl & refl
-    & refl & refl & refl & refl & done
-
 -- ---- beside the ledger
 
 -- a plan of one step on a mesh 2x2
@@ -240,10 +229,3 @@ beside =
     ∷ placed (on2x2 (2 ∷ []) ([] ∷ (0 ∷ 1 ∷ []) ∷ []) (3 ∷ 1 ∷ 0 ∷ [])) 0 1 (found ([] ∷ []) (0 ∷ 1 ∷ []) (2 ∷ []) (0 ∷ []))
     ∷ placed (on2x2 (2 ∷ []) ([] ∷ (0 ∷ 1 ∷ []) ∷ []) (3 ∷ 1 ∷ 0 ∷ [])) 1 1 (found ([] ∷ []) (1 ∷ []) (2 ∷ []) (0 ∷ []))
     ∷ []
-
-pub worked_beside : All Holds beside
-unfolding file_of check_of place_of run_of
-worked_beside =
-    refl & refl & refl & refl & refl & refl & refl & refl & refl & refl & refl & refl
-    & refl & refl & refl & refl & refl & refl & refl & refl & refl & refl & refl & refl
-    & refl & done

@@ -96,20 +96,20 @@ same (a ∷ L) (b ∷ M) = eqb a b && same L M
 -- ---- mesh and tensor sizes
 
 -- "each size in turn (zero, then running product)"
-unfoldable pub judge_sizes : (most on_zero on_over running : ℕ) → List ℕ → Judged (Unit {0})
-judge_sizes most on_zero on_over running [] = accept tt
-judge_sizes most on_zero on_over running (n ∷ sizes) = do
-  need (ltb 0 n) on_zero
-  need (leb (running * n) most) on_over
-  judge_sizes most on_zero on_over (running * n) sizes
+unfoldable pub judge_sizes : (most nil_number over_number running : ℕ) → List ℕ → Judged (Unit {0})
+judge_sizes most nil_number over_number running [] = accept tt
+judge_sizes most nil_number over_number running (n ∷ sizes) = do
+  need (ltb 0 n) nil_number
+  need (leb (running * n) most) over_number
+  judge_sizes most nil_number over_number (running * n) sizes
 
 -- "At each section its offset (6), then its bytes. Mesh and tensor sections: 7 if they don't fit"
-unfoldable pub sizes_at : (most on_zero on_over count offset : ℕ) → List ℕ → ℕ → Judged (Read (List ℕ))
+unfoldable pub sizes_at : (most nil_number over_number count offset : ℕ) → List ℕ → ℕ → Judged (Read (List ℕ))
 unfolding u16_at judge_sizes
-sizes_at most on_zero on_over count offset file at = do
+sizes_at most nil_number over_number count offset file at = do
   need (eqb offset at) 6
   need (leb (at + 2 * count) (length file)) 7
-  judge_sizes most on_zero on_over 1 (tab count (λ i. u16_at file (at + 2 * i)))
+  judge_sizes most nil_number over_number 1 (tab count (λ i. u16_at file (at + 2 * i)))
   accept (record { value = tab count (λ i. u16_at file (at + 2 * i)); next = at + 2 * count })
 
 -- ---- the order of the devices

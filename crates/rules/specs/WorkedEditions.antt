@@ -1,16 +1,15 @@
 -- Document 02, Ask 3: files of edition 2, whose sharding names axes that must stay replicated, as one table in the form of the ledger; what the
 -- reader of edition 1 answers; and what is no faithful spread and no sharding for the sake of such axes. Assumes nothing.
-use Rattle.std.specs.Prelude.{ℕ, ◌+◌, ◌<◌, ◌≡◌, refl, List, [], ◌∷◌, get_or, set, take}
-use Rattle.std.proofs.Common.{sym, subst, inl, inr, arith, lit<}
-use Rattle.rules.specs.Lists.{tab, In, All, done, ◌&◌, none, more}
+use Rattle.std.specs.Prelude.{ℕ, ◌+◌, ◌≡◌, List, [], ◌∷◌, set, take}
+use Rattle.rules.specs.Lists.{tab}
 use Rattle.rules.specs.Mesh.{number}
 use Rattle.rules.specs.Sharding.{Sharding, IsSharding}
 use Rattle.rules.specs.Spread.{held, Faithful, add_words}
 use Rattle.rules.specs.Refusals.{Judged, accept, refuse}
 use Rattle.rules.specs.PlanFile.{judge_by}
-use Rattle.rules.specs.Calls.{CheckAnswer, check_of, PlaceAnswer, place_of, run_of}
+use Rattle.rules.specs.Calls.{CheckAnswer, PlaceAnswer}
 use Rattle.rules.specs.Limits.{up_to}
-use Rattle.rules.specs.Ledger.{Case, checked, placed, Holds, file_in, file_of, leaves}
+use Rattle.rules.specs.Ledger.{Case, checked, placed, file_in, file_of, leaves}
 
 -- ---- files of edition 2
 
@@ -128,24 +127,12 @@ editions =
     ∷ checked (but 1 1) (refuse 3 0)
     ∷ []
 
-pub in_editions : All Holds editions
-unfolding file_in check_of place_of run_of
-in_editions =
-    refl & refl & refl & refl & refl & refl & refl & refl & refl & refl & refl & refl
-    & refl & refl & refl & refl & refl & refl & refl & refl & refl & refl & refl & refl
-    & refl & refl & refl & refl & refl & refl & refl & refl & refl & refl & refl & refl
-    & refl & refl & refl & refl & refl & done
-
 -- the reader of edition 1 alone: a file of edition 2, and one of edition 1
 abbrev pub FirstEdition : Type 0
 FirstEdition =
     (judge_by (up_to 1) there ≡ refuse 3 0)
     × (judge_by (up_to 1) (file_of (2 ∷ []) (4 ∷ []) ([] ∷ [] ∷ []) [])
     ≡ accept (record { mesh = 2 ∷ []; order = 0 ∷ 1 ∷ []; sizes = 4 ∷ []; start = sharding_of [] [] []; records = []; steps = []; runs = [] }))
-
-pub first_edition : FirstEdition
-unfolding file_in file_of judge_by
-first_edition = (refl, refl)
 
 -- ---- "For demand 3 these axes count as replicated."
 
@@ -158,31 +145,9 @@ pub record Unequal : Type 0 where
   pub parts : (table : List ℕ → ℕ)
       → ¬ Faithful add_words (2 ∷ 2 ∷ []) (sharding_of [] (0 ∷ []) (1 ∷ [])) (1 ∷ []) table (held 0 (2 ∷ 2 ∷ []) (1 ∷ []) (1 ∷ 2 ∷ 2 ∷ 1 ∷ []))
 
-pub unequal : Unequal
-unfolding held
-unequal = record {
-  wholes = λ replicated table f.
-      let e : ◌≡◌ {A = ℕ} 0 1 = f.same (0 ∷ []) (1 ∷ []) (0 ∷ []) (more (lit< tt) none) (more (lit< tt) none) (more (lit< tt) none) (λ a i. absurd i) in
-      omega (arith, e);
-  parts = λ table f.
-      let e : ◌≡◌ {A = ℕ} 1 2 =
-      f.same (0 ∷ 0 ∷ []) (0 ∷ 1 ∷ []) (0 ∷ []) (more (lit< tt) (more (lit< tt) none)) (more (lit< tt) (more (lit< tt) none)) (more (lit< tt) none) agree in
-      omega (arith, e);
-}
-  where
-    agree : (a : ℕ) → In a (0 ∷ []) → ◌≡◌ {A = ℕ} (get_or (0 ∷ 0 ∷ []) a 0) (get_or (0 ∷ 1 ∷ []) a 0)
-    agree a (inl e) = subst (λ z. ◌≡◌ {A = ℕ} (get_or (0 ∷ 0 ∷ []) z 0) (get_or (0 ∷ 1 ∷ []) z 0)) (sym e) refl
-    agree a (inr i) = absurd i
-
 -- ---- the list is of the mesh's axes, "naming no axis named before"
 
 -- No shardings: a dimension's axis that is replicated as well, and a replicated axis that the mesh has not.
 pub record NoSharding : Type 0 where
   pub twice : ¬ IsSharding (2 ∷ []) (2 ∷ []) (sharding_of (0 ∷ []) [] (0 ∷ []))
   pub beyond : ¬ IsSharding (2 ∷ []) (1 ∷ []) (sharding_of [] [] (1 ∷ []))
-
-pub no_sharding : NoSharding
-no_sharding = record {
-  twice = λ s. s.once.0 (inl refl);
-  beyond = λ s. let l : 1 < 1 = s.of_mesh 1 (inl refl) in omega arith;
-}

@@ -1,13 +1,12 @@
 -- Document 02, Ask 6: all-reduces along axes that nothing names, as one table in the form of the ledger (W10 is in the ledger itself); and the factors of
 -- such plans after each of their steps. Assumes nothing.
-use Rattle.std.specs.Prelude.{ℕ, ◌+◌, ◌≡◌, refl, List, [], ◌∷◌, length}
-use Rattle.rules.specs.Lists.{tab, All, done, ◌&◌}
+use Rattle.std.specs.Prelude.{ℕ, ◌+◌, ◌≡◌, List, [], ◌∷◌, length}
+use Rattle.rules.specs.Lists.{tab}
 use Rattle.rules.specs.Collectives.{all_slice, all_gather, all_to_all}
 use Rattle.rules.specs.Refusals.{Judged, accept, refuse, ◌>>=◌}
-use Rattle.rules.specs.PlanFile.{judge, judge_by}
-use Rattle.rules.specs.Calls.{check_of, run_of}
+use Rattle.rules.specs.PlanFile.{judge}
 use Rattle.rules.specs.Factor.{scaled, reduced_axes, factor_after}
-use Rattle.rules.specs.Ledger.{Case, checked, Holds, file_in, file_of, passed, leaves, w7}
+use Rattle.rules.specs.Ledger.{Case, checked, file_in, file_of, passed, leaves, w7}
 use Rattle.rules.specs.WorkedEditions.{second}
 use Rattle.rules.specs.WorkedRepeats.{slice, reduce, times}
 use Rattle.rules.specs.WorkedOrders.{third}
@@ -85,13 +84,6 @@ factors =
     )
     ∷ []
 
-pub factored : All Holds factors
-unfolding file_in file_of check_of run_of
-factored =
-    refl & refl & refl & refl & refl & refl & refl & refl & refl & refl
-    & refl & refl & refl & refl & refl & refl & refl & refl & refl & refl
-    & refl & refl & refl & refl & refl & refl & refl & refl & refl & done
-
 -- ---- factors
 
 -- of the plan of a file: before its first plain step, and after each that it runs
@@ -120,24 +112,3 @@ pub record FactorsCounted : Type 0 where
   pub modulo : scaled 3 (λ i. 2147483649) [] ≡ 2147483651
   pub gone : scaled 4294967296 (λ i. 7) [] ≡ 0
   pub doubled : scaled 2 length (5 ∷ 5 ∷ 5 ∷ []) ≡ 6
-
-pub factors_counted : FactorsCounted
-unfolding file_of judge_by factor_after scaled
-factors_counted = record {
-  w7_one = refl;
-  w10_two = refl;
-  both = refl;
-  second_only = refl;
-  first_only = refl;
-  owed = refl;
-  often = refl;
-  others = refl;
-  scatter = refl;
-  block = refl;
-  moves = (refl, refl, refl);
-  block_of_32 = refl;
-  none = refl;
-  modulo = refl;
-  gone = refl;
-  doubled = refl;
-}

@@ -1,12 +1,11 @@
 -- Document 01, "Numbers to hold to", with the numbers of document 02, Ask 12: of each limit, calls at it and calls just past it, as one table in the form of the ledger, a limit's lines together.
 -- The crate types ties the constants of the code to those of Limits.antt; these lines tie both to the numbers themselves. Assumes nothing.
-use Rattle.std.specs.Prelude.{ℕ, ◌+◌, ◌-◌, ◌*◌, ◌/◌, ◌%◌, ◌≡◌, refl, List, [], ◌∷◌, ◌++◌, length, set, replicate}
-use Rattle.rules.specs.Lists.{tab, All, done, ◌&◌}
+use Rattle.std.specs.Prelude.{ℕ, ◌+◌, ◌-◌, ◌*◌, ◌/◌, ◌%◌, ◌≡◌, List, [], ◌∷◌, ◌++◌, length, set, replicate}
+use Rattle.rules.specs.Lists.{tab}
 use Rattle.rules.specs.Refusals.{accept, refuse}
 use Rattle.rules.specs.PlanFile.{judge_by}
-use Rattle.rules.specs.Calls.{check_of, groups_of, groups_leave}
 use Rattle.rules.specs.Limits.{original}
-use Rattle.rules.specs.Ledger.{Case, checked, Holds, file_in, file_of, w1, passed, lists_as}
+use Rattle.rules.specs.Ledger.{Case, checked, file_in, file_of, w1, passed, lists_as}
 use Rattle.rules.specs.WorkedRefusals.{cut_at, refused_listing}
 
 -- a plan that names no axis and has no steps
@@ -62,13 +61,6 @@ limits =
     ∷ checked (replicate 8193 0) (refuse 2 0)
     ∷ []
 
-pub limited : All Holds limits
-unfolding file_of check_of groups_of groups_leave
-limited =
-    refl & refl & refl & refl & refl & refl & refl & refl & refl & refl & refl & refl
-    & refl & refl & refl & refl & refl & refl & refl & refl & refl & refl & refl & refl
-    & refl & refl & refl & refl & refl & refl & refl & done
-
 -- the reader with document 01's own limits, at each of them and one past it: "mesh 257 gives 11; table 4,097 gives 13", and a file of 4,097 bytes 2;
 -- a mesh of 257 in edition 2 too
 abbrev pub Earlier : Type 0
@@ -88,7 +80,3 @@ Earlier =
     × (judge_by original (filled_to 4096) ≡ refuse 9 0)
     × (judge_by original (filled_to 4097) ≡ refuse 2 0)
     × (judge_by original (file_in 2 (257 ∷ []) [] (1 ∷ []) ([] ∷ [] ∷ (0 ∷ []) ∷ []) []) ≡ refuse 11 0)
-
-pub earlier : Earlier
-unfolding file_in file_of judge_by
-earlier = (refl, refl, refl, refl, refl, refl)

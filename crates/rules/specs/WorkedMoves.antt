@@ -1,12 +1,12 @@
 -- Document 02, Ask 7: the words moved, of single words, of each kind of step, and of whole files. The tables of the ledger and beside it have the number
 -- of every file that passes. Assumes nothing.
-use Rattle.std.specs.Prelude.{ℕ, ◌≡◌, refl, List, [], ◌∷◌, map, replicate}
+use Rattle.std.specs.Prelude.{ℕ, ◌≡◌, List, [], ◌∷◌, map, replicate}
 use Rattle.rules.specs.Lists.{tab}
-use Rattle.rules.specs.Collectives.{Place, all_slice, all_gather, all_reduce, all_to_all, reduce_scatter, sources}
+use Rattle.rules.specs.Collectives.{Place, all_slice, all_gather, all_reduce, all_to_all, reduce_scatter}
 use Rattle.rules.specs.Refusals.{Judged, accept, ◌>>=◌}
 use Rattle.rules.specs.Calls.{check_of, run_of}
 use Rattle.rules.specs.Moved.{other_devices, moved_at, moved_by, charge_of, most_moved}
-use Rattle.rules.specs.Ledger.{file_in, file_of, w1, w8, nines}
+use Rattle.rules.specs.Ledger.{file_of, w1, w8, nines}
 use Rattle.rules.specs.WorkedRepeats.{times, square, slice_rows, to_columns, gather_columns}
 use Rattle.rules.specs.WorkedOrders.{third}
 use Rattle.rules.specs.WorkedScatters.{picture, scatter}
@@ -76,44 +76,3 @@ pub record MovesCounted : Type 0 where
   pub longer : (run_of w1 (replicate 40 0) (nines 33)).moved ≡ 16
   pub short : (run_of w1 (nines 31) (nines 32)).moved ≡ 0
   pub refused : (run_of (2 ∷ []) [] []).moved ≡ 0
-
-pub moves_counted : MovesCounted
-unfolding file_in file_of other_devices sources moved_by charge_of check_of run_of
-moves_counted = record {
-  none = refl;
-  own = refl;
-  others = refl;
-  each_once = refl;
-  word_by_word = refl;
-  word_by_word_to_all = refl;
-  slice = refl;
-  gather = refl;
-  gather_both = refl;
-  gather_first = refl;
-  gather_last = refl;
-  reduce = refl;
-  reduce_last = refl;
-  to_all_moves = refl;
-  to_all_both = refl;
-  scatter_row = refl;
-  scatter_both_moves = refl;
-  alone = refl;
-  charged_slice = refl;
-  charged_gather = refl;
-  charged_to_all = refl;
-  charged = refl;
-  charged_scatter = refl;
-  most_is = refl;
-  w1_moves = refl;
-  w8_moves = refl;
-  picture_moves = refl;
-  once = refl;
-  thrice = refl;
-  nested = refl;
-  ordered = refl;
-  plain_order_moves = refl;
-  runs = refl;
-  longer = refl;
-  short = refl;
-  refused = refl;
-}

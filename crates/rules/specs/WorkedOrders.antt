@@ -1,13 +1,12 @@
 -- Document 02, Ask 9: files of edition 3, whose devices have an order of their own, and the group listing that takes one, as one table in the form of
 -- the ledger; and what the reader of editions 1 and 2 answers. Assumes nothing.
-use Rattle.std.specs.Prelude.{ℕ, ◌+◌, ◌%◌, ◌≡◌, refl, List, [], ◌∷◌, ◌++◌, length, set, take}
-use Rattle.rules.specs.Lists.{tab, flat, All, done, ◌&◌}
+use Rattle.std.specs.Prelude.{ℕ, ◌+◌, ◌%◌, ◌≡◌, List, [], ◌∷◌, ◌++◌, length, set, take}
+use Rattle.rules.specs.Lists.{tab, flat}
 use Rattle.rules.specs.Collectives.{all_slice, all_gather, all_reduce}
 use Rattle.rules.specs.Refusals.{accept, refuse}
 use Rattle.rules.specs.PlanFile.{plain, judge_by}
-use Rattle.rules.specs.Calls.{check_of, place_of, groups_ordered_of, groups_ordered_leave, run_of}
 use Rattle.rules.specs.Limits.{up_to}
-use Rattle.rules.specs.Ledger.{Case, checked, placed, ordered, Holds, file_in, passed, found, nines, leaves}
+use Rattle.rules.specs.Ledger.{Case, checked, placed, ordered, file_in, passed, found, nines, leaves}
 use Rattle.rules.specs.WorkedEditions.{there}
 
 -- ---- group listings
@@ -111,15 +110,6 @@ orders =
     ∷ checked (set (with_order cabled) 0 2) (refuse 6 0)
     ∷ []
 
-pub in_order : All Holds orders
-unfolding file_in check_of place_of groups_ordered_of groups_ordered_leave run_of
-in_order =
-    refl & refl & refl & refl & refl & refl & refl & refl & refl & refl & refl & refl
-    & refl & refl & refl & refl & refl & refl & refl & refl & refl & refl & refl & refl
-    & refl & refl & refl & refl & refl & refl & refl & refl & refl & refl & refl & refl
-    & refl & refl & refl & refl & refl & refl & refl & refl & refl & refl & refl & refl
-    & refl & done
-
 -- the reader of editions 1 and 2: a file of edition 3, and one of edition 2
 abbrev pub SecondEdition : Type 0
 SecondEdition =
@@ -133,7 +123,3 @@ SecondEdition =
       steps = all_reduce (0 ∷ []) ∷ all_slice ((0 ∷ []) ∷ []) ∷ all_gather ((0 ∷ []) ∷ []) ∷ [];
       runs = 1 ∷ 1 ∷ 1 ∷ [];
     }))
-
-pub second_edition : SecondEdition
-unfolding file_in judge_by
-second_edition = (refl, refl)

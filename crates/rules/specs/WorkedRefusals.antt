@@ -1,11 +1,9 @@
 -- Document 01, "Refusal numbers": calls that are refused, as one table in the form of the ledger. It has each number from 3 on, those of a step in a
 -- first and in a second step; and of tests that follow one another in 01's order a call that fails both, where there is one (docs/DECISIONS.md names
 -- those that no file can tell apart). 1 and 2, and the limits of 5, 11 and 13, are in WorkedLimits.antt. Assumes nothing.
-use Rattle.std.specs.Prelude.{ℕ, refl, List, [], ◌∷◌, ◌++◌, set, take, replicate}
-use Rattle.rules.specs.Lists.{All, done, ◌&◌}
+use Rattle.std.specs.Prelude.{ℕ, List, [], ◌∷◌, ◌++◌, set, take, replicate}
 use Rattle.rules.specs.Refusals.{refuse}
-use Rattle.rules.specs.Calls.{check_of, place_of, groups_of, groups_leave, run_of}
-use Rattle.rules.specs.Ledger.{Case, checked, placed, listed, ran, Holds, file_of, w1, w4, nines}
+use Rattle.rules.specs.Ledger.{Case, checked, placed, listed, ran, file_of, w1, w4, nines}
 
 -- ---- files
 
@@ -202,17 +200,3 @@ refusals =
     ∷ refused_listing (2 ∷ 2 ∷ []) (1 ∷ 1 ∷ 2 ∷ []) 3 15
     ∷ refused_listing (2 ∷ 2 ∷ []) (1 ∷ 0 ∷ []) 3 33
     ∷ []
-
-pub refused : All Holds refusals
-unfolding file_of check_of place_of groups_of groups_leave run_of
-refused =
-    refl & refl & refl & refl & refl & refl & refl & refl & refl & refl & refl & refl
-    & refl & refl & refl & refl & refl & refl & refl & refl & refl & refl & refl & refl
-    & refl & refl & refl & refl & refl & refl & refl & refl & refl & refl & refl & refl
-    & refl & refl & refl & refl & refl & refl & refl & refl & refl & refl & refl & refl
-    & refl & refl & refl & refl & refl & refl & refl & refl & refl & refl & refl & refl
-    & refl & refl & refl & refl & refl & refl & refl & refl & refl & refl & refl & refl
-    & refl & refl & refl & refl & refl & refl & refl & refl & refl & refl & refl & refl
-    & refl & refl & refl & refl & refl & refl & refl & refl & refl & refl & refl & refl
-    & refl & refl & refl & refl & refl & refl & refl & refl & refl & refl & refl & refl
-    & refl & refl & refl & refl & refl & refl & refl & refl & refl & refl & refl & done

@@ -1,13 +1,13 @@
 -- Document 02, Ask 11: files with repeats, as one table in the form of the ledger; and what such a file is read as, what its plain steps come to at the
 -- limit, and what the reader just before repeats answers. Assumes nothing.
-use Rattle.std.specs.Prelude.{ℕ, zero, suc, ◌+◌, ◌≡◌, refl, true, false, List, [], ◌∷◌, ◌++◌, length, set, replicate}
-use Rattle.rules.specs.Lists.{tab, flat, All, done, ◌&◌}
+use Rattle.std.specs.Prelude.{ℕ, zero, suc, ◌+◌, ◌≡◌, true, false, List, [], ◌∷◌, ◌++◌, length, set, replicate}
+use Rattle.rules.specs.Lists.{tab, flat}
 use Rattle.rules.specs.Collectives.{Step, all_slice, all_gather}
 use Rattle.rules.specs.Refusals.{Judged, accept, refuse, ◌>>=◌}
 use Rattle.rules.specs.PlanFile.{plain, repeat, same_sharding, repeat_at, judge, judge_by}
-use Rattle.rules.specs.Calls.{check_of, place_of, run_of}
+use Rattle.rules.specs.Calls.{check_of}
 use Rattle.rules.specs.Limits.{without_repeats, original}
-use Rattle.rules.specs.Ledger.{Case, checked, placed, Holds, file_in, file_of, on2x2, passed, found, leaves}
+use Rattle.rules.specs.Ledger.{Case, checked, placed, file_of, on2x2, passed, found, leaves}
 use Rattle.rules.specs.WorkedRefusals.{refused_run}
 use Rattle.rules.specs.WorkedEditions.{second, sharding_of, passed as passed2x2}
 use Rattle.rules.specs.WorkedOrders.{third}
@@ -204,17 +204,6 @@ repeats =
     )
     ∷ []
 
-pub repeated : All Holds repeats
-unfolding file_in file_of check_of place_of run_of
-repeated =
-    refl & refl & refl & refl & refl & refl & refl & refl & refl & refl & refl & refl
-    & refl & refl & refl & refl & refl & refl & refl & refl & refl & refl & refl & refl
-    & refl & refl & refl & refl & refl & refl & refl & refl & refl & refl & refl & refl
-    & refl & refl & refl & refl & refl & refl & refl & refl & refl & refl & refl & refl
-    & refl & refl & refl & refl & refl & refl & refl & refl & refl & refl & refl & refl
-    & refl & refl & refl & refl & refl & refl & refl & refl & refl & refl & refl & refl
-    & refl & refl & refl & refl & refl & refl & refl & refl & refl & refl & refl & refl & done
-
 -- ---- what is read
 
 -- slice and gather along axis 0
@@ -271,22 +260,3 @@ pub record RepeatsRead : Type 0 where
     steps = slices ∷ [];
     runs = 1 ∷ [];
   })
-
-pub repeats_read : RepeatsRead
-unfolding file_in file_of judge_by same_sharding repeat_at check_of
-repeats_read = record {
-  unknown = refl;
-  most_inner = refl;
-  original_reads = refl;
-  original_orders = refl;
-  mixed_read = refl;
-  alone = refl;
-  so_far = refl;
-  plain_ones = refl;
-  of_dims = refl;
-  of_unreduced = refl;
-  of_replicated = refl;
-  of_none = refl;
-  before = refl;
-  without = refl;
-}

@@ -1,13 +1,12 @@
 -- Document 02, Ask 14: pairs of routes, as one table in the form of the ledger: what each of the two leaves, from a faithful spread and from words that are
 -- none; and what the ends of such routes have in common. The statements are in laws/specs/Routes.antt. Assumes nothing.
-use Rattle.std.specs.Prelude.{ℕ, ◌+◌, ◌%◌, ◌^◌, ◌≡◌, refl, List, [], ◌∷◌, length}
-use Rattle.rules.specs.Lists.{tab, All, done, ◌&◌}
+use Rattle.std.specs.Prelude.{ℕ, ◌+◌, ◌%◌, ◌^◌, ◌≡◌, List, [], ◌∷◌, length}
+use Rattle.rules.specs.Lists.{tab}
 use Rattle.rules.specs.Sharding.{Sharding}
 use Rattle.rules.specs.Refusals.{Judged, accept, ◌>>=◌}
-use Rattle.rules.specs.PlanFile.{judge, judge_by, announced}
-use Rattle.rules.specs.Calls.{run_of}
+use Rattle.rules.specs.PlanFile.{judge, announced}
 use Rattle.rules.specs.Factor.{factor_after}
-use Rattle.rules.specs.Ledger.{Case, Holds, file_in, file_of, leaves}
+use Rattle.rules.specs.Ledger.{Case, file_of, leaves}
 use Rattle.rules.specs.WorkedRepeats.{whole, parts, square, slice, gather, reduce, slice_rows, slice_columns, to_columns, times}
 use Rattle.rules.specs.WorkedOrders.{third}
 use Rattle.rules.specs.WorkedFactors.{one_word, reduce_both, slice_second, gather_second}
@@ -60,12 +59,6 @@ routes =
     ∷ leaves (parts_on_four (slice_second ∷ gather_second ∷ [])) 8 4 (tab 8 (λ k. k + 1)) (1 ∷ 4 ∷ 1 ∷ 4 ∷ 5 ∷ 8 ∷ 5 ∷ 8 ∷ [])
     ∷ []
 
-pub routed : All Holds routes
-unfolding file_in file_of run_of
-routed =
-    refl & refl & refl & refl & refl & refl & refl & refl & refl & refl & refl & refl
-    & refl & refl & refl & refl & refl & refl & refl & refl & refl & refl & refl & done
-
 -- ---- their ends
 
 -- what routes that meet have in common: the last sharding, and the factor modulo 2 ^ 32
@@ -98,21 +91,3 @@ pub record RoutesCompared : Type 0 where
   pub doubled_33 : end_of (one_word (times 33 (reduce ∷ []) ∷ [])) ≡ ends [] [] 0
   pub doubled_31 : end_of (one_word (times 31 (reduce ∷ []) ∷ [])) ≡ ends [] [] 2147483648
   pub factor_33 : ◌>>=◌ (judge (one_word (times 33 (reduce ∷ []) ∷ []))) (λ p. accept (factor_after p 33)) ≡ accept 8589934592
-
-pub routes_compared : RoutesCompared
-unfolding file_in file_of judge_by announced factor_after
-routes_compared = record {
-  back = refl;
-  columns = refl;
-  cabled = refl;
-  four = refl;
-  summed = refl;
-  whole_too = refl;
-  apart = refl;
-  once = refl;
-  twice = refl;
-  doubled_32 = refl;
-  doubled_33 = refl;
-  doubled_31 = refl;
-  factor_33 = refl;
-}

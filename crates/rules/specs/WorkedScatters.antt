@@ -1,16 +1,13 @@
 -- Document 02, Ask 5: files with reduce-scatters, as one table in the form of the ledger; and what such a file is read as, in which order its words are
 -- added, and what the reader just before kind 5 answers. Assumes nothing.
-use Rattle.std.specs.Prelude.{ℕ, ◌+◌, ◌≡◌, refl, List, [], ◌∷◌, map, length, replicate}
-use Rattle.std.proofs.Common.{sym}
-use Rattle.rules.specs.Lists.{tab, flat, ascending, All, done, ◌&◌}
-use Rattle.rules.specs.Collectives.{Place, all_slice, all_reduce, reduce_scatter, sources, Shards, stepped}
-use Rattle.rules.specs.Collectives as changes
-use Rattle.rules.specs.Sharding.{Sharding}
+use Rattle.std.specs.Prelude.{ℕ, ◌+◌, ◌≡◌, List, [], ◌∷◌, map, replicate}
+use Rattle.rules.specs.Lists.{tab}
+use Rattle.rules.specs.Collectives.{Place, reduce_scatter, sources}
 use Rattle.rules.specs.Refusals.{accept, refuse}
 use Rattle.rules.specs.PlanFile.{plain, judge, judge_by}
-use Rattle.rules.specs.Calls.{check_of, place_of, run_of}
+use Rattle.rules.specs.Calls.{check_of}
 use Rattle.rules.specs.Limits.{without_repeats, without_scatters}
-use Rattle.rules.specs.Ledger.{Case, checked, placed, Holds, file_in, file_of, on2x2, passed, found, leaves}
+use Rattle.rules.specs.Ledger.{Case, checked, placed, file_of, on2x2, passed, found, leaves}
 use Rattle.rules.specs.WorkedRefusals.{one, whole, parts, half, refused_run}
 use Rattle.rules.specs.WorkedEditions.{second, sharding_of}
 use Rattle.rules.specs.WorkedOrders.{third}
@@ -107,14 +104,6 @@ scatters =
     ∷ leaves (third [] (0 ∷ []) (scatter ∷ [])) 16 8 (tab 16 (λ k. k + 1)) (6 ∷ 8 ∷ 10 ∷ 12 ∷ 22 ∷ 24 ∷ 26 ∷ 28 ∷ [])
     ∷ []
 
-pub scattered : All Holds scatters
-unfolding file_in file_of check_of place_of run_of
-scattered =
-    refl & refl & refl & refl & refl & refl & refl & refl & refl & refl & refl & refl
-    & refl & refl & refl & refl & refl & refl & refl & refl & refl & refl & refl & refl
-    & refl & refl & refl & refl & refl & refl & refl & refl & refl & refl & refl & refl
-    & refl & refl & refl & refl & refl & refl & refl & refl & refl & refl & refl & refl & refl & refl & refl & refl & refl & done
-
 -- ---- what is read
 
 pub record ScattersRead : Type 0 where
@@ -138,27 +127,3 @@ pub record ScattersRead : Type 0 where
   pub before_second : judge_by without_scatters (after (5 ∷ 1 ∷ 1 ∷ 0 ∷ [])) ≡ refuse 20 2
   pub before_reads : judge_by without_scatters mixed ≡ judge mixed
   pub without_repeats_same : judge_by without_repeats (picture (scatter ∷ [])) ≡ judge (picture (scatter ∷ []))
-
-pub scatters_read : ScattersRead
-unfolding file_in file_of judge_by sources check_of
-scatters_read = record {
-  unknown = refl;
-  read = refl;
-  in_increasing_order = refl;
-  before = refl;
-  before_second = refl;
-  before_reads = refl;
-  without_repeats_same = refl;
-}
-
--- "The words and the shape are those of an all-reduce over all the step's axes in increasing order, then the all-slice with the step's lists", of any words
--- whose sum of one is itself; and so is the sharding
-pub scatter-means : (W : Type 0) (addAll : List W → W) → ((w : W) → addAll (w ∷ []) ≡ w) → (mesh : List ℕ) (Ss : List (List ℕ)) (v : Shards W) (x i : List ℕ)
-    → (stepped addAll mesh (reduce_scatter Ss) v).words x i
-    ≡ (stepped addAll mesh (all_slice Ss) (stepped addAll mesh (all_reduce (ascending (length mesh) (flat Ss))) v)).words x i
-unfolding stepped
-scatter-means W addAll single mesh Ss v x i = sym (single _)
-
-pub scatter-shards : (Ss : List (List ℕ)) (s : Sharding) → changes.after (reduce_scatter Ss) s ≡ changes.after (all_slice Ss) (changes.after (all_reduce (flat Ss)) s)
-unfolding changes.after
-scatter-shards Ss s = refl

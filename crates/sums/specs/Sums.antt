@@ -41,15 +41,6 @@ abbrev pub summed_buffer : {W : Type 0} → (List W → W) → W → (mesh shape
 summed_buffer addAll z mesh shape L n old =
     tabulate mesh shape (summed addAll mesh L n (held z mesh shape old)) ++ drop (devices mesh * product shape) old
 
--- Four devices, groups along the first axis: the devices 0 and 1 have the sums, or all have them; what stands behind stays.
-first-case : summed_buffer add_words 0 (2 ∷ 2 ∷ []) (1 ∷ []) (0 ∷ []) 1 (1 ∷ 2 ∷ 3 ∷ 5 ∷ 9 ∷ []) ≡ 4 ∷ 7 ∷ 3 ∷ 5 ∷ 9 ∷ []
-unfolding tabulate held made reduce_places add_words
-first-case = refl
-
-all-case : summed_buffer add_words 0 (2 ∷ 2 ∷ []) (1 ∷ []) (0 ∷ []) 2 (1 ∷ 2 ∷ 3 ∷ 5 ∷ 9 ∷ []) ≡ 4 ∷ 7 ∷ 4 ∷ 7 ∷ 9 ∷ []
-unfolding tabulate held made reduce_places add_words
-all-case = refl
-
 -- what is left where the shards of a group's first n members have the words g: every other word is as it was
 pub record Shared {W : Type 0} (z : W) (old : List W) (shifts : List ℕ) (at m n : ℕ) (g : ℕ → W) (new : List W) : Type 0 where
   pub members : (q o : ℕ) → q < n → o < m → slice_index_or new (at + slice_index shifts q + o) z ≡ g o

@@ -3,3 +3,5 @@ pub mod Types
 pub mod Refusals
 pub mod Answers
 pub mod Promises
+pub mod WorkedAnswers
+pub mod WorkedPlaces

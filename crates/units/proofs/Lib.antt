@@ -7,3 +7,4 @@ pub mod Checks
 pub mod Line
 pub mod Full
 pub mod Sounds
+pub mod Worked

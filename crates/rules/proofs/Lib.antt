@@ -1,0 +1,11 @@
+pub mod Ledger
+pub mod WorkedEditions
+pub mod WorkedFactors
+pub mod WorkedGroups
+pub mod WorkedLimits
+pub mod WorkedMoves
+pub mod WorkedOrders
+pub mod WorkedRefusals
+pub mod WorkedRepeats
+pub mod WorkedRoutes
+pub mod WorkedScatters
