@@ -83,6 +83,7 @@ cleared-none [] strides a h = h
 cleared-none (b ∷ L) strides a h = none_stays (cleared L strides) a b (cleared-none L strides a h)
 
 cleared-in : (L strides : List ℕ) (a : ℕ) → In a L → get_or (cleared L strides) a 0 ≡ 0
+cleared-in [] strides a x' = elim x' [ ]
 cleared-in (b ∷ L) strides a (inl e) = rw e (set-none (cleared L strides) b)
 cleared-in (b ∷ L) strides a (inr i) = none_stays (cleared L strides) a b (cleared-in L strides a i)
 
