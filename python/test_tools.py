@@ -82,7 +82,7 @@ class Missing(unittest.TestCase):
         self.assertStops("usage: tools/vectors CASES", "vectors")
         self.assertStops("none.txt: No such file or directory: name a file of cases", "vectors", "none.txt")
         self.assertStops("tests: Is a directory: name a file of cases", "vectors", "tests")
-        self.assertStops("`rt check plancheck` proves and builds", "vectors", "tests/plans.txt")
+        self.assertStops("`rt run` in crates/plancheck proves and builds it", "vectors", "tests/plans.txt")
         for line in ("0|1|2", "zz|no 1 0", "-|0|70000|no 1 0", "[2|[]|2|ok 0 1", "-|-1|0|no 1 0", "[2]|[1, 65536]|[]|2|no 19 0"):
             self.write("cases.txt", f"# a case\n{line}\n")
             self.assertStops("cases.txt, line 2: not a case: `tools/vectors --help` shows", "vectors", "cases.txt")
@@ -183,9 +183,9 @@ class Plancheck(unittest.TestCase):
     """What the fixtures of the program don't run."""
 
     def setUp(self):
-        self.program = os.path.join(ROOT, "target", "bin", "plancheck")
+        self.program = os.path.join(ROOT, "crates", "plancheck", "out", "plancheck")
         if not os.path.exists(self.program):
-            self.skipTest("`rt check plancheck` builds the program")
+            self.skipTest("`rt run` in crates/plancheck builds the program")
 
     def printed(self, *given, **read):
         done = subprocess.run([self.program, *given], capture_output=True, **read)
