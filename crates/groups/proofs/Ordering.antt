@@ -37,6 +37,7 @@ use Rattle.groups.specs.Ordering.{axis_order, IsList, along}
 -- ---- how many axes
 
 length-left-out : (a : ℕ) (U : List ℕ) → In a U → Distinct U → length (without U (a ∷ [])) + 1 ≡ length U
+length-left-out a [] i d = elim i [ ]
 length-left-out a (b ∷ U) i d = go (ℕ_discrete a b) i (λ j. length-left-out a U j d.1)
   where
     go : Dec (a ≡ b) → In a (b ∷ U) → (In a U → length (without U (a ∷ [])) + 1 ≡ length U) → length (without (b ∷ U) (a ∷ [])) + 1 ≡ length (b ∷ U)
