@@ -1,0 +1,18 @@
+use borrow.Author.Rules.{rules}
+use native.Mathlib.Omega.{arith}
+use Prim.Native.Nat.{◌-◌}
+use mathlib.Core.List.{[]}
+use mathlib.Core.Path.{sym, ◌∙◌}
+use borrow.Author.Tests.{not-true, not-false}
+use lib.ListN.{length-map, take}
+use Rattle.rules.specs.PlanFile.{same}
+use Rattle.types.specs.Types.{dims_of}
+use Rattle.dims.proofs.Pairs.{Testing, testing, fails, passes, tested}
+use Rattle.dims.proofs.Dims.{dims-length, list_at}
+use Rattle.blocks.proofs.same_lists.Given as goal
+
+abbrev pub invariant-loop-d : goal.invariant-loop-d
+invariant-loop-d l = Testing same (take l.rank (dims_of l.a)) (take l.rank (dims_of l.b)) l.rank l.d
+
+abbrev pub decreases-loop-d : goal.decreases-loop-d
+decreases-loop-d l = l.rank - l.d
