@@ -1,5 +1,5 @@
 // The group listing: the devices of a mesh, group by group along an axis list, in plain order or in one that is given.
-// What its two calls answer and leave is defined in rules/specs/Calls.antt (groupsOf, groups_leave, groups_ordered_of, groups_ordered_leave). Both judge and
+// What its two calls answer and leave is defined in rules/specs/Calls.antt (groups_of, groups_leave, groups_ordered_of, groups_ordered_leave). Both judge and
 // list by place, specs/Ordering.antt; under an order the places are looked up at the end.
 #![tactic(auto)]
 

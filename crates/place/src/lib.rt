@@ -1,5 +1,5 @@
 // The placement: a state's sharding and shard sizes, and a device's first indexes.
-// What it answers is defined in rules/specs/Calls.antt (placeOf); specs/Placing.antt has what the parts ask for.
+// What it answers is defined in rules/specs/Calls.antt (place_of); specs/Placing.antt has what the parts ask for.
 #![tactic(auto)]
 
 ghost use Rattle.std.specs.Prelude.{◌≡◌, ◌*◌, ◌≤◌, ◌<◌, take};

@@ -1,5 +1,5 @@
 // The run of a plan: its judgement, the tests of the two buffers, the steps in turn, and zeros behind the last state.
-// What it answers and leaves is defined in rules/specs/Calls.antt (runOf); types/specs/Promises.antt has its promise, specs/Runs.antt what the parts
+// What it answers and leaves is defined in rules/specs/Calls.antt (run_of); types/specs/Promises.antt has its promise, specs/Runs.antt what the parts
 // ask for and leave.
 #![tactic(auto)]
 
