@@ -1,7 +1,7 @@
 -- A repeat, from its two bytes over its inner steps to its end (`closes`), and an item, which is a repeat or a plain step. Assumes nothing.
 use Prim.Native.Nat.{ℕ, zero, suc, ◌+◌, ◌-◌, ◌*◌, max}
 use mathlib.Core.Path.{◌≡◌, refl, sym, ap, ◌∙◌, subst}
-use mathlib.Core.Bool.{Bool, true, false, ◌&&◌}
+use mathlib.Core.Bool.{Bool, true, false}
 use mathlib.Core.List.{List, ◌∷◌}
 use native.Mathlib.Omega.{arith}
 use lib.ListN.{length, replicate}
@@ -21,7 +21,7 @@ use Rattle.laws.proofs.Moved.{added-times}
 use Rattle.reader.specs.Reading.{reading, IfRefused, Tells}
 use Rattle.reader.specs.declared.Next.{Next}
 use Rattle.reader.specs.declared.Next.TheVariants as next
-use Rattle.blocks.specs.Blocks.{Head, not_too_deep, head_at, inner_at, shard_words, Summary, summarized, summary_in, StepsTell, Closing, closed}
+use Rattle.blocks.specs.Blocks.{Head, not_too_deep, head_at, inner_at, shard_words, summarized, StepsTell, Closing, closed}
 use Rattle.blocks.specs.declared.StepsJudged.{StepsJudged}
 
 -- ---- the end of a block, by its two tests

@@ -1,9 +1,9 @@
 -- A step or a repeat that was accepted leaves all that is asked before the next one. Assumes nothing.
-use Prim.Native.Nat.{ℕ, ◌+◌, ◌<◌, ◌≤◌, max}
+use Prim.Native.Nat.{ℕ, ◌+◌, ◌≤◌, max}
 use mathlib.Core.Path.{◌≡◌, ap, ◌∙◌, subst}
 use mathlib.Core.List.{List}
 use native.Mathlib.Omega.{arith}
-use lib.ListN.{length, get_or}
+use lib.ListN.{length}
 use Rattle.rules.specs.Sharding.{Sharding, IsSharding}
 use Rattle.rules.specs.Limits.{every_kind}
 use Rattle.rules.specs.PlanFile.{Read, StepsRead, item_at}
@@ -15,9 +15,8 @@ use Rattle.laws.proofs.Bytes.{Takes, item-takes}
 use Rattle.types.specs.declared.Mesh.{Mesh}
 use Rattle.types.specs.declared.Table.{Table}
 use Rattle.types.specs.declared.Sharding as code
-use Rattle.judge.specs.Step.{Sharded}
 use Rattle.taking.specs.declared.Extent.{Extent}
-use Rattle.blocks.specs.Blocks.{shard_words, Summary, summary_in, summarized, StepsTell, Judging}
+use Rattle.blocks.specs.Blocks.{shard_words, Summary, summarized, StepsTell, Judging}
 use Rattle.blocks.specs.declared.StepsJudged.{StepsJudged}
 use Rattle.blocks.proofs.Plain.{summary-inv}
 use Rattle.reader.specs.declared.Next.TheVariants as next

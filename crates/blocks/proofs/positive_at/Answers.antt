@@ -1,4 +1,3 @@
-use borrow.Author.Rules.{rules}
 use mathlib.Core.Path.{sym}
 use Rattle.blocks.proofs.Heads.{positive-past, positive-zero, positive-is}
 use Rattle.blocks.proofs.positive_at.Goals as goal

@@ -1,4 +1,3 @@
-use borrow.Author.Rules.{rules}
 use mathlib.Core.Path.{sym}
 use Rattle.blocks.proofs.Heads.{positive-on, positive-stopped, count-stops, number-stops, too-deep, head-is}
 use Rattle.blocks.proofs.read_repeat.Goals as goal

@@ -1,6 +1,5 @@
-use borrow.Author.Rules.{rules}
 use mathlib.Core.Path.{sym, ◌∙◌}
-use Rattle.blocks.proofs.Same.{same-long, same-tail}
+use Rattle.blocks.proofs.Same.{same-long}
 use Rattle.blocks.proofs.same_list.Goals as goal
 
 pub returns-then-len : goal.returns-then-len

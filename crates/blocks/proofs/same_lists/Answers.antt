@@ -1,14 +1,7 @@
-use borrow.Author.Rules.{rules}
 use native.Mathlib.Omega.{arith}
-use Prim.Native.Nat.{◌-◌}
-use mathlib.Core.List.{[]}
-use mathlib.Core.Path.{sym, ◌∙◌}
-use borrow.Author.Tests.{not-true, not-false}
-use lib.ListN.{length-map, take}
 use Rattle.rules.specs.PlanFile.{same}
-use Rattle.types.specs.Types.{dims_of}
-use Rattle.dims.proofs.Pairs.{Testing, testing, fails, passes, tested}
-use Rattle.dims.proofs.Dims.{dims-length, list_at}
+use Rattle.dims.proofs.Pairs.{testing}
+use Rattle.dims.proofs.Dims.{dims-length}
 use Rattle.blocks.proofs.same_lists.Goals as goal
 
 pub loop-d-init : goal.loop-d-init

@@ -1,5 +1,3 @@
-use borrow.Author.Rules.{rules}
-use borrow.Author.Tests.{not-true, not-false}
 use mathlib.Core.Path.{sym, ◌∙◌}
 use Rattle.types.specs.Types.{sharding_of}
 use Rattle.blocks.proofs.Same.{dims-differ, unreduced-differ, replicated-decides}
