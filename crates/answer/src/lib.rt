@@ -5,7 +5,8 @@
 // A read that fails counts as the end of the input, and a write that fails is let go: the answers are what is promised.
 #![tactic(auto)]
 
-ghost use Rattle.std.specs.Prelude.{◌≡◌, ◌≤◌, length};
+ghost use Rattle.std.specs.Prelude.{◌≡◌, ◌≤◌, length, take};
+ghost use Rattle.std.specs.Io.KnownBytes.{Consumes};
 ghost use Rattle.types.specs.Answers.{number_of};
 ghost use Rattle.types.specs.Promises.{CheckPromise};
 ghost use Rattle.plan.specs.Parts.{Begins};
@@ -20,9 +21,11 @@ use std::io::Read;
 use taking::{Extent, shard_words};
 use types::{Mesh, Step, Table};
 
-// Reads until the buffer is full, the input ends or a read fails. Answers how many bytes stand at the buffer's front.
-pub fn read_full(input: &mut impl Read, buffer: &mut [u8]) -> usize
-    ensures { result ≤ length buffer.new }
+// Reads until the buffer is full, the input ends or a read fails. Answers how many bytes, those that were taken from the
+// input, stand at the buffer's front.
+pub fn read_full<R: Read>(input: &mut R, buffer: &mut [u8]) -> usize
+    ensures few { result ≤ length buffer.new }
+    ensures bytes { Consumes (R.remaining input.old) (R.remaining input.new) (take result buffer.new) }
 {
     let mut done = 0;
     while done < buffer.len() {
