@@ -11,11 +11,11 @@ use Rattle.rules.specs.Lists.{tab, product, Below}
 use Rattle.rules.specs.Mesh.{span, position, devices, plain_order, coords, place_in}
 use Rattle.rules.specs.Sharding.{first_indexes}
 use Rattle.rules.specs.Limits.{most_devices, most_words}
-use Rattle.rules.specs.Refusals.{Judged, accept, refuse}
+use Rattle.rules.specs.Refusals.{accept, refuse}
 use Rattle.types.specs.Answers.{refused_with}
 use Rattle.rules.specs.PlanFile.{u16_at, edition, carries_order, Plan, announced, announced_shape, StateAnswer, steps_run, state_of}
 use Rattle.types.specs.Types.{sharding_of, dims_of, mesh_of, sizes_of}
-use Rattle.rules.specs.Calls.{PlaceAnswer, place_of}
+use Rattle.rules.specs.Calls.{place_of}
 use Rattle.types.specs.declared.Refusal.{Refusal}
 use Rattle.laws.proofs.Positions.{pos_of_lt, position-lt}
 use Rattle.laws.proofs.Buffers.{below-coords}
@@ -24,7 +24,7 @@ use Rattle.laws.proofs.Lists.{get_or-tab}
 use Rattle.laws.proofs.Shapes.{Cut, uncut, cut}
 use Rattle.laws.proofs.Sizes.{cut-divisible}
 use Rattle.laws.proofs.Accepted.{AcceptedPlan, accepted, state-inv}
-use Rattle.laws.proofs.Room.{State, state}
+use Rattle.laws.proofs.Room.{state}
 use Rattle.reader.specs.Reading.{next_refusal, order_of, order_in}
 use Rattle.reader.specs.declared.Next.TheVariants as next
 use Rattle.mesh.specs.Fitting.{IsPlace}

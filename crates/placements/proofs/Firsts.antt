@@ -1,19 +1,18 @@
 -- Laws of the placement for a list of devices: the room that is asked for, the numbers at the front of the list that are below D, and the first indexes, as
 -- many for each device (`parts_at`), which are those of the single call (`firsts-placed`), or its refusal (`firsts-refused`). Assumes nothing.
 use Prim.Native.Nat.{ℕ, zero, suc, ◌+◌, ◌*◌, ◌/◌, ◌≤◌, ◌<◌}
-use mathlib.Core.Path.{◌≡◌, refl, sym, ap, ◌∙◌, subst}
+use mathlib.Core.Path.{◌≡◌, refl, sym, ap, ◌∙◌}
 use mathlib.Core.Bool.{Bool, true, false}
-use mathlib.Core.Logic.{◌⊎◌, inl, inr}
 use mathlib.Core.List.{List, [], ◌∷◌, ◌++◌, map, append_assoc, append-nil}
 use native.Mathlib.Omega.{arith}
-use native.Mathlib.Nat.{le-div_iff_mul-le, div-lt_iff_lt-mul, suc-mul, zero-mul, zero-add, add_assoc}
+use native.Mathlib.Nat.{le-div_iff_mul-le, div-lt_iff_lt-mul, suc-mul, zero-mul, zero-add}
 use native.Mathlib.Numerals.{add-one}
 use borrow.Author.Tests.{leb-true, leb-false, ltb-true, ltb-false, le-leb, lt-leb, lt-ltb, le-ltb}
 use lib.ListN.{length, get_or, take, drop, length-append}
 use lib.Dec.{leb, ltb}
 use lib.Seq.{drop-cons, drop-length, take_at, drop_at, drop-drop}
 use Rattle.rules.specs.Lists.{tab, flat, pick}
-use Rattle.rules.specs.Refusals.{Judged, accept, refuse}
+use Rattle.rules.specs.Refusals.{accept, refuse}
 use Rattle.rules.specs.Calls.{PlaceAnswer, place_of}
 use Rattle.placements.specs.PlaceAll.{firsts_of, placed_then, placed_before}
 use Rattle.rules.specs.Mesh.{position, coords, plain_order, place_in}

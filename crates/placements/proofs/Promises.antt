@@ -1,12 +1,12 @@
 -- What the call answers and leaves is its promise: where the file or the state is refused, the room is short, a device is not there, and where all devices are
 -- placed. Assumes nothing.
-use Prim.Native.Nat.{ℕ, zero, suc, ◌*◌, ◌≤◌, ◌<◌}
+use Prim.Native.Nat.{ℕ, ◌*◌, ◌≤◌, ◌<◌}
 use mathlib.Core.Path.{◌≡◌, refl, sym, ap, ◌∙◌, subst}
 use mathlib.Core.Bool.{Bool, true, false}
 use mathlib.Core.List.{List, [], ◌∷◌, ◌++◌, map}
 use native.Mathlib.Omega.{arith}
 use borrow.Author.Tests.{le-leb, lt-leb, lt-ltb, le-ltb}
-use lib.ListN.{length, get_or, take, drop}
+use lib.ListN.{length, get_or, drop}
 use lib.Dec.{leb, eqb}
 use Rattle.rules.specs.Lists.{flat, pick}
 use Rattle.rules.specs.Mesh.{devices as devices_of, device_coords}
@@ -21,10 +21,9 @@ use Rattle.types.proofs.Refusals.{refusal-told}
 use Rattle.types.proofs.Answers.{place-listed}
 use Rattle.placements.specs.PlaceAll.{firsts_of, place_all_of, placed_before, place_all_leaves, firsts_out, placed_all_of, placed_all_with, place_beside, PlaceAllPromise}
 use Rattle.placements.specs.Placing.{refused_at, leading}
-use Rattle.placements.specs.declared.PlacedAll.{PlacedAll}
 use Rattle.placements.specs.declared.PlaceAllOutcome.{PlaceAllOutcome}
 use Rattle.placements.specs.declared.PlaceAllOutcome.TheVariants as outcome
-use Rattle.placements.proofs.Firsts.{led-below, led-past, Even, parts-length, parts_at, Placed, firsts-placed, firsts-refused, placed-leading}
+use Rattle.placements.proofs.Firsts.{led-below, led-past, Even, parts-length, parts_at, firsts-placed, firsts-refused, placed-leading}
 
 -- a refused outcome is none of devices placed
 not-placed : {r : Refusal} → outcome.Refused r ≡ outcome.Placed → ⊥

@@ -1,12 +1,11 @@
 -- A state that was found, as the placement of a list of devices uses it: at least one dimension, an order of its devices, their places, and that each device of
 -- the list can be placed. Assumes nothing.
 use Prim.Native.Nat.{ℕ, ◌*◌, ◌≤◌, ◌<◌}
-use mathlib.Core.Path.{◌≡◌, refl, sym, ap, ◌∙◌, subst}
+use mathlib.Core.Path.{◌≡◌, sym, ap, ◌∙◌, subst}
 use mathlib.Core.List.{List, [], ◌++◌, map}
 use native.Mathlib.Omega.{arith}
 use lib.ListN.{length, get_or, take, drop}
-use Rattle.rules.specs.Lists.{tab, flat}
-use Rattle.rules.specs.Limits.{most_dims}
+use Rattle.rules.specs.Lists.{flat}
 use Rattle.rules.specs.Mesh.{devices as devices_of, place_in, coords, Rearrangement}
 use Rattle.rules.specs.Sharding.{first_indexes}
 use Rattle.rules.specs.Refusals.{accept}
@@ -20,7 +19,6 @@ use Rattle.order.specs.Order.{places_of}
 use Rattle.plan.specs.Parts.{state_at, state_answer, StateTells, Shaped}
 use Rattle.plan.specs.declared.State as code
 use Rattle.plan.proofs.States.{state-on}
-use Rattle.place.specs.Placing.{Placing}
 use Rattle.place.proofs.Places.{placing}
 use Rattle.placements.specs.PlaceAll.{PlaceAllPromise}
 use Rattle.placements.specs.declared.PlaceAllOutcome.TheVariants as outcome
