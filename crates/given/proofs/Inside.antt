@@ -1,6 +1,6 @@
 -- The records inside a repeat: `Within` holds at each turn of the loop; `within-start` makes it, `within_step` keeps it, `within-stops` and `within-done`
 -- are the ways out; then the repeat's end (`closes`). The laws of the same loop over a file's bytes serve (blocks/proofs/Inner.antt). Assumes nothing.
-use Prim.Native.Nat.{ℕ, ◌+◌, ◌-◌, ◌*◌, ◌≤◌, ◌<◌}
+use Prim.Native.Nat.{ℕ, ◌+◌, ◌*◌, ◌≤◌, ◌<◌}
 use mathlib.Core.Path.{◌≡◌, refl, sym, ap, ap₂, ◌∙◌, subst}
 use mathlib.Core.Bool.{Bool, true, false}
 use mathlib.Core.List.{List, ◌∷◌}
