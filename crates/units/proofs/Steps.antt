@@ -1,7 +1,7 @@
 -- What the rest of a plan's steps is judged by, from any place on (`steps_rest`): the steps left of the innermost list, then those of the lists around it.
 -- The first of them (`first`), the end of one (`step-done`), the head of a block (`block-open`): so the steps go on as the state does (`steps_on`).
 -- Assumes nothing.
-use Prim.Native.Nat.{ℕ, suc, ◌+◌, ◌-◌, ◌*◌, max}
+use Prim.Native.Nat.{ℕ, suc, ◌+◌, ◌*◌, max}
 use mathlib.Core.Path.{◌≡◌, refl, ap, ap₂, ◌∙◌}
 use mathlib.Core.Bool.{Bool, true, false}
 use mathlib.Core.List.{List, [], ◌∷◌, ◌++◌}

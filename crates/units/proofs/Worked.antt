@@ -1,12 +1,8 @@
 -- The proofs of what specs/Worked.antt states and of its worked cases. Assumes nothing.
-use Rattle.std.specs.Prelude.{ℕ, ◌+◌, ◌≡◌, refl, List, [], ◌∷◌, ◌++◌, take, set}
+use Rattle.std.specs.Prelude.{◌≡◌, refl, [], ◌∷◌, take}
 use Rattle.rules.specs.Lists.{All, done, ◌&◌}
-use Rattle.rules.specs.Refusals.{Judged, refuse}
-use Rattle.rules.specs.Calls.{CheckAnswer}
+use Rattle.rules.specs.Refusals.{refuse}
 use Rattle.rules.specs.Ledger.{w1, file_in, file_of, passed}
-use Rattle.rules.specs.WorkedEditions.{second}
-use Rattle.rules.specs.WorkedOrders.{third, with_order, cut_at}
-use Rattle.rules.specs.WorkedRepeats.{whole, halves, slice, gather, swings, times, nested, mixed, full, nearly_full, sixteen}
 use Rattle.units.specs.Units.{in_header, in_mesh, in_table, in_the_start, at_end, fed, end_of, unpriced, state_after}
 use Rattle.units.specs.Worked.{Holds, files}
 

@@ -1,13 +1,12 @@
 -- Worked cases of document 02, Ask 8: what is answered where files end, however they were cut, and what is held on the way. Assumes nothing.
-use Rattle.std.specs.Prelude.{ℕ, ◌+◌, ◌≡◌, refl, List, [], ◌∷◌, ◌++◌, take, set}
-use Rattle.rules.specs.Lists.{All, done, ◌&◌}
+use Rattle.std.specs.Prelude.{ℕ, ◌≡◌, List, [], ◌∷◌, ◌++◌, take, set}
 use Rattle.rules.specs.Refusals.{Judged, refuse}
 use Rattle.rules.specs.Calls.{CheckAnswer}
-use Rattle.rules.specs.Ledger.{w1, file_in, file_of, passed}
+use Rattle.rules.specs.Ledger.{w1, passed}
 use Rattle.rules.specs.WorkedEditions.{second}
 use Rattle.rules.specs.WorkedOrders.{third, with_order, cut_at}
 use Rattle.rules.specs.WorkedRepeats.{whole, halves, slice, gather, swings, times, nested, mixed, full, nearly_full, sixteen}
-use Rattle.units.specs.Units.{in_header, in_mesh, in_table, in_the_start, at_end, fed, end_of, unpriced, state_after}
+use Rattle.units.specs.Units.{end_of, state_after}
 
 -- ---- what is answered
 
