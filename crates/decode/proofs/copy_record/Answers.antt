@@ -1,4 +1,3 @@
-use borrow.Author.Rules.{rules}
 use native.Mathlib.Omega.{arith}
 use Rattle.decode.proofs.Walks.{stands-inside, repeat-bytes, repeat-copied, plain_copied, never-refused}
 use Rattle.decode.proofs.copy_record.Goals as goal

@@ -1,6 +1,4 @@
-use borrow.Author.Rules.{rules}
 use native.Mathlib.Omega.{arith}
-use lib.ListN.{length-map}
 use Rattle.types.proofs.Types.{axes-length}
 use Rattle.decode.proofs.count_of.Goals as goal
 

@@ -1,4 +1,3 @@
-use borrow.Author.Rules.{rules}
 use Rattle.records.specs.declared.ReadOutcome.TheVariants as outcome
 use Rattle.decode.proofs.opened.Goals as goal
 

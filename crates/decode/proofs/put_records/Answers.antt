@@ -1,8 +1,5 @@
 use native.Mathlib.Omega.{arith}
-use Prim.Native.Nat.{◌-◌}
-use lib.ListN.{length}
-use Rattle.encode.proofs.Puts.{put-length}
-use Rattle.decode.proofs.Walks.{Walk, walk_start, walk-stands, walk-few, walk_step, walk-done}
+use Rattle.decode.proofs.Walks.{walk_start, walk-stands, walk-few, walk_step, walk-done}
 use Rattle.decode.proofs.put_records.Goals as goal
 
 pub loop-place-init : goal.loop-place-init

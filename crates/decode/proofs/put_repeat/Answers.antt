@@ -1,4 +1,3 @@
-use borrow.Author.Rules.{rules}
 use mathlib.Core.List.{[], ◌∷◌}
 use Rattle.records.specs.Forms.{record_of}
 use Rattle.decode.proofs.Forms.{without-list}

@@ -1,4 +1,3 @@
-use borrow.Author.Rules.{rules}
 use native.Mathlib.Omega.{arith}
 use Rattle.rules.specs.PlanFile.{edition, carries_order}
 use Rattle.plan.proofs.Wholes.{plan-held, whole-stopped, bounded}
