@@ -1,7 +1,0 @@
-use borrow.Author.Rules.{rules}
-use mathlib.Core.Path.{refl}
-use Rattle.capi.proofs.check_refused.Statement.{statement}
-use Rattle.capi.proofs.check_refused.Tie as tie
-
-pub check-refused-spec : {M : Type 1} → statement M
-check-refused-spec = tie.close (tie.spec (λ c κs. search rules) (λ c κs. search rules) (λ c. rw (c.code_of_lem.ensures, c.before.no_sharding.ensures) refl))
