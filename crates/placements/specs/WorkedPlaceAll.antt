@@ -1,10 +1,9 @@
 -- Worked placements of lists of devices, as a table in the form of the ledger: what the call answers, beside it the place, and what the lent list holds after.
 -- Assumes nothing.
-use Rattle.std.specs.Prelude.{ℕ, ◌≡◌, refl, List, [], ◌∷◌, ◌++◌, length}
-use Rattle.rules.specs.Lists.{All, done, ◌&◌}
-use Rattle.types.specs.Answers.{reason_of, refusal_of}
-use Rattle.rules.specs.Ledger.{file_in, file_of, w1, w4, nines}
-use Rattle.placements.specs.PlaceAll.{firsts_of, place_all_of, placed_before, place_all_leaves, placed_all_of}
+use Rattle.std.specs.Prelude.{ℕ, ◌≡◌, List, [], ◌∷◌, ◌++◌, length}
+use Rattle.types.specs.Answers.{refusal_of}
+use Rattle.rules.specs.Ledger.{file_in, w1, w4, nines}
+use Rattle.placements.specs.PlaceAll.{place_all_leaves, placed_all_of}
 use Rattle.placements.specs.declared.PlacedAll.{PlacedAll}
 use Rattle.placements.specs.declared.PlaceAllOutcome.TheVariants as outcome
 
