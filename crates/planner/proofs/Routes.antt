@@ -1,17 +1,16 @@
 -- The planner, test by test; and its promise (`plan-promise`). Assumes nothing.
 use Prim.Native.Nat.{ℕ, ◌≤◌}
-use mathlib.Core.Path.{◌≡◌, refl, sym, ap, ◌∙◌, subst}
-use mathlib.Core.Bool.{Bool, true, false, ◌&&◌}
+use mathlib.Core.Path.{◌≡◌, refl, sym, ap, ◌∙◌}
+use mathlib.Core.Bool.{Bool, true, false}
 use mathlib.Core.List.{List, [], ◌∷◌}
 use native.Mathlib.Omega.{arith}
 use lib.ListN.{length}
 use Rattle.rules.specs.Limits.{most_axes, most_dims}
 use Rattle.rules.specs.Sharding.{Sharding}
-use Rattle.rules.specs.Collectives.{Step}
-use Rattle.rules.specs.Refusals.{Judged, accept, refuse, ◌>>◌, need}
+use Rattle.rules.specs.Refusals.{Judged, accept, refuse, ◌>>◌}
 use Rattle.types.specs.Answers.{refused_with, number_of, refusal_of}
 use Rattle.rules.specs.PlanFile.{all_in, same}
-use Rattle.types.specs.Types.{axes_of, sharding_of, mesh_of, sizes_of}
+use Rattle.types.specs.Types.{sharding_of, mesh_of, sizes_of}
 use Rattle.types.specs.declared.Mesh.{Mesh}
 use Rattle.types.specs.declared.Table.{Table}
 use Rattle.types.specs.declared.Refusal.{Refusal}

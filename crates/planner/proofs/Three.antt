@@ -1,5 +1,5 @@
 -- Laws of at most three steps in their places. Assumes nothing.
-use Prim.Native.Nat.{ℕ, zero, suc, ◌+◌, ◌<◌, ◌≤◌}
+use Prim.Native.Nat.{ℕ, suc, ◌+◌, ◌<◌}
 use mathlib.Core.Path.{◌≡◌, refl, sym, ap, ◌∙◌, subst}
 use mathlib.Core.Bool.{Bool, true, false, not}
 use mathlib.Core.List.{List, [], ◌∷◌, ◌++◌}
@@ -9,7 +9,7 @@ use lib.ListN.{length, set}
 use lib.Dec.{eqb}
 use Rattle.rules.specs.Lists.{pick, flat}
 use Rattle.rules.specs.Sharding.{Sharding}
-use Rattle.rules.specs.Collectives.{Step, all_slice, all_gather, all_reduce, step_axes}
+use Rattle.rules.specs.Collectives.{Step, all_slice, all_gather, all_reduce}
 use Rattle.rules.specs.PlanFile.{some}
 use Rattle.types.specs.declared.Step as code
 use Rattle.records.specs.Planning.{to_reduce, to_gather, to_slice, if_naming, plan_steps}
