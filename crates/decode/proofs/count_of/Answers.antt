@@ -3,4 +3,4 @@ use Rattle.types.proofs.Types.{axes-length}
 use Rattle.decode.proofs.count_of.Goals as goal
 
 pub overflow_cast-result : goal.overflow_cast-result
-overflow_cast-result c = let a = c in omega (arith, axes-length a.args.list (a.well_formed.0.1.1.1.0.1.0.1), c.len.ensures)
+overflow_cast-result c = omega (arith, axes-length c.args.list (c.well_formed.0.1.1.1.0.1.0.1), c.len.ensures)

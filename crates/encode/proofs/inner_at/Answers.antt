@@ -5,7 +5,7 @@ use Rattle.encode.proofs.inner_at.Goals as goal
 
 pub returns-then-steps-from-eq9 : goal.returns-then-steps-from-eq9
 returns-then-steps-from-eq9 c = let a = c.args in
-    (omega (arith, c.shared_slice_known-then-steps-from-eq9-1.given (a.from + 2)), repeat-inner a.steps.now a.from c.if-steps-from-eq9.true)
+    (omega (arith, c.type_inv.steps (a.from + 2)), repeat-inner a.steps.now a.from c.if-steps-from-eq9.true)
 
 pub returns : goal.returns
 returns c = let a = c.args in (omega arith, plain-inner a.steps.now a.from c.if-steps-from-eq9.false)

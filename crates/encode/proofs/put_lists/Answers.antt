@@ -8,22 +8,17 @@ pub loop-d-init : goal.loop-d-init
 loop-d-init c = lists-start _ _ _
 
 pub put_list-place-requires : goal.put_list-place-requires
-put_list-place-requires c = let l = c in
-    let s = c in
-    let h = l.loop-d.invariant.near in
-    let p = s.requires in
-    let e = list_at s.args.lists s.args.rank l.loop-d.d _ c.loop-d-test.true c.at-list.ensures in
-    (omega arith, rw e (dims-short s.args.rank s.args.lists p.2 l.loop-d.d))
+put_list-place-requires c = let h = c.loop-d.invariant.near in
+    let p = c.requires in
+    let e = list_at c.args.lists c.args.rank c.loop-d.d _ c.loop-d-test.true c.at-list.ensures in
+    (omega arith, rw e (dims-short c.args.rank c.args.lists p.2 c.loop-d.d))
 
 pub loop-d-preserved : goal.loop-d-preserved
-loop-d-preserved c = let l = c in
-    let s = c in
-    let a = s.args in
-    let e = list_at a.lists a.rank l.loop-d.d _ c.loop-d-test.true c.at-list.ensures in
-    let n = dims-length a.lists a.rank (s.well_formed.1.1.0.1.1.0.1.0.1) s.requires.1 in
-    lists-step l.loop-d.invariant (omega (arith, n)) e (rw e (dims-short a.rank a.lists s.requires.2 l.loop-d.d)) c.put_list-place.ensures
+loop-d-preserved c = let a = c.args in
+    let e = list_at a.lists a.rank c.loop-d.d _ c.loop-d-test.true c.at-list.ensures in
+    let n = dims-length a.lists a.rank (c.well_formed.1.1.0.1.1.0.1.0.1) c.requires.1 in
+    lists-step c.loop-d.invariant (omega (arith, n)) e (rw e (dims-short a.rank a.lists c.requires.2 c.loop-d.d)) c.put_list-place.ensures
 
 pub returns : goal.returns
-returns c = let s = c in
-    let n = dims-length s.args.lists s.args.rank (s.well_formed.1.1.0.1.1.0.1.0.1) s.requires.1 in
-    lists-given s.args.rank s.args.lists s.requires.2 (lists-done c.loop-d.invariant (omega (arith, n)))
+returns c = let n = dims-length c.args.lists c.args.rank (c.well_formed.1.1.0.1.1.0.1.0.1) c.requires.1 in
+    lists-given c.args.rank c.args.lists c.requires.2 (lists-done c.loop-d.invariant (omega (arith, n)))

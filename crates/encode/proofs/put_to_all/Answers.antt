@@ -4,12 +4,9 @@ use Rattle.encode.proofs.Given.{axes-short, list_put}
 use Rattle.encode.proofs.put_to_all.Goals as goal
 
 pub put_list-requires : goal.put_list-requires
-put_list-requires c = let s = c in
-    let n = c.put_three-next.ensures.next in
-    let p = s.requires in
-    (omega arith, axes-short s.args.list p.1)
+put_list-requires c = let n = c.put_three-next.ensures.next in
+    let p = c.requires in
+    (omega arith, axes-short c.args.list p.1)
 
 pub returns : goal.returns
-returns c = let c6 = c in
-    let s = c in
-    put_both c6.put_three-next.ensures (list_put s.args.list s.requires.1 c.put_list.ensures)
+returns c = put_both c.put_three-next.ensures (list_put c.args.list c.requires.1 c.put_list.ensures)

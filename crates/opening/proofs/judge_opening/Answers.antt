@@ -9,12 +9,10 @@ returns-in_default c = stops _ _ _ c.judge_start-verdict.ensures _ c.in_default.
 
 pub returns-then-not-one_meaning : goal.returns-then-not-one_meaning
 unfolding judge_opening
-returns-then-not-one_meaning c = let v = c in
-    c.refused.ensures ∙ sym (goes_on _ _ _ v.judge_start-verdict.ensures v.in-Fine.is
+returns-then-not-one_meaning c = c.refused.ensures ∙ sym (goes_on _ _ _ c.judge_start-verdict.ensures c.in-Fine.is
     ∙ simp (sym c.one_meaning.ensures ∙ c.if-not-one_meaning.true))
 
 pub returns : goal.returns
 unfolding judge_opening
-returns c = let v = c in
-    sym (goes_on _ _ _ v.judge_start-verdict.ensures v.in-Fine.is
+returns c = sym (goes_on _ _ _ c.judge_start-verdict.ensures c.in-Fine.is
     ∙ simp (sym c.one_meaning.ensures ∙ c.if-not-one_meaning.false))

@@ -11,16 +11,12 @@ use Rattle.order.proofs.look_up.Goals.{In-loop-i}
 -- the place that is looked up is as it was given, and within the order
 as_given : (c : In-loop-i)
     → (let l = c in get_or l.loop-i.numbers l.loop-i.i 0 ≡ get_or l.args.numbers.now l.loop-i.i 0)
-as_given c = let l = c in
-    let s = c in
-    ap (λ (b : List ℕ). get_or b l.loop-i.i 0) l.loop-i.invariant.front
-    ∙ front-behind 0 (λ k. get_or s.args.order.now (get_or s.args.numbers.now k 0) 0) s.args.numbers.now l.loop-i.i
+as_given c = ap (λ (b : List ℕ). get_or b c.loop-i.i 0) c.loop-i.invariant.front
+    ∙ front-behind 0 (λ k. get_or c.args.order.now (get_or c.args.numbers.now k 0) 0) c.args.numbers.now c.loop-i.i
 
 pub loop-i-preserved : goal.loop-i-preserved
-loop-i-preserved c = let e = c in
-    let l = c in
-    fill-word l.loop-i.invariant (omega (arith, l.loop-i.invariant.size, e.loop-i-test.true))
-    (ap (λ (p : ℕ). get_or l.args.order.now p 0) (as_given ((goal.at.loop-i-preserved c).In-loop-i)))
+loop-i-preserved c = fill-word c.loop-i.invariant (omega (arith, c.loop-i.invariant.size, c.loop-i-test.true))
+    (ap (λ (p : ℕ). get_or c.args.order.now p 0) (as_given ((goal.at.loop-i-preserved c).In-loop-i)))
 
 pub returns : goal.returns
 returns c = let a = c.args in

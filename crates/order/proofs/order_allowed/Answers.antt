@@ -7,5 +7,4 @@ pub returns-then-not-rearranges : goal.returns-then-not-rearranges
 returns-then-not-rearranges c = sym (not-allowed _ _ (sym c.rearranges.ensures ∙ c.if-not-rearranges.true))
 
 pub returns : goal.returns
-returns c = let e = c in
-    ap not c.is_plain.ensures ∙ sym (allowed-unless _ _ (sym e.rearranges.ensures ∙ e.if-not-rearranges.false))
+returns c = ap not c.is_plain.ensures ∙ sym (allowed-unless _ _ (sym c.rearranges.ensures ∙ c.if-not-rearranges.false))

@@ -33,21 +33,17 @@ pub slice_bounds-copy_shard-end-in-loop-i : goal.slice_bounds-copy_shard-end-in-
 slice_bounds-copy_shard-end-in-loop-i c = omega (arith, inside ((goal.at.slice_bounds-copy_shard-end-in-loop-i c).In-loop-i))
 
 pub loop-i-preserved : goal.loop-i-preserved
-loop-i-preserved c = let e = c in
-    let l = c in
-    let s = c in
-    let m = s.args.m in
+loop-i-preserved c = let m = c.args.m in
     let r = c.copy_shard in
     let u = inside ((goal.at.loop-i-preserved c).In-loop-i) in (
-      omega (arith, e.loop-i-test.true),
-      rw (next-part l.loop-i.i m) (fill-part m l.loop-i.invariant.1 (omega (arith, u, l.loop-i.invariant.1.size)) r.auto.to
-          (r.ensures ∙ shard-words 0 s.args.from.now s.args.order.now l.loop-i.i m (omega (arith, u)))),
+      omega (arith, c.loop-i-test.true),
+      rw (next-part c.loop-i.i m) (fill-part m c.loop-i.invariant.1 (omega (arith, u, c.loop-i.invariant.1.size)) r.auto.to
+          (r.ensures ∙ shard-words 0 c.args.from.now c.args.order.now c.loop-i.i m (omega (arith, u)))),
     )
 
 pub returns : goal.returns
 unfolding words_by_place
-returns c = let l = c in
-    let a = l.args in
+returns c = let a = c.args in
     let word : ℕ → ℕ = λ t. get_or a.from.now (get_or a.order.now (t / a.m) 0 * a.m + t % a.m) 0 in
-    let e : l.loop-i.i ≡ length a.order.now = omega (arith, c.loop-i-test.false, l.loop-i.invariant.0) in
-    l.loop-i.invariant.1.front ∙ ap (λ (k : ℕ). tab (k * a.m) word ++ drop (k * a.m) a.to.now) e
+    let e : c.loop-i.i ≡ length a.order.now = omega (arith, c.loop-i-test.false, c.loop-i.invariant.0) in
+    c.loop-i.invariant.1.front ∙ ap (λ (k : ℕ). tab (k * a.m) word ++ drop (k * a.m) a.to.now) e

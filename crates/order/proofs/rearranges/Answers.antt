@@ -18,16 +18,14 @@ pub returns-then-n-device : goal.returns-then-n-device
 returns-then-n-device c = sym (too-high c.loop-i.invariant.0 c.loop-i-test.true (omega (arith, c.if-n-device.true)))
 
 pub returns-then-seen-device : goal.returns-then-seen-device
-returns-then-seen-device c = let e = c in
-    sym (again e.loop-i.invariant.0 e.loop-i-test.true (omega (arith, e.if-n-device.false)) c.if-seen-device.true)
+returns-then-seen-device c = sym (again c.loop-i.invariant.0 c.loop-i-test.true (omega (arith, c.if-n-device.false)) c.if-seen-device.true)
 
 pub loop-i-preserved : goal.loop-i-preserved
-loop-i-preserved c = let e = c in
-    let l = c in (
-      mark_on l.loop-i.invariant.0 e.loop-i-test.true (omega (arith, e.if-n-device.false))
-          (omega (arith, l.requires, l.loop-i.invariant.1)) c.if-seen-device.false,
-      rw length-set l.loop-i.invariant.1,
-    )
+loop-i-preserved c = (
+  mark_on c.loop-i.invariant.0 c.loop-i-test.true (omega (arith, c.if-n-device.false))
+      (omega (arith, c.requires, c.loop-i.invariant.1)) c.if-seen-device.false,
+  rw length-set c.loop-i.invariant.1,
+)
 
 pub returns : goal.returns
 returns c = sym (all-marked c.loop-i.invariant.0 c.if-order-n.false c.loop-i-test.false)

@@ -41,11 +41,7 @@ pub returns-then-file-at : goal.returns-then-file-at
 returns-then-file-at c = sym (order-past _ _ _ _ (c.if-not-carried.false) (omega (arith, c.if-file-at.true, c.requires.0)))
 
 pub returns-then-not-order_allowed : goal.returns-then-not-order_allowed
-returns-then-not-order_allowed c = let e = c in
-    let s = e in
-    sym (order-wrong _ _ _ _ (e.if-not-carried.false) (omega (arith, e.if-file-at.false, s.requires.0)) (tested ((goal.at.returns-then-not-order_allowed c).After-order_allowed) ∙ c.if-not-order_allowed.true))
+returns-then-not-order_allowed c = sym (order-wrong _ _ _ _ (c.if-not-carried.false) (omega (arith, c.if-file-at.false, c.requires.0)) (tested ((goal.at.returns-then-not-order_allowed c).After-order_allowed) ∙ c.if-not-order_allowed.true))
 
 pub returns : goal.returns
-returns c = let e = c in
-    let s = e in
-    order-whole _ _ _ _ (e.if-not-carried.false) (omega (arith, e.if-file-at.false, s.requires.0)) (tested ((goal.at.returns c).After-order_allowed) ∙ c.if-not-order_allowed.false)
+returns c = order-whole _ _ _ _ (c.if-not-carried.false) (omega (arith, c.if-file-at.false, c.requires.0)) (tested ((goal.at.returns c).After-order_allowed) ∙ c.if-not-order_allowed.false)

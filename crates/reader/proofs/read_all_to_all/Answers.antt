@@ -29,17 +29,15 @@ returns-in_default-second c = let a = c.args in
     λ rank k. retold (c.refused-in_default-second.ensures rank) (dims-missing a.n rank k a.file.now a.at (omega arith))
 
 pub returns-in_default-next : goal.returns-in_default-next
-returns-in_default-next c = let p = c in
-    let a = p.args in
-    let r = p.read_list-read in
+returns-in_default-next c = let a = c.args in
+    let r = c.read_list-read in
     let t = target_is ((goal.at.returns-in_default-next c).In-Is-second) in
     let stopped = read-stopped (axes_of r.result.list) r.ensures c.in_default-next.is c.refusal.ensures in
     λ rank k. retold (c.refused-in_default-next.ensures rank) (to-all-refused a.n rank k a.file.now a.at (omega arith) _ _ stopped)
 
 pub returns : goal.returns
-returns c = let p = c in
-    let a = p.args in
-    let r = p.read_list-read in
+returns c = let a = c.args in
+    let r = c.read_list-read in
     let s = source_is ((goal.at.returns c).In-Is) in
     let t = target_is ((goal.at.returns c).In-Is-second) in
     let list = read-on (axes_of r.result.list) r.ensures c.in-At.is in

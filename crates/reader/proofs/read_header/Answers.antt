@@ -57,36 +57,30 @@ pub returns-then-file-gt-MOST : goal.returns-then-file-gt-MOST
 returns-then-file-gt-MOST c = let f = c.args.file.now in c.refused_for-then-file-gt-MOST.ensures ∙ sym (too_long f (omega arith) (omega arith))
 
 pub returns-then-not-in_limits : goal.returns-then-not-in_limits
-returns-then-not-in_limits c = let p = c in
-    let unknown = tested known? p.numbers_of-header.ensures p.in_limits.ensures (c.if-not-in_limits.true) in
+returns-then-not-in_limits c = let unknown = tested known? c.numbers_of-header.ensures c.in_limits.ensures (c.if-not-in_limits.true) in
     c.refused_for-then-not-in_limits.ensures ∙ sym (unknown-edition _ (omega arith) (omega arith) unknown)
 
 pub returns-then-u16_at-file : goal.returns-then-u16_at-file
-returns-then-u16_at-file c = let p = c in
-    c.refused_for-then-u16_at-file.ensures ∙ sym (wrong-length _ (omega arith) (omega arith) (known ((goal.at.returns-then-u16_at-file c).Else-not-in_limits)) (omega arith))
+returns-then-u16_at-file c = c.refused_for-then-u16_at-file.ensures ∙ sym (wrong-length _ (omega arith) (omega arith) (known ((goal.at.returns-then-u16_at-file c).Else-not-in_limits)) (omega arith))
 
 pub returns-then-not-in_limits-2 : goal.returns-then-not-in_limits-2
-returns-then-not-in_limits-2 c = let p = c in
-    let n = p.numbers_of-header in
+returns-then-not-in_limits-2 c = let n = c.numbers_of-header in
     let outside = tested axes? n.ensures c.in_limits-2.ensures (c.if-not-in_limits-2.true) in
     c.refused_for-then-not-in_limits-2.ensures ∙ sym (axes-outside _ (framed ((goal.at.returns-then-not-in_limits-2 c).Else-u16_at-file)) outside)
 
 pub returns-then-not-in_limits-3 : goal.returns-then-not-in_limits-3
-returns-then-not-in_limits-3 c = let p = c in
-    let n = p.numbers_of-header in
+returns-then-not-in_limits-3 c = let n = c.numbers_of-header in
     let outside = tested rank? n.ensures c.in_limits-3.ensures (c.if-not-in_limits-3.true) in
     c.refused_for-then-not-in_limits-3.ensures ∙ sym (rank-outside _ (framed ((goal.at.returns-then-not-in_limits-3 c).Else-u16_at-file)) (axes-in ((goal.at.returns-then-not-in_limits-3 c).Else-not-in_limits-2)) outside)
 
 pub returns-then-header-gt-MOST : goal.returns-then-header-gt-MOST
-returns-then-header-gt-MOST c = let p = c in
-    let n = p.numbers_of-header in
+returns-then-header-gt-MOST c = let n = c.numbers_of-header in
     let many = ap (λ (h : Header). h.steps) n.ensures in
     c.refused_for-then-header-gt-MOST.ensures
     ∙ sym (steps-outside _ (framed ((goal.at.returns-then-header-gt-MOST c).Else-u16_at-file)) (axes-in ((goal.at.returns-then-header-gt-MOST c).Else-not-in_limits-2)) (rank-in ((goal.at.returns-then-header-gt-MOST c).Else-not-in_limits-3)) (omega (arith, many)))
 
 pub returns : goal.returns
-returns c = let p = c in
-    let n = p.numbers_of-header in
+returns c = let n = c.numbers_of-header in
     let few = ap (λ (h : Header). h.steps) n.ensures in
     ap accept n.ensures
     ∙ sym (header-whole _ (framed ((goal.at.returns c).Else-u16_at-file)) (axes-in ((goal.at.returns c).Else-not-in_limits-2)) (rank-in ((goal.at.returns c).Else-not-in_limits-3)) (omega (arith, few)))

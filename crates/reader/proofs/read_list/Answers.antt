@@ -32,9 +32,7 @@ returns-then-file-first c = let h = count_is ((goal.at.returns-then-file-first c
     c.refused_for-then-file-first.ensures ∙ sym (axes-missing _ _ _ h c.if-n-count.false (omega (arith, c.if-file-first.true)))
 
 pub returns : goal.returns
-returns c = let e = c in
-    let s = c in
-    sym (list-whole _ _ _ (count_is ((goal.at.returns c).In-Is)) e.if-n-count.false (room ((goal.at.returns c).Else-file-first)) s.requires _ refl
+returns c = sym (list-whole _ _ _ (count_is ((goal.at.returns c).In-Is)) c.if-n-count.false (room ((goal.at.returns c).Else-file-first)) c.requires _ refl
     (simp (
       c.axis_in.ensures,
       c.axis_in-2.ensures,

@@ -7,19 +7,17 @@ use Rattle.reader.proofs.read_lists.Goals as goal
 
 pub returns-in_default : goal.returns-in_default
 unfolding dims_of
-returns-in_default c = let p = c in
-    let r = p.read_list-one in
+returns-in_default c = let r = c.read_list-one in
     let stopped = read-stopped (axes_of r.result.list) r.ensures c.in_default.is c.refusal.ensures in
-    let judged = list-refused p.loop-d.invariant p.loop-d-test.true _ _ stopped in
-    c.refused.ensures p.args.rank ∙ sym judged
+    let judged = list-refused c.loop-d.invariant c.loop-d-test.true _ _ stopped in
+    c.refused.ensures c.args.rank ∙ sym judged
 
 pub loop-d-preserved : goal.loop-d-preserved
 unfolding dims_of
-loop-d-preserved c = let p = c in
-    let r = p.read_list-one in
-    let l = p.loop-d in
+loop-d-preserved c = let r = c.read_list-one in
+    let l = c.loop-d in
     let one = read-on (axes_of r.result.list) r.ensures c.in-At.is in
-    rw (map-set axes_of l.lists.0 l.d r.result.list) (next-list l.invariant p.loop-d-test.true _ _ one)
+    rw (map-set axes_of l.lists.0 l.d r.result.list) (next-list l.invariant c.loop-d-test.true _ _ one)
 
 pub returns : goal.returns
 unfolding dims_of

@@ -38,31 +38,19 @@ read_sizes-read-requires c = let h = headed _ _ c.requires in
     (omega (arith, h.facts.long), omega (arith, h.facts.axes_few, h.axes_are), lit≤ tt)
 
 pub returns-in_default : goal.returns-in_default
-returns-in_default c = let p = c in
-    let s = c in
-    let h = headed _ _ s.requires in
-    let r = c.refused.ensures s.args.header.axes (omega (arith, h.facts.axes_few, h.axes_are)) in
-    let stop = read-stopped _ p.read_sizes-read.ensures.sizes_tell.reads c.in_default.is c.refusal.ensures in record { sizes_tell = retold r.0 (sizes-stop _ _ _ _ stop); product_value = r.1 }
+returns-in_default c = let h = headed _ _ c.requires in
+    let r = c.refused.ensures c.args.header.axes (omega (arith, h.facts.axes_few, h.axes_are)) in
+    let stop = read-stopped _ c.read_sizes-read.ensures.sizes_tell.reads c.in_default.is c.refusal.ensures in record { sizes_tell = retold r.0 (sizes-stop _ _ _ _ stop); product_value = r.1 }
 
 pub judge_order-last-requires : goal.judge_order-last-requires
-judge_order-last-requires c = let n = c in
-    let p = c in
-    let h = headed _ _ p.requires in
+judge_order-last-requires c = let h = headed _ _ c.requires in
     let f = section-facts most_devices 10 11 _ _ _ 18 _ (lit≤ tt) (sizes_are ((goal.at.judge_order-last-requires c).In-At)) in
-    (omega (arith, f.inside), omega (arith, h.facts.short), omega (arith, f.sizes.few, p.read_sizes-read.ensures.product_value))
+    (omega (arith, f.inside), omega (arith, h.facts.short), omega (arith, f.sizes.few, c.read_sizes-read.ensures.product_value))
 
 pub returns-in_default-last : goal.returns-in_default-last
-returns-in_default-last c = let j = c in
-    let n = c in
-    let p = c in
-    let s = c in
-    let h = headed _ _ s.requires in
-    let r = c.refused-in_default-last.ensures s.args.header.axes (omega (arith, h.facts.axes_few, h.axes_are)) in
-    let stop = read-stopped _ j.judge_order-last.ensures c.in_default-last.is c.refusal-in_default-last.ensures in record { sizes_tell = retold r.0 (order-stops _ _ _ _ (sizes_are ((goal.at.returns-in_default-last c).In-At)) p.read_sizes-read.ensures.product_value (by-edition ((goal.at.returns-in_default-last c).After-judge_order-last) ∙ stop)); product_value = r.1 }
+returns-in_default-last c = let h = headed _ _ c.requires in
+    let r = c.refused-in_default-last.ensures c.args.header.axes (omega (arith, h.facts.axes_few, h.axes_are)) in
+    let stop = read-stopped _ c.judge_order-last.ensures c.in_default-last.is c.refusal-in_default-last.ensures in record { sizes_tell = retold r.0 (order-stops _ _ _ _ (sizes_are ((goal.at.returns-in_default-last c).In-At)) c.read_sizes-read.ensures.product_value (by-edition ((goal.at.returns-in_default-last c).After-judge_order-last) ∙ stop)); product_value = r.1 }
 
 pub returns : goal.returns
-returns c = let l = c in
-    let j = c in
-    let n = c in
-    let p = c in
-    let order = read-on _ j.judge_order-last.ensures l.in-At-last.is in record { sizes_tell = is-told (mesh-read _ _ _ _ (sizes_are ((goal.at.returns c).In-At)) p.read_sizes-read.ensures.product_value (by-edition ((goal.at.returns c).After-judge_order-last) ∙ order)); product_value = p.read_sizes-read.ensures.product_value }
+returns c = let order = read-on _ c.judge_order-last.ensures c.in-At-last.is in record { sizes_tell = is-told (mesh-read _ _ _ _ (sizes_are ((goal.at.returns c).In-At)) c.read_sizes-read.ensures.product_value (by-edition ((goal.at.returns c).After-judge_order-last) ∙ order)); product_value = c.read_sizes-read.ensures.product_value }

@@ -30,9 +30,8 @@ table_is : (c : In-At-last)
 table_is c = read-on _ c.read_sizes-second.ensures.sizes_tell.reads c.in-At-last.is
 
 pub returns-in_default : goal.returns-in_default
-returns-in_default c = let p = c in
-    let h = headed _ _ p.requires in
-    let stop = read-stopped _ p.read_mesh-first.ensures.sizes_tell.reads c.in_default.is c.refusal.ensures in
+returns-in_default c = let h = headed _ _ c.requires in
+    let stop = read-stopped _ c.read_mesh-first.ensures.sizes_tell.reads c.in_default.is c.refusal.ensures in
     shape-refused (c.refused.ensures.0 _) c.refused.ensures.1 (mesh-stops _ _ _ _ h.mesh_at_is stop)
 
 pub read_sizes-second-requires : goal.read_sizes-second-requires
@@ -40,10 +39,8 @@ read_sizes-second-requires c = let h = headed _ _ c.requires in
     (mesh-inside _ _ _ _ (mesh_is ((goal.at.read_sizes-second-requires c).In-At)), omega (arith, h.facts.rank_few, h.rank_is), lit≤ tt)
 
 pub returns-in_default-last : goal.returns-in_default-last
-returns-in_default-last c = let p = c in
-    let m = c in
-    let h = headed _ _ m.requires in
-    let stop = read-stopped _ p.read_sizes-second.ensures.sizes_tell.reads c.in_default-last.is c.refusal-in_default-last.ensures in
+returns-in_default-last c = let h = headed _ _ c.requires in
+    let stop = read-stopped _ c.read_sizes-second.ensures.sizes_tell.reads c.in_default-last.is c.refusal-in_default-last.ensures in
     shape-refused (c.refused-in_default-last.ensures.0 _) c.refused-in_default-last.ensures.1 (tensor-stops _ _ _ _ h.mesh_at_is (mesh_is ((goal.at.returns-in_default-last c).In-At)) h.table_at stop)
 
 pub table_of-table-requires : goal.table_of-table-requires
@@ -51,18 +48,16 @@ table_of-table-requires c = let h = headed _ _ c.requires in
     omega (arith, h.facts.rank_few, h.rank_is)
 
 pub returns : goal.returns
-returns c = let t = c in
-    let m = c in
-    let h = headed _ _ m.requires in
+returns c = let h = headed _ _ c.requires in
     let is = shape_is _ _ _ _ h.mesh_at_is (mesh_is ((goal.at.returns c).In-At)) h.table_at (table_is ((goal.at.returns c).In-At-last)) in
     let table = c.table_of-table.ensures in
     let f = mesh-and-table-facts _ _ _ _ _ is in
-    let a = m.args in
-    let order = order-told a.file.now a.header.axes h.edition_is m.read_mesh-first.ensures.product_value in
+    let a = c.args in
+    let order = order-told a.file.now a.header.axes h.edition_is c.read_mesh-first.ensures.product_value in
     record {
       reads = rw (table.1, ← order) (sym is);
       counted = record {
-        devices_are = m.read_mesh-first.ensures.product_value;
+        devices_are = c.read_mesh-first.ensures.product_value;
         n_is = sym f.axes_many;
         rank_is = table.0 ∙ sym (ap length table.1 ∙ f.rank_many);
       };

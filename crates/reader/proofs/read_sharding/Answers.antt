@@ -31,35 +31,22 @@ third-is : (c : After-read_replicated-third)
 third-is c = rw c.carries_replicated.ensures at c.read_replicated-third.ensures
 
 pub returns-then-header-at : goal.returns-then-header-at
-returns-then-header-at c = let s = c in
-    retold (c.refused.ensures s.args.header.rank s.requires.1) (sharding-misplaced _ _ _ _ _ _ c.if-header-at.true)
+returns-then-header-at c = retold (c.refused.ensures c.args.header.rank c.requires.1) (sharding-misplaced _ _ _ _ _ _ c.if-header-at.true)
 
 pub returns-in_default : goal.returns-in_default
-returns-in_default c = let p = c in
-    let s = c in
-    let stopped = read-stopped _ p.read_lists-first.ensures c.in_default.is c.refusal.ensures in
-    retold (c.refused-in_default.ensures _ s.requires.1) (dims-refused _ _ _ _ _ _ p.if-header-at.false _ _ stopped)
+returns-in_default c = let stopped = read-stopped _ c.read_lists-first.ensures c.in_default.is c.refusal.ensures in
+    retold (c.refused-in_default.ensures _ c.requires.1) (dims-refused _ _ _ _ _ _ c.if-header-at.false _ _ stopped)
 
 pub returns-in_default-after : goal.returns-in_default-after
-returns-in_default-after c = let p = c in
-    let d = c in
-    let s = c in
-    let stopped = read-stopped _ p.read_list-second.ensures c.in_default-after.is c.refusal-in_default-after.ensures in
-    retold (c.refused-in_default-after.ensures _ s.requires.1) (unreduced-refused _ _ _ _ _ _ d.if-header-at.false _ _ (dims-are ((goal.at.returns-in_default-after c).In-At)) _ _ stopped)
+returns-in_default-after c = let stopped = read-stopped _ c.read_list-second.ensures c.in_default-after.is c.refusal-in_default-after.ensures in
+    retold (c.refused-in_default-after.ensures _ c.requires.1) (unreduced-refused _ _ _ _ _ _ c.if-header-at.false _ _ (dims-are ((goal.at.returns-in_default-after c).In-At)) _ _ stopped)
 
 pub returns-in_default-last : goal.returns-in_default-last
-returns-in_default-last c = let p = c in
-    let u = c in
-    let d = c in
-    let s = c in
-    let stopped = read-stopped _ (third-is ((goal.at.returns-in_default-last c).After-read_replicated-third)) c.in_default-last.is c.refusal-in_default-last.ensures in
-    let refused = replicated-refused _ _ _ _ _ _ d.if-header-at.false _ _ (dims-are ((goal.at.returns-in_default-last c).In-At)) _ _ (unreduced_are ((goal.at.returns-in_default-last c).In-At-after)) in
-    retold (c.refused-in_default-last.ensures _ s.requires.1) (refused _ _ stopped)
+returns-in_default-last c = let stopped = read-stopped _ (third-is ((goal.at.returns-in_default-last c).After-read_replicated-third)) c.in_default-last.is c.refusal-in_default-last.ensures in
+    let refused = replicated-refused _ _ _ _ _ _ c.if-header-at.false _ _ (dims-are ((goal.at.returns-in_default-last c).In-At)) _ _ (unreduced_are ((goal.at.returns-in_default-last c).In-At-after)) in
+    retold (c.refused-in_default-last.ensures _ c.requires.1) (refused _ _ stopped)
 
 pub returns : goal.returns
-returns c = let p = c in
-    let u = c in
-    let d = c in
-    let replicated = read-on _ (third-is ((goal.at.returns c).After-read_replicated-third)) c.in-At-last.is in
-    let whole = sharding-whole _ _ _ _ _ _ d.if-header-at.false _ _ (dims-are ((goal.at.returns c).In-At)) _ _ (unreduced_are ((goal.at.returns c).In-At-after)) in
+returns c = let replicated = read-on _ (third-is ((goal.at.returns c).After-read_replicated-third)) c.in-At-last.is in
+    let whole = sharding-whole _ _ _ _ _ _ c.if-header-at.false _ _ (dims-are ((goal.at.returns c).In-At)) _ _ (unreduced_are ((goal.at.returns c).In-At-after)) in
     is-told (whole _ _ replicated)

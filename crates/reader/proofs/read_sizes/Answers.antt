@@ -11,20 +11,17 @@ returns-then-file-at c = let r = c.refused_for-then-file-at.ensures c.args.count
 
 pub returns-then-size-eq0 : goal.returns-then-size-eq0
 returns-then-size-eq0 c = let r = c.refused_for-then-size-eq0.ensures c.args.count (omega arith) in
-    let p = c in
-    let size = p.u16_at-size in
-    let zero = at_zero p.loop-i.invariant size.result p.loop-i-test.true size.ensures.0 in record { sizes_tell = retold r.0 (zero (omega arith) c.if-size-eq0.true); product_value = r.1 }
+    let size = c.u16_at-size in
+    let zero = at_zero c.loop-i.invariant size.result c.loop-i-test.true size.ensures.0 in record { sizes_tell = retold r.0 (zero (omega arith) c.if-size-eq0.true); product_value = r.1 }
 
 pub returns-then-most-product : goal.returns-then-most-product
 returns-then-most-product c = let r = c.refused_for-then-most-product.ensures c.args.count (omega arith) in
-    let p = c in
-    let size = p.u16_at-size in
-    let over = at-over p.loop-i.invariant size.result p.loop-i-test.true size.ensures.0 in record { sizes_tell = retold r.0 (over (omega arith) c.if-size-eq0.false c.if-most-product.true); product_value = r.1 }
+    let size = c.u16_at-size in
+    let over = at-over c.loop-i.invariant size.result c.loop-i-test.true size.ensures.0 in record { sizes_tell = retold r.0 (over (omega arith) c.if-size-eq0.false c.if-most-product.true); product_value = r.1 }
 
 pub loop-i-preserved : goal.loop-i-preserved
-loop-i-preserved c = let p = c in
-    let size = p.u16_at-size in
-    let go = step p.loop-i.invariant size.result p.loop-i-test.true size.ensures.0 in
+loop-i-preserved c = let size = c.u16_at-size in
+    let go = step c.loop-i.invariant size.result c.loop-i-test.true size.ensures.0 in
     go c.if-size-eq0.false c.if-most-product.false (omega arith) (omega arith)
 
 pub returns : goal.returns

@@ -21,29 +21,23 @@ returns-in_default c = let a = c.args in
     retold (c.refused.ensures a.rank) (no_kind a.n a.rank a.k a.file.now a.at end)
 
 pub returns-in-AllSlice : goal.returns-in-AllSlice
-returns-in-AllSlice c = let p = c in
-    retold (c.read_per_dim.ensures p.args.k) (kind-is ((goal.at.returns-in-AllSlice c).After-kind_of-kind))
+returns-in-AllSlice c = retold (c.read_per_dim.ensures c.args.k) (kind-is ((goal.at.returns-in-AllSlice c).After-kind_of-kind))
 
 pub returns-in-AllGather : goal.returns-in-AllGather
-returns-in-AllGather c = let p = c in
-    retold (c.read_per_dim-in-AllGather.ensures p.args.k) (kind-is ((goal.at.returns-in-AllGather c).After-kind_of-kind))
+returns-in-AllGather c = retold (c.read_per_dim-in-AllGather.ensures c.args.k) (kind-is ((goal.at.returns-in-AllGather c).After-kind_of-kind))
 
 pub returns-in-AllReduce : goal.returns-in-AllReduce
-returns-in-AllReduce c = let p = c in
-    let a = p.args in
+returns-in-AllReduce c = let a = c.args in
     retold (c.read_all_reduce.ensures a.rank a.k) (rw c.in-AllReduce.is at (kind-is ((goal.at.returns-in-AllReduce c).After-kind_of-kind)))
 
 pub returns-in-AllToAll : goal.returns-in-AllToAll
-returns-in-AllToAll c = let p = c in
-    let a = p.args in
+returns-in-AllToAll c = let a = c.args in
     retold (c.read_all_to_all.ensures a.rank a.k) (rw c.in-AllToAll.is at (kind-is ((goal.at.returns-in-AllToAll c).After-kind_of-kind)))
 
 pub returns-in-ReduceScatter : goal.returns-in-ReduceScatter
-returns-in-ReduceScatter c = let p = c in
-    retold (c.read_per_dim-in-ReduceScatter.ensures p.args.k) (kind-is ((goal.at.returns-in-ReduceScatter c).After-kind_of-kind))
+returns-in-ReduceScatter c = retold (c.read_per_dim-in-ReduceScatter.ensures c.args.k) (kind-is ((goal.at.returns-in-ReduceScatter c).After-kind_of-kind))
 
 pub returns-in-Unknown : goal.returns-in-Unknown
-returns-in-Unknown c = let p = c in
-    let a = p.args in
+returns-in-Unknown c = let a = c.args in
     let judged = kind-is ((goal.at.returns-in-Unknown c).After-kind_of-kind) ∙ unknown a.n a.rank a.k a.file.now (a.at + 1) c.in-Unknown.is in
     retold (c.refused-in-Unknown.ensures a.rank) judged
