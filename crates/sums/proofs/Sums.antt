@@ -1,12 +1,7 @@
 -- The proofs of what specs/Sums.antt states and of its worked cases. Assumes nothing.
-use Rattle.std.specs.Prelude.{◌≡◌, ℕ, ◌+◌, ◌*◌, ◌<◌, ◌≤◌, ◌⊎◌, List, [], ◌∷◌, ◌++◌, length, get_or, take, drop, nat_lt, slice_index, slice_index_or, refl}
-use Rattle.rules.specs.Lists.{tab, pick, product, In, Distinct}
-use Rattle.rules.specs.Mesh.{devices, span, position, OnMesh}
-use Rattle.rules.specs.Spread.{StateOf, tabulate, held, add_words}
+use Rattle.std.specs.Prelude.{◌≡◌, [], ◌∷◌, refl}
+use Rattle.rules.specs.Spread.{tabulate, held, add_words}
 use Rattle.rules.specs.Collectives.{made, reduce_places}
-use Rattle.rules.specs.Limits.{most_axes, most_devices, most_words}
-use Rattle.strided.specs.Strided.{offset}
-use Rattle.digits.specs.Digits.{most_room, mesh_strides, cleared, axis_digits, mesh_digits, HasStrides}
 use Rattle.sums.specs.Sums.{summed_buffer}
 
 -- Four devices, groups along the first axis: the devices 0 and 1 have the sums, or all have them; what stands behind stays.

@@ -3,7 +3,7 @@
 -- member at each position begins. Each group is added once, in place of its first member's shard; so many of the others as are to have the sum
 -- repeat that. The elements are of any type W: addAll is the sum of a group's elements, z is read outside the buffer, which no code does. Assumes
 -- nothing.
-use Rattle.std.specs.Prelude.{◌≡◌, ℕ, ◌+◌, ◌*◌, ◌<◌, ◌≤◌, ◌⊎◌, List, [], ◌∷◌, ◌++◌, length, get_or, take, drop, nat_lt, slice_index, slice_index_or, refl}
+use Rattle.std.specs.Prelude.{◌≡◌, ℕ, ◌+◌, ◌*◌, ◌<◌, ◌≤◌, ◌⊎◌, List, [], ◌∷◌, ◌++◌, length, get_or, take, drop, nat_lt, slice_index, slice_index_or}
 use Rattle.rules.specs.Lists.{tab, pick, product, In, Distinct}
 use Rattle.rules.specs.Mesh.{devices, span, position, OnMesh}
 use Rattle.rules.specs.Spread.{StateOf, tabulate, held, add_words}
