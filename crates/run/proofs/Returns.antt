@@ -1,6 +1,6 @@
 -- What the definition answers and leaves in each of the code's four ways out (`stops-file`, `stops-work`, `stops-spare`, `finishes`), and the last
 -- state as the code has it (`last-size`, `last_fits`). Assumes nothing.
-use Prim.Native.Nat.{ℕ, ◌+◌, ◌-◌, ◌*◌, ◌≤◌, ◌<◌}
+use Prim.Native.Nat.{ℕ, ◌-◌, ◌*◌, ◌≤◌, ◌<◌}
 use mathlib.Core.Path.{◌≡◌, refl, sym, ap, ap₂, ◌∙◌}
 use mathlib.Core.Bool.{Bool}
 use mathlib.Core.List.{List, [], ◌++◌}
