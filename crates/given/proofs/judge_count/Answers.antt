@@ -6,13 +6,11 @@ use Rattle.given.proofs.Counts.{given-length}
 use Rattle.given.proofs.judge_count.Goals as goal
 
 pub returns-then-n-count : goal.returns-then-n-count
-returns-then-n-count c = let s = c in
-    let a = s.args in
-    let e = given-length a.list (s.well_formed.0.1.1.1.0.1.0.1) in
+returns-then-n-count c = let a = c.args in
+    let e = given-length a.list (omega arith) in
     simp (c.refused.ensures, lt-leb (length (list_given a.list)) a.n (omega (arith, e)))
 
 pub returns : goal.returns
-returns c = let s = c in
-    let a = s.args in
-    let e = given-length a.list (s.well_formed.0.1.1.1.0.1.0.1) in
+returns c = let a = c.args in
+    let e = given-length a.list (omega arith) in
     simp (le-leb (length (list_given a.list)) a.n (omega (arith, e)))

@@ -8,14 +8,10 @@ pub returns-then-order-eq0 : goal.returns-then-order-eq0
 returns-then-order-eq0 c = sym (order-none _ _ c.if-order-eq0.true)
 
 pub returns-then-not-order_allowed : goal.returns-then-not-order_allowed
-returns-then-not-order_allowed c = let o = c in
-    let p = c in
-    let order = p.args.order.now in
+returns-then-not-order_allowed c = let order = c.args.order.now in
     c.refused.ensures
-    ∙ sym (order-some _ order p.if-order-eq0.false (sym (o.order_allowed.ensures ∙ ap (λ (d : ℕ). order_allowed d order) p.product_from-devices.ensures) ∙ c.if-not-order_allowed.true))
+    ∙ sym (order-some _ order c.if-order-eq0.false (sym (c.order_allowed.ensures ∙ ap (λ (d : ℕ). order_allowed d order) c.product_from-devices.ensures) ∙ c.if-not-order_allowed.true))
 
 pub returns : goal.returns
-returns c = let o = c in
-    let p = c in
-    let order = p.args.order.now in
-    sym (order-some _ order p.if-order-eq0.false (sym (o.order_allowed.ensures ∙ ap (λ (d : ℕ). order_allowed d order) p.product_from-devices.ensures) ∙ c.if-not-order_allowed.false))
+returns c = let order = c.args.order.now in
+    sym (order-some _ order c.if-order-eq0.false (sym (c.order_allowed.ensures ∙ ap (λ (d : ℕ). order_allowed d order) c.product_from-devices.ensures) ∙ c.if-not-order_allowed.false))

@@ -11,57 +11,44 @@ use Rattle.given.proofs.Turns.{turns-start, turns-done, turn-stops, turned, turn
 use Rattle.given.proofs.judge_outermost.Goals as goal
 
 pub loop-n-init : goal.loop-n-init
-loop-n-init c = let s = c in
-    let a = s.args in
-    turns-start (mesh_of a.mesh) (sizes_of a.table) (steps_given a.table.rank a.steps.now) a.count (sharding_of a.table.rank a.start) s.requires.sound
+loop-n-init c = let a = c.args in
+    turns-start (mesh_of a.mesh) (sizes_of a.table) (steps_given a.table.rank a.steps.now) a.count (sharding_of a.table.rank a.start) c.requires.sound
 
 pub judge_record-item-requires : goal.judge_record-item-requires
-judge_record-item-requires c = let s = c in
-    let a = s.args in
+judge_record-item-requires c = let a = c.args in
     let g = c.loop-n.invariant in
     record {
-      shaped = s.requires.shaped;
+      shaped = c.requires.shaped;
       sound = g.sound;
       inside = omega (arith, g.inside, given-length a.table.rank a.steps.now);
     }
 
 pub returns-in_default : goal.returns-in_default
-returns-in_default c = let j = c in
-    let l = c in
-    let a = l.args in
-    let stop = read-stopped _ j.judge_record-item.ensures.reads c.in_default.is c.refusal.ensures in
-    sym (numbered-stops _ _ (λ n k q. turn-stops (mesh_of a.mesh) (sizes_of a.table) (steps_given a.table.rank a.steps.now) l.loop-n.invariant j.loop-n-test.true q) stop)
+returns-in_default c = let a = c.args in
+    let stop = read-stopped _ c.judge_record-item.ensures.reads c.in_default.is c.refusal.ensures in
+    sym (numbered-stops _ _ (λ n k q. turn-stops (mesh_of a.mesh) (sizes_of a.table) (steps_given a.table.rank a.steps.now) c.loop-n.invariant c.loop-n-test.true q) stop)
 
 pub overflow_add-ran : goal.overflow_add-ran
-overflow_add-ran c = let j = c in
-    let l = c in
-    let s = c in
-    let a = s.args in
-    let p = s.requires.shaped in
+overflow_add-ran c = let a = c.args in
+    let p = c.requires.shaped in
     let k = is-ranked (mesh_of a.mesh) (sizes_of a.table) a.table.rank p.rank_is p.fits.rank a.steps.now 0 in
-    let m = numbered-on _ (read-on _ j.judge_record-item.ensures.reads c.in-At.is) in
-    let t = turned (mesh_of a.mesh) (sizes_of a.table) (steps_given a.table.rank a.steps.now) l.loop-n.invariant k p.fits.sized.least j.loop-n-test.true m in
-    omega (arith, t.few, l.loop-n.invariant.ran_few)
+    let m = numbered-on _ (read-on _ c.judge_record-item.ensures.reads c.in-At.is) in
+    let t = turned (mesh_of a.mesh) (sizes_of a.table) (steps_given a.table.rank a.steps.now) c.loop-n.invariant k p.fits.sized.least c.loop-n-test.true m in
+    omega (arith, t.few, c.loop-n.invariant.ran_few)
 
 pub returns-then-ran-gt-MOST_RUN : goal.returns-then-ran-gt-MOST_RUN
-returns-then-ran-gt-MOST_RUN c = let j = c in
-    let l = c in
-    let s = c in
-    let a = s.args in
-    let p = s.requires.shaped in
+returns-then-ran-gt-MOST_RUN c = let a = c.args in
+    let p = c.requires.shaped in
     let k = is-ranked (mesh_of a.mesh) (sizes_of a.table) a.table.rank p.rank_is p.fits.rank a.steps.now 0 in
-    let m = numbered-on _ (read-on _ j.judge_record-item.ensures.reads c.in-At.is) in
-    c.refusal_at.ensures ∙ sym (ap step_numbered (turn-over (mesh_of a.mesh) (sizes_of a.table) (steps_given a.table.rank a.steps.now) l.loop-n.invariant k p.fits.sized.least j.loop-n-test.true m c.if-ran-gt-MOST_RUN.true))
+    let m = numbered-on _ (read-on _ c.judge_record-item.ensures.reads c.in-At.is) in
+    c.refusal_at.ensures ∙ sym (ap step_numbered (turn-over (mesh_of a.mesh) (sizes_of a.table) (steps_given a.table.rank a.steps.now) c.loop-n.invariant k p.fits.sized.least c.loop-n-test.true m c.if-ran-gt-MOST_RUN.true))
 
 pub loop-n-preserved : goal.loop-n-preserved
-loop-n-preserved c = let j = c in
-    let l = c in
-    let s = c in
-    let a = s.args in
-    let p = s.requires.shaped in
+loop-n-preserved c = let a = c.args in
+    let p = c.requires.shaped in
     let k = is-ranked (mesh_of a.mesh) (sizes_of a.table) a.table.rank p.rank_is p.fits.rank a.steps.now 0 in
-    let m = numbered-on _ (read-on _ j.judge_record-item.ensures.reads c.in-At.is) in
-    turn_step (mesh_of a.mesh) (sizes_of a.table) (steps_given a.table.rank a.steps.now) l.loop-n.invariant k p.fits.sized.least j.loop-n-test.true m c.if-ran-gt-MOST_RUN.false
+    let m = numbered-on _ (read-on _ c.judge_record-item.ensures.reads c.in-At.is) in
+    turn_step (mesh_of a.mesh) (sizes_of a.table) (steps_given a.table.rank a.steps.now) c.loop-n.invariant k p.fits.sized.least c.loop-n-test.true m c.if-ran-gt-MOST_RUN.false
 
 pub returns : goal.returns
 returns c = let a = c.args in sym (ap step_numbered (turns-done (mesh_of a.mesh) (sizes_of a.table) (steps_given a.table.rank a.steps.now) c.loop-n.invariant c.loop-n-test.false))

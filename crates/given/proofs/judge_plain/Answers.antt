@@ -11,38 +11,26 @@ use Rattle.given.proofs.Plain.{at-record, past-last, form-stops, step-stops, pla
 use Rattle.given.proofs.judge_plain.Goals as goal
 
 pub returns-then-steps-i : goal.returns-then-steps-i
-returns-then-steps-i c = let s = c in
-    let a = s.args in
-    let p = s.requires.0.shaped in
+returns-then-steps-i c = let a = c.args in
+    let p = c.requires.0.shaped in
     retold (c.refused.ensures a.table.rank) (ap step_numbered (past-last (mesh_of a.mesh) (sizes_of a.table) a.table.rank p.rank_is p.fits.rank a.steps.now a.i (sharding_of a.table.rank a.sharding) c.if-steps-i.true))
 
 pub returns-in_default : goal.returns-in_default
-returns-in_default c = let f = c in
-    let t = c in
-    let s = c in
-    let a = s.args in
-    let p = s.requires.0.shaped in
-    let stop = failed f.judge_form-form.ensures c.in_default.is c.refusal_of.ensures in
-    retold (c.refused-in_default.ensures a.table.rank) (numbered-stops _ _ (λ n k q. form-stops (mesh_of a.mesh) (sizes_of a.table) a.table.rank p.rank_is p.fits.rank a.steps.now a.i (omega (arith, t.if-steps-i.false)) s.requires.1 (sharding_of a.table.rank a.sharding) a.mesh.n p.n_is p.fits.axes _ t.step_record-step.ensures q) stop)
+returns-in_default c = let a = c.args in
+    let p = c.requires.0.shaped in
+    let stop = failed c.judge_form-form.ensures c.in_default.is c.refusal_of.ensures in
+    retold (c.refused-in_default.ensures a.table.rank) (numbered-stops _ _ (λ n k q. form-stops (mesh_of a.mesh) (sizes_of a.table) a.table.rank p.rank_is p.fits.rank a.steps.now a.i (omega (arith, c.if-steps-i.false)) c.requires.1 (sharding_of a.table.rank a.sharding) a.mesh.n p.n_is p.fits.axes _ c.step_record-step.ensures q) stop)
 
 pub returns-in_default-verdict : goal.returns-in_default-verdict
-returns-in_default-verdict c = let j = c in
-    let f = c in
-    let t = c in
-    let s = c in
-    let a = s.args in
-    let p = s.requires.0.shaped in
-    let form = numbered-on _ (passed f.judge_form-form.ensures j.in-Fine.is) in
-    let stop = stopped _ j.judge_step-after.ensures.result_value c.in_default-verdict.is c.refusal_of-reason.ensures in
-    retold (c.refused-in_default-verdict.ensures a.table.rank) (ap step_numbered (step-stops (mesh_of a.mesh) (sizes_of a.table) a.table.rank p.rank_is p.fits.rank a.steps.now a.i (omega (arith, t.if-steps-i.false)) s.requires.1 (sharding_of a.table.rank a.sharding) a.mesh.n p.n_is p.fits.axes _ t.step_record-step.ensures form stop) ∙ at-record c.refusal_at.result _ (a.i + 1) c.refusal_at.ensures)
+returns-in_default-verdict c = let a = c.args in
+    let p = c.requires.0.shaped in
+    let form = numbered-on _ (passed c.judge_form-form.ensures c.in-Fine.is) in
+    let stop = stopped _ c.judge_step-after.ensures.result_value c.in_default-verdict.is c.refusal_of-reason.ensures in
+    retold (c.refused-in_default-verdict.ensures a.table.rank) (ap step_numbered (step-stops (mesh_of a.mesh) (sizes_of a.table) a.table.rank p.rank_is p.fits.rank a.steps.now a.i (omega (arith, c.if-steps-i.false)) c.requires.1 (sharding_of a.table.rank a.sharding) a.mesh.n p.n_is p.fits.axes _ c.step_record-step.ensures form stop) ∙ at-record c.refusal_at.result _ (a.i + 1) c.refusal_at.ensures)
 
 pub returns : goal.returns
-returns c = let j = c in
-    let f = c in
-    let t = c in
-    let s = c in
-    let a = s.args in
-    let p = s.requires.0.shaped in
-    let form = numbered-on _ (passed f.judge_form-form.ensures j.in-Fine.is) in
-    let o = fine j.judge_step-after.ensures.result_value c.in-Fine-verdict.is in
-    is-told (ap step_numbered (plain-is (mesh_of a.mesh) (sizes_of a.table) a.table.rank p.rank_is p.fits.rank a.steps.now a.i (omega (arith, t.if-steps-i.false)) s.requires.1 (sharding_of a.table.rank a.sharding) a.mesh.n p.n_is p.fits.axes _ t.step_record-step.ensures form o))
+returns c = let a = c.args in
+    let p = c.requires.0.shaped in
+    let form = numbered-on _ (passed c.judge_form-form.ensures c.in-Fine.is) in
+    let o = fine c.judge_step-after.ensures.result_value c.in-Fine-verdict.is in
+    is-told (ap step_numbered (plain-is (mesh_of a.mesh) (sizes_of a.table) a.table.rank p.rank_is p.fits.rank a.steps.now a.i (omega (arith, c.if-steps-i.false)) c.requires.1 (sharding_of a.table.rank a.sharding) a.mesh.n p.n_is p.fits.axes _ c.step_record-step.ensures form o))

@@ -6,19 +6,14 @@ use Rattle.given.proofs.Whole.{is-sharding, records-decide}
 use Rattle.given.proofs.judge_rest.Goals as goal
 
 pub judge_outermost-requires : goal.judge_outermost-requires
-judge_outermost-requires c = let j = c in
-    let s = c in
-    let a = s.args in
+judge_outermost-requires c = let a = c.args in
     record {
-      shaped = s.requires;
-      sound = (is-sharding (mesh_of a.mesh) (sizes_of a.table) a.mesh.n a.table.rank a.start s.requires.n_is s.requires.fits.axes (passed j.judge_sharding-sharding.ensures c.in-Fine.is)).1;
+      shaped = c.requires;
+      sound = (is-sharding (mesh_of a.mesh) (sizes_of a.table) a.mesh.n a.table.rank a.start c.requires.n_is c.requires.fits.axes (passed c.judge_sharding-sharding.ensures c.in-Fine.is)).1;
       inside = omega arith;
     }
 
 pub returns : goal.returns
-returns c = let t = c in
-    let j = c in
-    let s = c in
-    let a = s.args in
+returns c = let a = c.args in
     c.judge_outermost.ensures
-    ∙ sym (records-decide (mesh_of a.mesh) (sizes_of a.table) a.mesh.n a.table.rank a.start s.requires.n_is s.requires.fits.axes (passed j.judge_sharding-sharding.ensures t.in-Fine.is) a.steps.now a.count)
+    ∙ sym (records-decide (mesh_of a.mesh) (sizes_of a.table) a.mesh.n a.table.rank a.start c.requires.n_is c.requires.fits.axes (passed c.judge_sharding-sharding.ensures c.in-Fine.is) a.steps.now a.count)

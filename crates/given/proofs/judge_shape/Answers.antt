@@ -4,8 +4,6 @@ use Rattle.given.proofs.Whole.{on-mesh}
 use Rattle.given.proofs.judge_shape.Goals as goal
 
 pub judge_order-ordered-requires : goal.judge_order-ordered-requires
-judge_order-ordered-requires c = let z = c in
-    let l = c in
-    let a = l.args in
-    on-mesh a.mesh.now (length a.sizes.now) a.steps (passed l.judge_limits-limits.ensures z.in-Fine.is)
-    (passed z.judge_sizes-sized.ensures c.in-Fine-sized.is)
+judge_order-ordered-requires c = let a = c.args in
+    on-mesh a.mesh.now (length a.sizes.now) a.steps (passed c.judge_limits-limits.ensures c.in-Fine.is)
+    (passed c.judge_sizes-sized.ensures c.in-Fine-sized.is)

@@ -7,5 +7,4 @@ pub returns-in_default : goal.returns-in_default
 returns-in_default c = stops _ _ _ c.judge_count-first.ensures _ c.in_default.is ∙ sym (counts-two _ _ _)
 
 pub returns : goal.returns
-returns c = let e = c in
-    c.judge_count.ensures ∙ sym (counts-two _ _ _ ∙ goes_on _ _ _ e.judge_count-first.ensures e.in-Fine.is)
+returns c = c.judge_count.ensures ∙ sym (counts-two _ _ _ ∙ goes_on _ _ _ c.judge_count-first.ensures c.in-Fine.is)

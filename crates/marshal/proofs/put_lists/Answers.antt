@@ -7,15 +7,14 @@ use Rattle.marshal.proofs.Structs.{six-places}
 use Rattle.marshal.proofs.put_lists.Goals as goal
 
 pub loop-d-preserved : goal.loop-d-preserved
-loop-d-preserved c = let l = c in
-    let a = l.args in
-    let g = l.loop-d.invariant in
+loop-d-preserved c = let a = c.args in
+    let g = c.loop-d.invariant in
     let less = c.loop-d-test.true in
     let s = sharding_of most_dims a.sharding in
     let o = c.list_of in
     let r = c.put_axes in (
-      rw (next-part l.loop-d.d most_axes) (fill-part most_axes g.0 (omega (arith, g.1, less)) r.auto.places
-          (r.ensures ∙ six-places s l.loop-d.d (axes_of o.result) o.ensures)),
+      rw (next-part c.loop-d.d most_axes) (fill-part most_axes g.0 (omega (arith, g.1, less)) r.auto.places
+          (r.ensures ∙ six-places s c.loop-d.d (axes_of o.result) o.ensures)),
       g.1,
       omega (arith, less),
       g.3,
