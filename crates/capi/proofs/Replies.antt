@@ -10,7 +10,7 @@ use Rattle.rules.specs.Limits.{most_axes, most_dims}
 use Rattle.rules.specs.Sharding.{Sharding}
 use Rattle.rules.specs.Collectives.{Step}
 use Rattle.rules.specs.Refusals.{Judged, accept, refuse, ◌>>=◌, ◌>>◌, need}
-use Rattle.types.specs.Answers.{refused_with, number_of, reason_of, checked_of, placed_of}
+use Rattle.types.specs.Answers.{number_of, reason_of, checked_of, placed_of}
 use Rattle.rules.specs.PlanFile.{Plan, judge}
 use Rattle.types.specs.Types.{four_places}
 use Rattle.rules.specs.Calls.{CheckAnswer, check_of, PlaceAnswer, place_of}
@@ -36,7 +36,6 @@ use Rattle.records.specs.Promises.{ReadPromise, PlanPromise}
 use Rattle.records.specs.declared.Opened.{Opened}
 use Rattle.records.specs.declared.ReadOutcome.{ReadOutcome}
 use Rattle.records.specs.declared.ReadOutcome.TheVariants as read
-use Rattle.records.specs.declared.Steps.{Steps}
 use Rattle.records.specs.declared.Planned.{Planned}
 use Rattle.records.specs.declared.PlanOutcome.{PlanOutcome}
 use Rattle.records.specs.declared.PlanOutcome.TheVariants as plan
@@ -49,7 +48,6 @@ use Rattle.placements.specs.declared.PlacedAll.{PlacedAll}
 use Rattle.placements.specs.declared.PlaceAllOutcome.{PlaceAllOutcome}
 use Rattle.placements.proofs.Promises.{all_listed}
 use Rattle.marshal.specs.Structs.{step_numbers}
-use Rattle.marshal.specs.declared.StepReply.{StepReply}
 use Rattle.marshal.proofs.Structs.{sharding-of, step-at}
 use Rattle.capi.specs.Boundary.{check_reply, place_reply, checked_reply, placed_reply, opened_reply, planned_reply, read_reply, made_reply, placed_all_reply, all_reply}
 

@@ -1,5 +1,5 @@
 -- The proofs of what specs/Worked.antt states and of its worked cases. Assumes nothing.
-use Rattle.std.specs.Prelude.{ℕ, ◌≡◌, refl, List, [], ◌∷◌, ◌++◌, replicate}
+use Rattle.std.specs.Prelude.{◌≡◌, refl, [], ◌∷◌, ◌++◌, replicate}
 use Rattle.rules.specs.Calls.{check_of, place_of, groups_of, run_of}
 use Rattle.rules.specs.Ledger.{file_in, file_of, w1, w4}
 use Rattle.records.specs.Writing.{write_of, write_leaves}
@@ -8,7 +8,6 @@ use Rattle.records.specs.Reading.{read_of, read_leaves_order, read_leaves_steps}
 use Rattle.records.specs.Planning.{plan_of, plan_steps}
 use Rattle.records.specs.PlanAnswer.{steps_planned}
 use Rattle.marshal.specs.Structs.{sharding_in}
-use Rattle.marshal.specs.declared.ShardingReply.{ShardingReply}
 use Rattle.capi.specs.Boundary.{refusal_code, check_reply, ran_reply, place_reply, written_reply, opened_reply, planned_reply}
 use Rattle.capi.specs.Worked.{zeros, six, six_axes, both, gather, out, from, to}
 

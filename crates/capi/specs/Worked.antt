@@ -1,17 +1,9 @@
 -- Answers for C that the prover computes, every place of them: a check with lists at four of the six places, a check and a placement with a list of
 -- three replicated axes before and after a step, the placement of W4, and refusals with and without a step; W1 written of a C sharding and a record, and read
 -- back; a plan of three steps, and one that is refused. Assumes nothing.
-use Rattle.std.specs.Prelude.{ℕ, ◌≡◌, refl, List, [], ◌∷◌, ◌++◌, replicate}
-use Rattle.rules.specs.Calls.{check_of, place_of, groups_of, run_of}
-use Rattle.rules.specs.Ledger.{file_in, file_of, w1, w4}
-use Rattle.records.specs.Writing.{write_of, write_leaves}
-use Rattle.records.specs.Forms.{dims_given, records_given, steps_given}
-use Rattle.records.specs.Reading.{read_of, read_leaves_order, read_leaves_steps}
-use Rattle.records.specs.Planning.{plan_of, plan_steps}
-use Rattle.records.specs.PlanAnswer.{steps_planned}
-use Rattle.marshal.specs.Structs.{sharding_in}
+use Rattle.std.specs.Prelude.{ℕ, List, [], ◌∷◌, ◌++◌, replicate}
+use Rattle.rules.specs.Ledger.{file_in}
 use Rattle.marshal.specs.declared.ShardingReply.{ShardingReply}
-use Rattle.capi.specs.Boundary.{refusal_code, check_reply, ran_reply, place_reply, written_reply, opened_reply, planned_reply}
 
 abbrev pub zeros : ℕ → List ℕ
 zeros n = replicate n 0

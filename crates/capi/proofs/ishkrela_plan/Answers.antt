@@ -1,6 +1,5 @@
-use Rattle.std.proofs.Common.{◌≡◌, ◌∙◌}
+use Rattle.std.proofs.Common.{◌∙◌}
 use Rattle.records.specs.PlanAnswer.{steps_planned}
-use Rattle.marshal.specs.Structs.{sharding_in}
 use Rattle.capi.specs.Boundary.{planned_reply}
 use Rattle.capi.proofs.Replies.{plan-told, plan-count}
 use Rattle.capi.proofs.ishkrela_plan.Goals as goal

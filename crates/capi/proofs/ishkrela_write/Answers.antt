@@ -1,9 +1,7 @@
-use Rattle.std.proofs.Common.{◌≡◌, sym, ap, ◌∙◌}
-use Rattle.records.specs.Records.{Records}
+use Rattle.std.proofs.Common.{sym, ap, ◌∙◌}
 use Rattle.records.specs.Writing.{write_of, write_leaves}
 use Rattle.records.specs.Forms.{records_given}
 use Rattle.records.specs.Promises.{write_meaning}
-use Rattle.marshal.specs.Structs.{sharding_in}
 use Rattle.capi.specs.Boundary.{written_reply}
 use Rattle.capi.proofs.ishkrela_write.Goals as goal
 
