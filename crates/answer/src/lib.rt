@@ -44,7 +44,7 @@ fn print_text(rt: &impl Print, text: &[u8]) {
     let _ = rt.write_all(text);
 }
 
-pub fn print_number(rt: &impl Print, n: u64) {
+fn print_number(rt: &impl Print, n: u64) {
     let _ = rt.print(n);
 }
 

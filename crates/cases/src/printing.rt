@@ -1,6 +1,5 @@
 // Printing: text, numbers after each other on a line, and lists in brackets.
 // A write that fails is let go.
-use answer::print_number;
 use ishkrela::{Axis, AxisList, Dim, DimLists};
 
 pub(crate) fn print_text(rt: &impl Print, text: &[u8]) {
@@ -10,7 +9,7 @@ pub(crate) fn print_text(rt: &impl Print, text: &[u8]) {
 // Prints a number after a space.
 pub(crate) fn print_next(rt: &impl Print, n: u64) {
     print_text(rt, b" ");
-    print_number(rt, n);
+    let _ = rt.print(n);
 }
 
 // Prints each number after a space.
@@ -38,7 +37,7 @@ fn print_axis(rt: &impl Print, list: AxisList, i: usize) {
     if i < list.len() {
         print_comma(rt, i);
         let axis = list.at(i);
-        print_number(rt, axis.0 as u64);
+        let _ = rt.print(axis.0 as u64);
     }
 }
 
@@ -79,7 +78,7 @@ pub(crate) fn print_lists(rt: &impl Print, lists: DimLists, rank: usize) {
 fn print_size(rt: &impl Print, sizes: [u16; Dim::MOST], rank: usize, i: usize) {
     if i < rank && i < Dim::MOST {
         print_comma(rt, i);
-        print_number(rt, sizes[i] as u64);
+        let _ = rt.print(sizes[i] as u64);
     }
 }
 
