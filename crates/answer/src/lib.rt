@@ -13,13 +13,12 @@ ghost use Rattle.plan.specs.Parts.{Begins};
 
 use blocks::judge_item;
 use dims::{shard_of, words};
-use ishkrela::{CheckOutcome, Checked, Dim, Refusal, Sharding, check};
-use opening::open;
-use reader::Next;
+use ishkrela::{Checked, Refusal, check};
+use opening::{Opening, open};
 use reasons::number_of;
 use std::io::Read;
 use taking::{Extent, shard_words};
-use types::{Mesh, Step, Table};
+use types::{Step, Table};
 
 // Reads until the buffer is full, the input ends or a read fails. Answers how many bytes, those that were taken from the
 // input, stand at the buffer's front.
@@ -28,6 +27,7 @@ pub fn read_full<R: Read>(input: &mut R, buffer: &mut [u8]) -> usize
     ensures bytes { Consumes (R.remaining input.old) (R.remaining input.new) (take result buffer.new) }
 {
     let mut done = 0;
+    // Stays: (d) each turn goes on by what was read, so no range has the turns.
     while done < buffer.len() {
         let Ok(n) = input.read(&mut buffer[done..]) else {
             return done;
@@ -40,115 +40,68 @@ pub fn read_full<R: Read>(input: &mut R, buffer: &mut [u8]) -> usize
     done
 }
 
-fn print_text(rt: &impl Print, text: &[u8]) {
-    let _ = rt.write_all(text);
-}
-
-fn print_number(rt: &impl Print, n: u64) {
-    let _ = rt.print(n);
-}
-
 // "A refusal prints `no`, number and step on one line." Answers the number.
 pub fn print_refusal(rt: &impl Print, refusal: Refusal) -> u8
     ensures { result ≡ number_of refusal.reason }
 {
-    let reason = refusal.reason;
-    let number = number_of(reason);
-    print_text(rt, b"no ");
-    print_number(rt, number as u64);
-    print_text(rt, b" ");
-    print_number(rt, refusal.step as u64);
-    print_text(rt, b"\n");
+    let number = number_of(refusal.reason);
+    let _ = println!(rt; "no {number} {}", refusal.step);
     number
 }
 
 // Nothing past the rank: a table of two dimensions has two sizes on its line.
-fn print_size(rt: &impl Print, shard: Table, i: usize) {
-    if i < shard.rank && i < Dim::MOST {
-        print_text(rt, b" ");
-        print_number(rt, shard.sizes[i] as u64);
-    }
-}
-
-fn print_sizes(rt: &impl Print, shard: Table) {
-    for i in 0..Dim::MOST {
-        print_size(rt, shard, i);
-    }
-}
-
 fn print_state(rt: &impl Print, k: usize, shard: Table) {
-    print_number(rt, k as u64);
-    print_sizes(rt, shard);
-    print_text(rt, b"\n");
+    let _ = print!(rt; "{k}");
+    for size in shard.sizes.iter().take(shard.rank) {
+        let _ = print!(rt; " {size}");
+    }
+    let _ = println!(rt; "");
 }
 
 // A line for the state after each outermost step, as it is read again.
-fn print_steps(
-    rt: &impl Print,
-    file: &[u8],
-    at: usize,
-    count: usize,
-    devices: usize,
-    mesh: Mesh,
-    table: Table,
-    start: Sharding,
-)
-    requires { Begins file.now at count devices mesh table start }
+fn print_steps(rt: &impl Print, file: &[u8], opening: Opening)
+    requires { Begins file.now opening.at opening.steps opening.devices opening.mesh opening.table opening.start }
 {
-    let total = words(table);
+    let mesh = opening.mesh;
+    let table = opening.table;
     let extent = Extent {
-        devices,
-        words: total,
+        devices: opening.devices,
+        words: words(table),
     };
-    let depth = Step::MOST_DEPTH;
-    let mut after = start;
-    let mut most = shard_words(total, mesh, table, start);
-    let mut place = at;
+    let mut after = opening.start;
+    let mut most = shard_words(extent.words, mesh, table, after);
+    let mut at = opening.at;
     let mut number: u16 = 1;
-    let mut k: usize = 0;
-    while k < count {
-        let item = judge_item(file, place, number, depth, mesh, table, extent, most, after);
-        let next = item.next;
-        let Next::At(end) = next else {
+    for k in 0..opening.steps {
+        let Ok(item) = judge_item(
+            file,
+            at,
+            number,
+            Step::MOST_DEPTH,
+            mesh,
+            table,
+            extent,
+            most,
+            after,
+        ) else {
             return;
         };
-        place = end;
+        at = item.at;
         number = item.number;
         most = item.largest;
         after = item.sharding;
-        k += 1;
-        print_state(rt, k, shard_of(table, after.dims, mesh));
+        print_state(rt, k + 1, shard_of(table, after.dims, mesh));
     }
 }
 
 // The start is state 0, so there is one line more than there are outermost steps.
 fn print_states(rt: &impl Print, file: &[u8]) {
-    let opening = open(file);
-    let next = opening.next;
-    let Next::At(at) = next else {
+    let Ok(opening) = open(file) else {
         return;
     };
-    let mesh = opening.mesh;
-    let table = opening.table;
     let start = opening.start;
-    print_state(rt, 0, shard_of(table, start.dims, mesh));
-    print_steps(
-        rt,
-        file,
-        at,
-        opening.steps,
-        opening.devices,
-        mesh,
-        table,
-        start,
-    );
-}
-
-fn print_passed(rt: &impl Print, file: &[u8], steps: u16) {
-    print_text(rt, b"ok ");
-    print_number(rt, steps as u64);
-    print_text(rt, b"\n");
-    print_states(rt, file);
+    print_state(rt, 0, shard_of(opening.table, start.dims, opening.mesh));
+    print_steps(rt, file, opening);
 }
 
 // Prints the outcome for a plan file. Answers what the check answered.
@@ -156,12 +109,12 @@ pub fn print_answer(rt: &impl Print, file: &[u8]) -> Checked
     ensures { CheckPromise file.now result }
 {
     let checked = check(file);
-    let outcome = checked.outcome;
-    match outcome {
-        CheckOutcome::Passed(totals) => {
-            print_passed(rt, file, totals.steps);
+    match checked.outcome {
+        Ok(totals) => {
+            let _ = println!(rt; "ok {}", totals.steps);
+            print_states(rt, file);
         }
-        CheckOutcome::Refused(refusal) => {
+        Err(refusal) => {
             print_refusal(rt, refusal);
         }
     }

@@ -17,13 +17,9 @@ pub fn span(list: AxisList, mesh: Mesh) -> usize
     requires { Sized (mesh_of mesh) }
     ensures { result ≡ span_of (mesh_of mesh) (axes_of list) }
 {
-    let count = list.len();
     let mut product: usize = 1;
-    let mut i: usize = 0;
-    while i < count {
-        let axis = list.at(i);
-        product = product * mesh.size(axis);
-        i += 1;
+    for axis in list.as_slice() {
+        product *= mesh.size(*axis);
     }
     product
 }
@@ -32,34 +28,20 @@ pub fn span(list: AxisList, mesh: Mesh) -> usize
 pub fn all_below(list: AxisList, n: usize) -> bool
     ensures { result ≡ all_below n (axes_of list) }
 {
-    let count = list.len();
-    let mut i: usize = 0;
-    while i < count {
-        let axis = list.at(i);
-        let a = axis.0 as usize;
-        if n <= a {
-            return false;
-        }
-        i += 1;
-    }
-    true
+    list.as_slice().iter().all(|a| (a.0 as usize) < n)
 }
 
 // Whether the axes strictly increase.
 pub fn increasing(list: AxisList) -> bool
     ensures { result ≡ increasing_from 0 (axes_of list) }
 {
-    let count = list.len();
     let mut low: usize = 0;
-    let mut i: usize = 0;
-    while i < count {
-        let axis = list.at(i);
+    for axis in list.as_slice() {
         let a = axis.0 as usize;
         if a < low {
             return false;
         }
         low = a + 1;
-        i += 1;
     }
     true
 }
@@ -68,53 +50,25 @@ pub fn increasing(list: AxisList) -> bool
 pub fn is_in(a: Axis, list: AxisList) -> bool
     ensures { result ≡ mem a.0 (axes_of list) }
 {
-    let count = list.len();
-    let mut i: usize = 0;
-    while i < count {
-        let axis = list.at(i);
-        if a.0 == axis.0 {
-            return true;
-        }
-        i += 1;
-    }
-    false
+    list.as_slice().contains(&a)
 }
 
 // Whether each axis of a list is one of another.
 pub fn all_in(list: AxisList, other: AxisList) -> bool
     ensures { result ≡ all_in (axes_of list) (axes_of other) }
 {
-    let count = list.len();
-    let mut i: usize = 0;
-    while i < count {
-        let axis = list.at(i);
-        if !is_in(axis, other) {
-            return false;
-        }
-        i += 1;
-    }
-    true
-}
-
-fn unless(gone: bool, kept: AxisList, a: Axis) -> AxisList
-    requires { length (axes_of kept) < most_axes }
-    ensures { axes_of result ≡ axes_of kept ++ pick gone [] (a.0 ∷ []) }
-{
-    if gone { kept } else { kept.with(a) }
+    list.as_slice().iter().all(|a| is_in(*a, other))
 }
 
 // The axes of a list that are none of another's, in their order.
 pub fn without(list: AxisList, other: AxisList) -> AxisList
     ensures { axes_of result ≡ without_of (axes_of list) (axes_of other) }
 {
-    let count = list.len();
     let mut kept = AxisList::empty();
-    let mut i: usize = 0;
-    while i < count {
-        let axis = list.at(i);
-        let gone = is_in(axis, other);
-        kept = unless(gone, kept, axis);
-        i += 1;
+    for axis in list.as_slice() {
+        if !is_in(*axis, other) {
+            kept = kept.with(*axis);
+        }
     }
     kept
 }
@@ -123,22 +77,7 @@ pub fn without(list: AxisList, other: AxisList) -> AxisList
 pub fn is_tail(list: AxisList, tail: AxisList) -> bool
     ensures { result ≡ is_tail (axes_of list) (axes_of tail) }
 {
-    let have = list.len();
-    let want = tail.len();
-    if have < want {
-        return false;
-    }
-    let from = have - want;
-    let mut i: usize = 0;
-    while i < want {
-        let axis = list.at(from + i);
-        let other = tail.at(i);
-        if axis.0 != other.0 {
-            return false;
-        }
-        i += 1;
-    }
-    true
+    list.as_slice().ends_with(tail.as_slice())
 }
 
 // A list without so many axes at its end as another has.
@@ -161,13 +100,9 @@ pub fn join(list: AxisList, tail: AxisList) -> AxisList
     requires { length (axes_of list) + length (axes_of tail) ≤ most_axes }
     ensures { axes_of result ≡ axes_of list ++ axes_of tail }
 {
-    let count = tail.len();
     let mut whole = list;
-    let mut i: usize = 0;
-    while i < count {
-        let axis = tail.at(i);
-        whole = whole.with(axis);
-        i += 1;
+    for axis in tail.as_slice() {
+        whole = whole.with(*axis);
     }
     whole
 }
@@ -186,12 +121,11 @@ pub fn marked_below(marks: &[bool], n: usize) -> AxisList
     ensures { axes_of result ≡ keep (λ a. get_or marks.now a false) (tab n (λ a. a)) }
 {
     let mut kept = AxisList::empty();
-    let mut i: usize = 0;
-    while i < n {
+    for i in 0..n {
         let axis = Axis(i as u8);
-        let free = !is_marked(marks, axis);
-        kept = unless(free, kept, axis);
-        i += 1;
+        if is_marked(marks, axis) {
+            kept = kept.with(axis);
+        }
     }
     kept
 }
@@ -210,11 +144,7 @@ pub fn mark(marks: &mut [bool], a: Axis)
 pub fn mark_list(marks: &mut [bool], list: AxisList)
     ensures { marks.new ≡ marks_with marks.old (axes_of list) }
 {
-    let count = list.len();
-    let mut i: usize = 0;
-    while i < count {
-        let axis = list.at(i);
-        mark(marks, axis);
-        i += 1;
+    for axis in list.as_slice() {
+        mark(marks, *axis);
     }
 }

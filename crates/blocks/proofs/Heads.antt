@@ -10,16 +10,10 @@ use native.Mathlib.Decide.{dec_lt}
 use borrow.Author.Tests.{lt-ltb, le-ltb}
 use lib.ListN.{length, get_or, get_or-eq_default}
 use Rattle.rules.specs.Refusals.{Judged, accept, refuse, ◌>>◌}
-use Rattle.types.specs.Answers.{refused_with}
 use Rattle.rules.specs.PlanFile.{positive_at, is_repeat}
-use Rattle.types.specs.declared.Refusal.{Refusal}
 use Rattle.laws.proofs.Judging.{never, accept-inj, bind_inv}
 use Rattle.laws.proofs.Repeats.{positive-inv}
-use Rattle.blocks.specs.Blocks.{positive_read, positive_refusal, Head, not_too_deep, head_at, repeat_read, repeat_refusal}
-use Rattle.blocks.specs.declared.Positive.{Positive}
-use Rattle.blocks.specs.declared.Positive.TheVariants as positive
-use Rattle.blocks.specs.declared.RepeatRead.{RepeatRead}
-use Rattle.blocks.specs.declared.RepeatRead.TheVariants as read
+use Rattle.blocks.specs.Blocks.{Head, not_too_deep, head_at}
 
 -- ---- the kind byte
 
@@ -47,12 +41,6 @@ module _ (k : ℕ) (file : List ℕ) (at : ℕ) where
   pub positive-is : at < length file → get_or file at 0 ≢ 0 → positive_at k file at ≡ accept (get_or file at 0)
   unfolding positive_at
   positive-is h e = let z : 0 < get_or file at 0 = omega (arith, e) in simp (lt-ltb at (length file) h, lt-ltb 0 (get_or file at 0) z)
-
-pub positive-on : {x : Positive} {n : ℕ} {j : Judged ℕ} → positive_read x ≡ j → x ≡ positive.Is n → j ≡ accept n
-positive-on e h = sym e ∙ ap positive_read h
-
-pub positive-stopped : {x : Positive} {r t : Refusal} {j : Judged ℕ} → positive_read x ≡ j → x ≡ positive.Refused r → t ≡ positive_refusal x → j ≡ refused_with t
-positive-stopped e h q = sym e ∙ ap positive_read h ∙ ap refused_with (sym (q ∙ ap positive_refusal h))
 
 -- ---- the two bytes
 
@@ -111,9 +99,3 @@ head-facts depth k file at {count} {number} e =
         → (0 < d) × (c ≡ count) × (n ≡ number)
     parts zero c n q = absurd (never q)
     parts (suc d) c n q = (omega arith, ap (λ (h : Head). h.count) (accept-inj q), ap (λ (h : Head). h.number) (accept-inj q))
-
-pub head-on : {x : RepeatRead} {c n : ℕ} {j : Judged Head} → repeat_read x ≡ j → x ≡ read.Of c n → j ≡ accept (record { count = c; number = n })
-head-on e h = sym e ∙ ap repeat_read h
-
-pub head-stopped : {x : RepeatRead} {r t : Refusal} {j : Judged Head} → repeat_read x ≡ j → x ≡ read.Refused r → t ≡ repeat_refusal x → j ≡ refused_with t
-head-stopped e h q = sym e ∙ ap repeat_read h ∙ ap refused_with (sym (q ∙ ap repeat_refusal h))

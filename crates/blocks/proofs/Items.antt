@@ -18,17 +18,10 @@ use Rattle.types.specs.declared.Sharding as code
 use Rattle.laws.proofs.Turns.{length-times}
 use Rattle.laws.proofs.Repeats.{sharding-eq, Told, steps-tell, item-tells}
 use Rattle.laws.proofs.Moved.{added-times}
-use Rattle.reader.specs.Reading.{reading, IfRefused, Tells}
-use Rattle.reader.specs.declared.Next.{Next}
-use Rattle.reader.specs.declared.Next.TheVariants as next
-use Rattle.blocks.specs.Blocks.{Head, not_too_deep, head_at, inner_at, shard_words, summarized, StepsTell, Closing, closed}
+use Rattle.blocks.specs.Blocks.{Head, not_too_deep, head_at, inner_at, shard_words, summarized, steps_of, closed}
 use Rattle.blocks.specs.declared.StepsJudged.{StepsJudged}
 
 -- ---- the end of a block, by its two tests
-
--- an answer that is not refused has nothing beside a refusal
-goes_on : {A : Type 0} {none value : A} {x : Next} {k : ℕ} {j : Judged (Read A)} → x ≡ next.At k → reading x value ≡ j → Tells none j x value
-goes_on {none} {value} e r = record { reads = r; beside = subst (λ (y : Next). IfRefused y (value ≡ none)) (sym e) tt }
 
 module _ (k count rank : ℕ) (before : code.Sharding) (block : StepsJudged) where
   pub changed : same_sharding (sharding_of rank block.sharding) (sharding_of rank before) ≡ false → closed k count rank before block ≡ refuse 41 k
@@ -38,16 +31,16 @@ module _ (k count rank : ℕ) (before : code.Sharding) (block : StepsJudged) whe
     pub too_many : leb (count * block.runs) most_run ≡ false → closed k count rank before block ≡ refuse 43 k
     too_many f = rw (e, f) refl
 
-    pub is-closed : Closing block rank → leb (count * block.runs) most_run ≡ true
-        → StepsTell rank (sharding_of rank before) (closed k count rank before block) (record {
-          next = block.next;
+    pub is-closed : leb (count * block.runs) most_run ≡ true
+        → closed k count rank before block ≡ accept (steps_of rank (record {
+          at = block.at;
           number = block.number;
           runs = count * block.runs;
           largest = block.largest;
           moved = count * block.moved;
           sharding = block.sharding;
-        })
-    is-closed c f = goes_on c.goes_on.1 (sym (rw (e, f) refl))
+        }))
+    is-closed f = rw (e, f) refl
 
 -- ---- a repeat
 

@@ -6,6 +6,7 @@ use native.Mathlib.Omega.{arith}
 use lib.ListN.{length}
 use Rattle.rules.specs.Sharding.{Sharding, IsSharding}
 use Rattle.rules.specs.Limits.{every_kind}
+use Rattle.rules.specs.Refusals.{accept}
 use Rattle.rules.specs.PlanFile.{Read, StepsRead, item_at}
 use Rattle.laws.specs.Demands.{one_pass, largest_on}
 use Rattle.types.specs.Types.{sharding_of, mesh_of, sizes_of}
@@ -16,23 +17,20 @@ use Rattle.types.specs.declared.Mesh.{Mesh}
 use Rattle.types.specs.declared.Table.{Table}
 use Rattle.types.specs.declared.Sharding as code
 use Rattle.taking.specs.declared.Extent.{Extent}
-use Rattle.blocks.specs.Blocks.{shard_words, Summary, summarized, StepsTell, Judging}
+use Rattle.blocks.specs.Blocks.{shard_words, Summary, summarized, steps_of, Judging}
 use Rattle.blocks.specs.declared.StepsJudged.{StepsJudged}
 use Rattle.blocks.proofs.Plain.{summary-inv}
-use Rattle.reader.specs.declared.Next.TheVariants as next
-use Rattle.reader.proofs.Answers.{read-on}
 
-pub judging-next : (file : List ℕ) (depth : ℕ) (mesh : Mesh) (table : Table) {extent : Extent} {at k largest end : ℕ} {s : code.Sharding} (r : StepsJudged)
+pub judging-next : (file : List ℕ) (depth : ℕ) (mesh : Mesh) (table : Table) {extent : Extent} {at k largest : ℕ} {s : code.Sharding} (r : StepsJudged)
     → Judging file at k mesh table extent largest s
-    → StepsTell table.rank (sharding_of table.rank s)
-    (summarized (mesh_of mesh) (sizes_of table) k largest (sharding_of table.rank s)
-    (item_at every_kind (mesh_of mesh) (sizes_of table) file depth k at (sharding_of table.rank s))) r
-    → r.next ≡ next.At end → Judging file end r.number mesh table extent r.largest r.sharding
-judging-next file depth mesh table {extent} {at} {k} {largest} {end} {s} r g e n =
+    → summarized (mesh_of mesh) (sizes_of table) k largest (sharding_of table.rank s)
+    (item_at every_kind (mesh_of mesh) (sizes_of table) file depth k at (sharding_of table.rank s)) ≡ accept (steps_of table.rank r)
+    → Judging file r.at r.number mesh table extent r.largest r.sharding
+judging-next file depth mesh table {extent} {at} {k} {largest} {s} r g e =
     let M : List ℕ = mesh_of mesh in
     let N : List ℕ = sizes_of table in
     let z : Sharding = sharding_of table.rank s in
-    let x = summary-inv M N k largest z _ _ (read-on _ e.reads n) in
+    let x = summary-inv M N k largest z _ _ e in
     let w : StepsRead = x.0 in
     let t : Takes M N file at w = item-takes M N file every_kind depth k at z w x.1 in
     let u : Told M N file z w = item-tells M N file every_kind depth k at z w x.1 in
@@ -40,7 +38,7 @@ judging-next file depth mesh table {extent} {at} {k} {largest} {end} {s} r g e n
     let n_is : k + length w.records ≡ r.number = ap (λ (y : Read Summary). y.value.number) x.2 in
     let m-is : max largest (largest_on f z (one_pass w.records)) ≡ r.largest = ap (λ (y : Read Summary). y.value.largest) x.2 in
     let s-is : w.sharding ≡ sharding_of table.rank r.sharding = ap (λ (y : Read Summary). y.value.sharding) x.2 in
-    let a-is : w.next ≡ end = ap (λ (y : Read Summary). y.next) x.2 in
+    let a-is : w.next ≡ r.at = ap (λ (y : Read Summary). y.next) x.2 in
     let last : f (sharding_of table.rank r.sharding) ≤ largest_on f z (one_pass w.records) =
     subst (λ (y : Sharding). f y ≤ largest_on f z (one_pass w.records)) (u.pass_ends ∙ s-is) (last-largest f z (one_pass w.records)) in
     record {

@@ -1,29 +1,23 @@
--- Lists that are the same: of unequal lengths they are not, and of equal lengths it is the test of a tail. Shardings, list for list. Assumes nothing.
-use Prim.Native.Nat.{ℕ, suc, ◌-◌}
-use mathlib.Core.Path.{◌≡◌, refl, ap}
-use mathlib.Core.Logic.{◌≢◌}
+-- Lists of axes that are the same, compared axis by axis; and shardings, list for list. Assumes nothing.
+use mathlib.Core.Path.{◌≡◌, refl, ap₂}
 use mathlib.Core.Bool.{Bool, true, false, ◌&&◌}
 use mathlib.Core.List.{List, [], ◌∷◌}
-use native.Mathlib.Omega.{arith}
-use lib.ListN.{length, drop}
 use lib.Dec.{eqb}
+use lib.Pointwise.{pointwise}
 use Rattle.rules.specs.Lists.{both}
 use Rattle.rules.specs.Sharding.{Sharding}
-use Rattle.rules.specs.PlanFile.{same, is_tail, same_sharding}
+use Rattle.rules.specs.PlanFile.{same, same_sharding}
+use Rattle.types.specs.Types.{numbers_of}
+use Rattle.types.specs.declared.Axis.{Axis}
 
-pub same-long : (L M : List ℕ) → length L ≢ length M → same L M ≡ false
-unfolding same
-same-long [] [] n = absurd (n refl)
-same-long [] (b ∷ M) n = refl
-same-long (a ∷ L) [] n = refl
-same-long (a ∷ L) (b ∷ M) n = go (eqb a b) (same L M) (same-long L M (λ e. n (ap suc e)))
-  where
-    go : (x y : Bool) → y ≡ false → (x && y) ≡ false
-    go true y e = e
-    go false y e = refl
-
-pub same-tail : (L M : List ℕ) → length L ≡ length M → is_tail L M ≡ same L M
-same-tail L M e = let z : length L - length M ≡ 0 = omega (arith, e) in ap (λ (n : ℕ). same (drop n L) M) z
+-- lists whose axes are compared one by one
+pub same-numbers : (equal : Axis → Axis → Bool) → ((x y : Axis) → equal x y ≡ eqb x.0 y.0) → (xs ys : List Axis)
+    → pointwise equal xs ys ≡ same (numbers_of xs) (numbers_of ys)
+unfolding same numbers_of
+same-numbers equal e [] [] = refl
+same-numbers equal e [] (y ∷ ys) = refl
+same-numbers equal e (x ∷ xs) [] = refl
+same-numbers equal e (x ∷ xs) (y ∷ ys) = ap₂ ◌&&◌ (e x y) (same-numbers equal e xs ys)
 
 -- ---- shardings, list for list
 

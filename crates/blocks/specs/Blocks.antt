@@ -5,36 +5,20 @@ use Rattle.rules.specs.Lists.{product}
 use Rattle.rules.specs.Limits.{most_dims, most_bytes, most_run, every_kind}
 use Rattle.rules.specs.Sharding.{Sharding, shard_sizes}
 use Rattle.rules.specs.Refusals.{Judged, accept, refuse, ◌>>=◌, ◌>>◌, need_at}
-use Rattle.types.specs.Answers.{refused_with}
 use Rattle.rules.specs.PlanFile.{Read, StepsRead, JudgesSteps, steps_at, positive_at, same_sharding, too_deep, item_at}
 use Rattle.rules.specs.Moved.{added_on, moved_from, most_moved}
 use Rattle.laws.specs.Demands.{one_pass, largest_on}
 use Rattle.types.specs.Types.{sharding_of, mesh_of, sizes_of}
-use Rattle.types.specs.declared.Refusal.{Refusal}
-use Rattle.types.specs.declared.Reason.TheVariants.{SectionPastEnd}
 use Rattle.types.specs.declared.Mesh.{Mesh}
 use Rattle.types.specs.declared.Sharding as code
 use Rattle.types.specs.declared.Table.{Table}
-use Rattle.reader.specs.Reading.{reading, Tells}
-use Rattle.reader.specs.declared.Next.TheVariants as next
 use Rattle.judge.specs.Step.{Sharded}
 use Rattle.taking.specs.Charges.{Extends}
 use Rattle.taking.specs.declared.Extent.{Extent}
-use Rattle.blocks.specs.declared.Positive.{Positive}
-use Rattle.blocks.specs.declared.Positive.TheVariants as positive
-use Rattle.blocks.specs.declared.RepeatRead.{RepeatRead}
-use Rattle.blocks.specs.declared.RepeatRead.TheVariants as read
+use Rattle.blocks.specs.declared.Repeat.{Repeat}
 use Rattle.blocks.specs.declared.StepsJudged.{StepsJudged}
 
 -- ---- the two bytes of a repeat
-
-abbrev pub positive_read : Positive → Judged ℕ
-positive_read (positive.Is n) = accept n
-positive_read (positive.Refused r) = refused_with r
-
-abbrev pub positive_refusal : Positive → Refusal
-positive_refusal (positive.Is n) = record { reason = SectionPastEnd; step = 0 }
-positive_refusal (positive.Refused r) = r
 
 -- how often the block is run, and how many steps it has
 pub record Head : Type 0 where
@@ -55,13 +39,8 @@ head_at depth k file at = do
   not_too_deep depth k
   accept (record { count = count; number = number })
 
-abbrev pub repeat_read : RepeatRead → Judged Head
-repeat_read (read.Of c n) = accept (record { count = c; number = n })
-repeat_read (read.Refused r) = refused_with r
-
-abbrev pub repeat_refusal : RepeatRead → Refusal
-repeat_refusal (read.Of c n) = record { reason = SectionPastEnd; step = 0 }
-repeat_refusal (read.Refused r) = r
+abbrev pub head_of : Repeat → Head
+head_of r = record { count = r.count; number = r.inner }
 
 -- ---- steps that were judged
 
@@ -99,12 +78,12 @@ abbrev pub summarized : (mesh sizes : List ℕ) → (k largest : ℕ) → Shardi
 summarized mesh sizes k largest s (accept w) = accept (summary_of mesh sizes k largest s w)
 summarized mesh sizes k largest s (refuse a b) = refuse a b
 
-abbrev pub summary_in : ℕ → StepsJudged → Summary
-summary_in rank r = record { number = r.number; runs = r.runs; largest = r.largest; moved = r.moved; sharding = sharding_of rank r.sharding }
-
--- beside a refusal: nothing, and the sharding s as it was
-abbrev pub StepsTell : ℕ → Sharding → Judged (Read Summary) → StepsJudged → Type 0
-StepsTell rank s j r = Tells (record { number = 0; runs = 0; largest = 0; moved = 0; sharding = s }) j r.next (summary_in rank r)
+-- what the code's answer stands for, of a table of a rank
+abbrev pub steps_of : ℕ → StepsJudged → Read Summary
+steps_of rank r = record {
+  value = record { number = r.number; runs = r.runs; largest = r.largest; moved = r.moved; sharding = sharding_of rank r.sharding };
+  next = r.at;
+}
 
 -- What is asked before a step: mesh and table are within their limits, the sharding is one, its shard is counted, and there are no fewer bytes before it
 -- than kind bytes.
@@ -120,7 +99,6 @@ pub record Judging (file : List ℕ) (at k : ℕ) (mesh : Mesh) (table : Table) 
 
 -- the inner steps are accepted; they are a byte's number at most, and each runs no more than the limit, where no plain step moves more than its limit
 pub record Closing (block : StepsJudged) (rank : ℕ) : Type 0 where
-  pub goes_on : (end : ℕ) × (block.next ≡ next.At end)
   pub rank_few : rank ≤ most_dims
   pub runs_few : block.runs ≤ 255 * most_run
   pub moved_few : block.moved ≤ block.runs * most_moved
@@ -131,10 +109,13 @@ abbrev pub closed : (k count rank : ℕ) → code.Sharding → StepsJudged → J
 closed k count rank before block = do
   need_at k (same_sharding (sharding_of rank block.sharding) (sharding_of rank before)) 41
   need_at k (leb (count * block.runs) most_run) 43
-  reading block.next (record {
-    number = block.number;
-    runs = count * block.runs;
-    largest = block.largest;
-    moved = count * block.moved;
-    sharding = sharding_of rank block.sharding;
+  accept (record {
+    value = record {
+      number = block.number;
+      runs = count * block.runs;
+      largest = block.largest;
+      moved = count * block.moved;
+      sharding = sharding_of rank block.sharding;
+    };
+    next = block.at;
   })

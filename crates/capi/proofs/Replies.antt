@@ -1,54 +1,47 @@
 -- Laws of the boundary: the library's answers in numbers (`check-told`, `place-told`, `read_told`, `plan-told`). Assumes nothing.
+use Rattle.std.specs.Prelude.{Result, Ok, Err}
 use Prim.Native.Nat.{ℕ, ◌+◌, ◌*◌, ◌≤◌}
 use mathlib.Core.Path.{◌≡◌, refl, sym, ap, subst, ◌∙◌}
 use mathlib.Core.List.{List, [], ◌∷◌, map}
 use mathlib.Core.Bool.{Bool, true, false}
 use native.Mathlib.Omega.{arith}
 use lib.Dec.{leb}
-use lib.ListN.{length, get_or}
+use lib.ListN.{length}
 use Rattle.rules.specs.Limits.{most_axes, most_dims}
 use Rattle.rules.specs.Sharding.{Sharding}
 use Rattle.rules.specs.Collectives.{Step}
 use Rattle.rules.specs.Refusals.{Judged, accept, refuse, ◌>>=◌, ◌>>◌, need}
-use Rattle.types.specs.Answers.{number_of, reason_of, checked_of, placed_of}
-use Rattle.rules.specs.PlanFile.{Plan, judge}
+use Rattle.types.specs.Answers.{number_of, reason_of, refused_with, checked_of, placed_of}
+use Rattle.rules.specs.PlanFile.{Plan, plain, judge}
 use Rattle.types.specs.Types.{four_places}
 use Rattle.rules.specs.Calls.{CheckAnswer, check_of, PlaceAnswer, place_of}
 use Rattle.types.specs.Promises.{CheckPromise, PlacePromise}
+use Rattle.types.specs.declared.Totals.{Totals}
 use Rattle.types.specs.declared.Checked.{Checked}
 use Rattle.types.specs.declared.Placed.{Placed}
-use Rattle.types.specs.declared.CheckOutcome.{CheckOutcome}
-use Rattle.types.specs.declared.CheckOutcome.TheVariants as check
-use Rattle.types.specs.declared.PlaceOutcome.{PlaceOutcome}
-use Rattle.types.specs.declared.PlaceOutcome.TheVariants as place
 use Rattle.types.specs.declared.Refusal.{Refusal}
 use Rattle.types.specs.declared.Sharding as code
-use Rattle.types.specs.declared.Step as declared
 use Rattle.laws.proofs.Judging.{never, accept-inj, then-inv}
 use Rattle.laws.proofs.Accepted.{AcceptedPlan, accepted}
 use Rattle.types.proofs.Answers.{InPlaces, check-in-places, check-listed, place-in-places, place-listed}
 use Rattle.records.specs.Forms.{sharding_given, record_bytes, six_places}
-use Rattle.records.specs.RoundTrip.{ShortSharding}
+use Rattle.records.specs.RoundTrip.{ShortSharding, AllShort}
 use Rattle.records.specs.Planning.{plan_steps, plan_of}
 use Rattle.records.specs.PlanAnswer.{steps_from, steps_planned, planned_of}
 use Rattle.records.specs.Reading.{ReadAnswer, order_read, read_answer, read_of, opened_of}
 use Rattle.records.specs.Promises.{ReadPromise, PlanPromise}
+use Rattle.records.specs.declared.ReadCounts.{ReadCounts}
 use Rattle.records.specs.declared.Opened.{Opened}
-use Rattle.records.specs.declared.ReadOutcome.{ReadOutcome}
-use Rattle.records.specs.declared.ReadOutcome.TheVariants as read
 use Rattle.records.specs.declared.Planned.{Planned}
-use Rattle.records.specs.declared.PlanOutcome.{PlanOutcome}
-use Rattle.records.specs.declared.PlanOutcome.TheVariants as plan
 use Rattle.records.proofs.Reread.{sharding-short}
 use Rattle.records.proofs.Reading.{read-inv}
 use Rattle.records.proofs.Accepting.{plan-few}
 use Rattle.records.proofs.Arrives.{plan-short}
 use Rattle.placements.specs.PlaceAll.{place_all_of, placed_before, place_beside, placed_all_with, PlaceAllPromise}
 use Rattle.placements.specs.declared.PlacedAll.{PlacedAll}
-use Rattle.placements.specs.declared.PlaceAllOutcome.{PlaceAllOutcome}
 use Rattle.placements.proofs.Promises.{all_listed}
-use Rattle.marshal.specs.Structs.{step_numbers}
-use Rattle.marshal.proofs.Structs.{sharding-of, step-at}
+use Rattle.marshal.specs.Structs.{blank_step}
+use Rattle.marshal.proofs.Structs.{sharding-of, step-numbers}
 use Rattle.capi.specs.Boundary.{check_reply, place_reply, checked_reply, placed_reply, opened_reply, planned_reply, read_reply, made_reply, placed_all_reply, all_reply}
 
 -- each list of an answer has a place for its axes
@@ -56,13 +49,13 @@ in-places : {rank : ℕ} (s : Sharding) → InPlaces rank s → ShortSharding s
 in-places s f = record { dims = f.lists-few; unreduced = f.unreduced_few; replicated = f.replicated_few }
 
 -- the rank of an answer, 0 beside a refusal
-abbrev pub checked_rank : CheckOutcome → ℕ
-checked_rank (check.Passed t) = t.rank
-checked_rank (check.Refused r) = 0
+abbrev pub checked_rank : Result Totals Refusal → ℕ
+checked_rank (Ok t) = t.rank
+checked_rank (Err r) = 0
 
-abbrev pub placed_rank : PlaceOutcome → ℕ
-placed_rank (place.Found rank) = rank
-placed_rank (place.Refused r) = 0
+abbrev pub placed_rank : Result ℕ Refusal → ℕ
+placed_rank (Ok rank) = rank
+placed_rank (Err r) = 0
 
 module _ (file : List ℕ) where
   checked : (j : Judged CheckAnswer) → check_of file ≡ j
@@ -83,13 +76,13 @@ module _ (file : List ℕ) where
       )
   checked (refuse n k) e = (ap (λ (m : ℕ). check_reply (refuse m k)) (check-listed file n k e), omega arith)
 
-  module _ {r : Checked} {o : CheckOutcome} (p : CheckPromise file r) (e : r.outcome ≡ o) where
+  module _ {r : Checked} {o : Result Totals Refusal} (p : CheckPromise file r) (e : r.outcome ≡ o) where
     pub check-told : checked_reply o r ≡ check_reply (check_of file)
     check-told =
-        ap (λ (x : CheckOutcome). checked_reply x r) (sym e) ∙ ap (λ (c : Checked). checked_reply c.outcome c) p ∙ (checked (check_of file) refl).0
+        ap (λ (x : Result Totals Refusal). checked_reply x r) (sym e) ∙ ap (λ (c : Checked). checked_reply c.outcome c) p ∙ (checked (check_of file) refl).0
 
     pub check-rank : checked_rank o ≤ most_dims
-    check-rank = subst (λ (x : CheckOutcome). checked_rank x ≤ most_dims) (ap (λ (c : Checked). c.outcome) (sym p) ∙ e) (checked (check_of file) refl).1
+    check-rank = subst (λ (x : Result Totals Refusal). checked_rank x ≤ most_dims) (ap (λ (c : Checked). c.outcome) (sym p) ∙ e) (checked (check_of file) refl).1
 
 module _ (file : List ℕ) (state device : ℕ) where
   placed : (j : Judged PlaceAnswer) → place_of file state device ≡ j
@@ -107,34 +100,32 @@ module _ (file : List ℕ) (state device : ℕ) where
       )
   placed (refuse n k) e = (ap (λ (m : ℕ). place_reply (refuse m k)) (place-listed file state device n k e), omega arith)
 
-  module _ {r : Placed} {o : PlaceOutcome} (p : PlacePromise file state device r) (e : r.outcome ≡ o) where
+  module _ {r : Placed} {o : Result ℕ Refusal} (p : PlacePromise file state device r) (e : r.outcome ≡ o) where
     pub place-told : placed_reply o r ≡ place_reply (place_of file state device)
     place-told =
-        ap (λ (x : PlaceOutcome). placed_reply x r) (sym e) ∙ ap (λ (c : Placed). placed_reply c.outcome c) p ∙ (placed (place_of file state device) refl).0
+        ap (λ (x : Result ℕ Refusal). placed_reply x r) (sym e) ∙ ap (λ (c : Placed). placed_reply c.outcome c) p ∙ (placed (place_of file state device) refl).0
 
     pub place-rank : placed_rank o ≤ most_dims
-    place-rank = subst (λ (x : PlaceOutcome). placed_rank x ≤ most_dims) (ap (λ (c : Placed). c.outcome) (sym p) ∙ e) (placed (place_of file state device) refl).1
+    place-rank = subst (λ (x : Result ℕ Refusal). placed_rank x ≤ most_dims) (ap (λ (c : Placed). c.outcome) (sym p) ∙ e) (placed (place_of file state device) refl).1
 
 -- ---- a list of devices
 
 module _ (file : List ℕ) (state : ℕ) (devices out : List ℕ) where
   all_placed : (j : Judged (List ℕ)) → place_all_of file state devices out ≡ j → (place : ℕ)
-      → all_reply (placed_all_with j (place_beside j place)).outcome (placed_all_with j (place_beside j place)) ≡ placed_all_reply j place
+      → all_reply (placed_all_with j (place_beside j place)) ≡ placed_all_reply j place
   all_placed (accept l) e place = refl
   all_placed (refuse n k) e place = λ i. record { refusal = all_listed file state devices out n k e i + 256 * k; place = place_beside (refuse n k) place }
 
-  pub place-all-told : {r : PlacedAll} {outAfter : List ℕ} {o : PlaceAllOutcome} → PlaceAllPromise file state devices out r outAfter → r.outcome ≡ o
-      → all_reply o r ≡ placed_all_reply (place_all_of file state devices out) (placed_before file state devices)
-  place-all-told {r} p e =
-      ap (λ (x : PlaceAllOutcome). all_reply x r) (sym e) ∙ ap (λ (c : PlacedAll). all_reply c.outcome c) p.answers
-      ∙ all_placed (place_all_of file state devices out) refl (placed_before file state devices)
+  pub place-all-told : {r : PlacedAll} {outAfter : List ℕ} → PlaceAllPromise file state devices out r outAfter
+      → all_reply r ≡ placed_all_reply (place_all_of file state devices out) (placed_before file state devices)
+  place-all-told p = ap all_reply p.answers ∙ all_placed (place_all_of file state devices out) refl (placed_before file state devices)
 
 -- ---- the reading call
 
 -- the numbers of axes and dimensions beside an answer
-abbrev pub Counted : ReadOutcome → Type 0
-Counted (read.Opened c) = (c.n ≤ most_axes) × (c.rank ≤ most_dims)
-Counted (read.Refused x) = Unit {0}
+abbrev pub Counted : Result ReadCounts Refusal → Type 0
+Counted (Ok c) = (c.n ≤ most_axes) × (c.rank ≤ most_dims)
+Counted (Err x) = Unit {0}
 
 module _ (file order steps : List ℕ) where
   abbrev opens : Judged ReadAnswer
@@ -185,59 +176,48 @@ module _ (file order steps : List ℕ) where
       )
   opened (refuse n k) e = (ap (λ (m : ℕ). opened_reply (refuse m k)) (read-listed n k e), tt)
 
-  module _ {r : Opened} {order' steps' : List ℕ} (p : ReadPromise file order steps r order' steps') {o : ReadOutcome} (e : r.outcome ≡ o) where
+  module _ {r : Opened} {order' steps' : List ℕ} (p : ReadPromise file order steps r order' steps') {o : Result ReadCounts Refusal} (e : r.outcome ≡ o) where
     pub read_told : read_reply o r ≡ opened_reply opens
-    read_told = ap (λ (x : ReadOutcome). read_reply x r) (sym e) ∙ ap (λ (c : Opened). read_reply c.outcome c) p.answers ∙ (opened opens refl).0
+    read_told = ap (λ (x : Result ReadCounts Refusal). read_reply x r) (sym e) ∙ ap (λ (c : Opened). read_reply c.outcome c) p.answers ∙ (opened opens refl).0
 
     pub read-counts : Counted o
     read-counts = subst Counted (ap (λ (c : Opened). c.outcome) (sym p.answers) ∙ e) (opened opens refl).1
 
 -- ---- the planner
 
--- three steps, one by one
-pub three-steps : (l : List declared.Step) (none : declared.Step) → length l ≡ 3
-    → step_numbers (get_or l 0 none) ∷ step_numbers (get_or l 1 none) ∷ step_numbers (get_or l 2 none) ∷ [] ≡ map step_numbers l
-three-steps [] none e = absurd (omega arith)
-three-steps (a ∷ []) none e = absurd (omega arith)
-three-steps (a ∷ b ∷ []) none e = absurd (omega arith)
-three-steps (a ∷ b ∷ c ∷ []) none e = refl
-three-steps (a ∷ b ∷ c ∷ d ∷ l) none e = absurd (omega arith)
+-- at most three steps, one by one
+three-steps : (ts : List Step) → length ts ≤ 3 → AllShort (map plain ts) → made_reply (steps_from ts) ≡ planned_reply (accept ts)
+unfolding steps_from
+three-steps [] few h = refl
+three-steps (a ∷ []) few h = λ i. record { refusal = 0; count = 1; steps = step-numbers a h.0 i ∷ blank_step ∷ blank_step ∷ [] }
+three-steps (a ∷ b ∷ []) few h = λ i. record { refusal = 0; count = 2; steps = step-numbers a h.0 i ∷ step-numbers b h.1.0 i ∷ blank_step ∷ [] }
+three-steps (a ∷ b ∷ c ∷ []) few h =
+    λ i. record { refusal = 0; count = 3; steps = step-numbers a h.0 i ∷ step-numbers b h.1.0 i ∷ step-numbers c h.1.1.0 i ∷ [] }
+three-steps (a ∷ b ∷ c ∷ d ∷ l) few h = absurd (omega arith)
 
-made-refused : {x : Refusal} → plan.Made ≡ plan.Refused x → ⊥
-made-refused e = let z : ◌≡◌ {A = ℕ} 0 1 = cc in omega arith
+made-refused : {x : Refusal} → ◌≡◌ {A = Result (Unit {0}) Refusal} (Ok tt) (Err x) → ⊥
+made-refused e = absurd cc
 
 module _ (mesh order sizes : List ℕ) (start goal : code.Sharding) where
   abbrev answer : Judged (List Step)
   answer = steps_planned mesh order sizes start goal
 
   -- a plan that is made
-  made : (ts : List Step) → answer ≡ accept ts → (made_reply plan.Made (steps_from ts) ≡ planned_reply (accept ts)) × (length ts ≤ 3)
-  unfolding steps_from
+  made : (ts : List Step) → answer ≡ accept ts → made_reply (steps_from ts) ≡ planned_reply (accept ts)
   made ts e =
       let s = sharding_given (length sizes) start in
       let g = sharding_given (length sizes) goal in
       let j = then-inv (plan_of mesh order sizes s g) _ ts e in
-      subst (λ (l : List Step). (made_reply plan.Made (steps_from l) ≡ planned_reply (accept l)) × (length l ≤ 3)) (accept-inj j.1)
-      (let h = plan-short mesh order sizes s g j.0.0 j.0.1 in
-      let l = plan_steps s g in (
-        (λ i. record { refusal = 0; count = length l; steps = step-at l 0 h i ∷ step-at l 1 h i ∷ step-at l 2 h i ∷ [] }),
-        plan-few s g,
-      ))
+      subst (λ (l : List Step). made_reply (steps_from l) ≡ planned_reply (accept l)) (accept-inj j.1)
+      (three-steps (plan_steps s g) (plan-few s g) (plan-short mesh order sizes s g j.0.0 j.0.1))
 
   module _ {r : Planned} (p : PlanPromise mesh order sizes start goal r) where
-    pub plan-told : (o : PlanOutcome) → r.outcome ≡ o → made_reply o r.plan ≡ planned_reply answer
-    plan-told (plan.Refused x) e = ap planned_reply (sym (p.refused x e))
-    plan-told plan.Made e = go answer refl
-      where
-        go : (j : Judged (List Step)) → answer ≡ j → made_reply plan.Made r.plan ≡ planned_reply j
-        go (accept ts) q =
-            ap (λ (z : Planned). made_reply plan.Made z.plan) (p.answers ∙ ap planned_of q) ∙ (made ts q).0
-        go (refuse n k) q = absurd (made-refused (sym e ∙ ap (λ (z : Planned). z.outcome) (p.answers ∙ ap planned_of q)))
+    pub plan-refused : {x : Refusal} → r.outcome ≡ Err x → planned_reply (refused_with x) ≡ planned_reply answer
+    plan-refused {x} e = ap planned_reply (sym (p.refused x e))
 
-    pub plan-count : r.plan.count ≤ 3
-    unfolding steps_from
-    plan-count = go answer refl
+    pub plan-told : r.outcome ≡ Ok tt → made_reply r.plan ≡ planned_reply answer
+    plan-told e = go answer refl
       where
-        go : (j : Judged (List Step)) → answer ≡ j → r.plan.count ≤ 3
-        go (accept ts) q = subst (λ (z : Planned). z.plan.count ≤ 3) (sym (p.answers ∙ ap planned_of q)) (made ts q).1
-        go (refuse n k) q = subst (λ (z : Planned). z.plan.count ≤ 3) (sym (p.answers ∙ ap planned_of q)) (omega arith)
+        go : (j : Judged (List Step)) → answer ≡ j → made_reply r.plan ≡ planned_reply j
+        go (accept ts) q = ap (λ (z : Planned). made_reply z.plan) (p.answers ∙ ap planned_of q) ∙ made ts q
+        go (refuse n k) q = absurd (made-refused (sym e ∙ ap (λ (z : Planned). z.outcome) (p.answers ∙ ap planned_of q)))

@@ -1,33 +1,29 @@
 -- What the calls for C answer: the numbers that stand for an answer of the library (rules/specs/Calls.antt, records/specs), every field of them.
 -- marshal/specs/Structs.antt has those of a sharding and of a step. Assumes nothing.
-use Rattle.std.specs.Prelude.{ℕ, ◌+◌, ◌*◌, List, map, length, get_or, replicate}
+use Rattle.std.specs.Prelude.{ℕ, ◌+◌, ◌*◌, List, map, length, get_or, replicate, Option, Some, None, Result, Ok, Err}
 use Rattle.rules.specs.Lists.{tab}
 use Rattle.rules.specs.Limits.{most_axes, most_dims}
-use Rattle.rules.specs.Collectives.{Step}
+use Rattle.rules.specs.Collectives as rules
 use Rattle.rules.specs.PlanFile.{plain}
 use Rattle.rules.specs.Refusals.{Judged, accept, refuse}
-use Rattle.types.specs.Answers.{refused_with}
+use Rattle.types.specs.Answers.{refused_with, judged}
 use Rattle.types.specs.Types.{four_places, sharding_of}
 use Rattle.rules.specs.Calls.{CheckAnswer, PlaceAnswer, Ran}
 use Rattle.types.specs.declared.Checked.{Checked}
-use Rattle.types.specs.declared.CheckOutcome.{CheckOutcome}
-use Rattle.types.specs.declared.CheckOutcome.TheVariants as check
+use Rattle.types.specs.declared.Refusal.{Refusal}
+use Rattle.types.specs.declared.Step.{Step}
+use Rattle.types.specs.declared.Totals.{Totals}
 use Rattle.types.specs.declared.Placed.{Placed}
-use Rattle.types.specs.declared.PlaceOutcome.{PlaceOutcome}
-use Rattle.types.specs.declared.PlaceOutcome.TheVariants as place
 use Rattle.records.specs.Forms.{six_places}
 use Rattle.records.specs.Reading.{ReadAnswer}
+use Rattle.records.specs.PlanAnswer.{step_count}
 use Rattle.records.specs.declared.Opened.{Opened}
-use Rattle.records.specs.declared.ReadOutcome.{ReadOutcome}
-use Rattle.records.specs.declared.ReadOutcome.TheVariants as read
+use Rattle.records.specs.declared.ReadCounts.{ReadCounts}
 use Rattle.records.specs.declared.Steps.{Steps}
-use Rattle.records.specs.declared.PlanOutcome.{PlanOutcome}
-use Rattle.records.specs.declared.PlanOutcome.TheVariants as plan
 use Rattle.placements.specs.PlaceAll.{place_beside}
 use Rattle.placements.specs.declared.PlacedAll.{PlacedAll}
-use Rattle.placements.specs.declared.PlaceAllOutcome.{PlaceAllOutcome}
-use Rattle.placements.specs.declared.PlaceAllOutcome.TheVariants as all
 use Rattle.marshal.specs.Structs.{sharding_reply, blank_sharding, step_reply, blank_step, step_numbers}
+use Rattle.marshal.specs.declared.StepReply.{StepReply}
 use Rattle.capi.specs.declared.CheckReply.{CheckReply}
 use Rattle.capi.specs.declared.RunReply.{RunReply}
 use Rattle.capi.specs.declared.PlaceReply.{PlaceReply}
@@ -118,14 +114,14 @@ opened_reply (refuse n k) = record {
 }
 
 -- the planner's: at most three steps as records, no step in the places past the last
-abbrev pub planned_reply : Judged (List Step) → PlanReply
-planned_reply (accept ts) = record { refusal = 0; count = length ts; steps = tab 3 (λ i. get_or (map (λ (t : Step). step_reply (plain t)) ts) i blank_step) }
+abbrev pub planned_reply : Judged (List rules.Step) → PlanReply
+planned_reply (accept ts) = record { refusal = 0; count = length ts; steps = tab 3 (λ i. get_or (map (λ (t : rules.Step). step_reply (plain t)) ts) i blank_step) }
 planned_reply (refuse n k) = record { refusal = n + 256 * k; count = 0; steps = replicate 3 blank_step }
 
 -- ---- the same numbers, from the library's own answers
 
-abbrev pub checked_reply : CheckOutcome → Checked → CheckReply
-checked_reply (check.Passed t) c = record {
+abbrev pub checked_reply : Result Totals Refusal → Checked → CheckReply
+checked_reply (Ok t) c = record {
   refusal = 0;
   room = t.room;
   devices = t.devices;
@@ -135,28 +131,30 @@ checked_reply (check.Passed t) c = record {
   sharding = sharding_reply (sharding_of most_dims c.sharding);
   moved = t.moved;
 }
-checked_reply (check.Refused r) c = check_reply (refused_with r)
+checked_reply (Err r) c = check_reply (refused_with r)
 
-abbrev pub placed_reply : PlaceOutcome → Placed → PlaceReply
-placed_reply (place.Found rank) c = record {
+abbrev pub placed_reply : Result ℕ Refusal → Placed → PlaceReply
+placed_reply (Ok rank) c = record {
   refusal = 0;
   rank = rank;
   shard = c.shard;
   first = c.first;
   sharding = sharding_reply (sharding_of most_dims c.sharding);
 }
-placed_reply (place.Refused r) c = place_reply (refused_with r)
+placed_reply (Err r) c = place_reply (refused_with r)
 
-abbrev pub made_reply : PlanOutcome → Steps → PlanReply
-made_reply plan.Made p = record { refusal = 0; count = p.count; steps = map step_numbers p.steps }
-made_reply (plan.Refused r) p = planned_reply (refused_with r)
+abbrev pub step_in_place : Option Step → StepReply
+step_in_place (Some t) = step_numbers t
+step_in_place None = blank_step
 
-abbrev pub all_reply : PlaceAllOutcome → PlacedAll → PlaceAllReply
-all_reply all.Placed r = record { refusal = 0; place = r.place }
-all_reply (all.Refused x) r = record { refusal = refusal_code {A = List ℕ} (refused_with x); place = r.place }
+abbrev pub made_reply : Steps → PlanReply
+made_reply p = record { refusal = 0; count = step_count p; steps = map step_in_place p.0 }
 
-abbrev pub read_reply : ReadOutcome → Opened → ReadReply
-read_reply (read.Opened c) r = record {
+abbrev pub all_reply : PlacedAll → PlaceAllReply
+all_reply r = record { refusal = refusal_code (judged r.outcome); place = r.place }
+
+abbrev pub read_reply : Result ReadCounts Refusal → Opened → ReadReply
+read_reply (Ok c) r = record {
   refusal = 0;
   n = c.n;
   rank = c.rank;
@@ -166,4 +164,4 @@ read_reply (read.Opened c) r = record {
   order = c.order;
   steps_bytes = c.steps;
 }
-read_reply (read.Refused x) r = opened_reply (refused_with x)
+read_reply (Err x) r = opened_reply (refused_with x)

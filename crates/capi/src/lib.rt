@@ -2,9 +2,9 @@
 // What they answer is defined in specs/Boundary.antt, from the definitions of the library's calls (rules/specs/Calls.antt, records/specs).
 #![tactic(auto)]
 
-ghost use Rattle.std.specs.Prelude.{◌≡◌, ◌≤◌, ◌+◌, ◌*◌};
+ghost use Rattle.std.specs.Prelude.{◌≡◌, ◌≤◌, ◌+◌, ◌*◌, Ok};
 ghost use Rattle.rules.specs.Limits.{most_axes, most_dims};
-ghost use Rattle.types.specs.Answers.{number_of, refused_with, run_meaning};
+ghost use Rattle.types.specs.Answers.{number_of, refused_with, judged};
 ghost use Rattle.rules.specs.Calls.{check_of, place_of, groups_of, groups_leave, groups_ordered_of, groups_ordered_leave, run_of};
 ghost use Rattle.records.specs.Writing.{write_of, write_leaves};
 ghost use Rattle.records.specs.Forms.{records_given};
@@ -12,15 +12,12 @@ ghost use Rattle.records.specs.Reading.{read_of, read_leaves_order, read_leaves_
 ghost use Rattle.records.specs.PlanAnswer.{steps_planned};
 ghost use Rattle.placements.specs.PlaceAll.{place_all_of, placed_before, place_all_leaves};
 ghost use Rattle.marshal.specs.Structs.{sharding_in};
-ghost use Rattle.capi.specs.Boundary.{refusal_code, check_reply, ran_reply, place_reply, checked_reply, placed_reply, written_reply, opened_reply, planned_reply, read_reply, made_reply, placed_all_reply};
+ghost use Rattle.capi.specs.Boundary.{refusal_code, check_reply, ran_reply, place_reply, checked_reply, placed_reply, written_reply, opened_reply, planned_reply, read_reply, made_reply, step_in_place, placed_all_reply};
 
 use ishkrela::{
-    Axis, CheckOutcome, Checked, Device, Dim, GroupsOutcome, Opened, PlaceAllOutcome, PlaceOutcome,
-    Placed, PlanOutcome, ReadCounts, ReadOutcome, Refusal, RunOutcome, Steps, Totals, WriteOutcome,
+    Axis, Checked, Device, Dim, Opened, Placed, ReadCounts, Refusal, Sharding, Step, Steps, Totals,
 };
-use marshal::{
-    ShardingReply, StepReply, no_sharding, no_step, sharding_in, sharding_reply, step_reply,
-};
+use marshal::{ShardingReply, StepReply, no_sharding, no_step};
 use reasons::number_of;
 
 // C's ishkrela_checked: the numbers that stand for the check's answer.
@@ -99,15 +96,22 @@ pub struct PlanReply {
 fn code_of(refusal: Refusal) -> u32
     ensures { result ≡ number_of refusal.reason + 256 * refusal.step }
 {
-    let reason = refusal.reason;
-    let number = number_of(reason);
-    number as u32 + 256 * (refusal.step as u32)
+    u32::from(number_of(refusal.reason)) + 256 * u32::from(refusal.step)
+}
+
+// An outcome as one number, 0 where there is no refusal.
+fn outcome_code<T: Copy>(outcome: Result<T, Refusal>) -> u32
+    ensures { result ≡ refusal_code (judged outcome) }
+{
+    match outcome {
+        Ok(_) => 0,
+        Err(refusal) => code_of(refusal),
+    }
 }
 
 fn check_refused(refusal: Refusal) -> CheckReply
     ensures { result ≡ check_reply (refused_with refusal) }
 {
-    let sharding = no_sharding();
     CheckReply {
         refusal: code_of(refusal),
         room: 0,
@@ -115,16 +119,15 @@ fn check_refused(refusal: Refusal) -> CheckReply
         steps: 0,
         rank: 0,
         shard: [0; Dim::MOST],
-        sharding,
+        sharding: no_sharding(),
         moved: 0,
     }
 }
 
 fn check_passed(totals: Totals, checked: Checked) -> CheckReply
     requires { totals.rank ≤ most_dims }
-    ensures { result ≡ checked_reply (CheckOutcome.Passed totals) checked }
+    ensures { result ≡ checked_reply (Ok totals) checked }
 {
-    let sharding = sharding_reply(checked.sharding);
     let shard = checked.shard;
     CheckReply {
         refusal: 0,
@@ -133,7 +136,7 @@ fn check_passed(totals: Totals, checked: Checked) -> CheckReply
         steps: totals.steps,
         rank: totals.rank as u16,
         shard,
-        sharding,
+        sharding: ShardingReply::from(checked.sharding),
         moved: totals.moved,
     }
 }
@@ -144,31 +147,28 @@ pub extern "C" fn ishkrela_check(file: &[u8]) -> CheckReply
     ensures { result ≡ check_reply (check_of file.now) }
 {
     let checked = ishkrela::check(file);
-    let outcome = checked.outcome;
-    match outcome {
-        CheckOutcome::Passed(totals) => check_passed(totals, checked),
-        CheckOutcome::Refused(refusal) => check_refused(refusal),
+    match checked.outcome {
+        Ok(totals) => check_passed(totals, checked),
+        Err(refusal) => check_refused(refusal),
     }
 }
 
 fn place_refused(refusal: Refusal) -> PlaceReply
     ensures { result ≡ place_reply (refused_with refusal) }
 {
-    let sharding = no_sharding();
     PlaceReply {
         refusal: code_of(refusal),
         rank: 0,
         shard: [0; Dim::MOST],
         first: [0; Dim::MOST],
-        sharding,
+        sharding: no_sharding(),
     }
 }
 
 fn place_found(rank: usize, placed: Placed) -> PlaceReply
     requires { rank ≤ most_dims }
-    ensures { result ≡ placed_reply (PlaceOutcome.Found rank) placed }
+    ensures { result ≡ placed_reply (Ok rank) placed }
 {
-    let sharding = sharding_reply(placed.sharding);
     let shard = placed.shard;
     let first = placed.first;
     PlaceReply {
@@ -176,7 +176,7 @@ fn place_found(rank: usize, placed: Placed) -> PlaceReply
         rank: rank as u16,
         shard,
         first,
-        sharding,
+        sharding: ShardingReply::from(placed.sharding),
     }
 }
 
@@ -186,10 +186,9 @@ pub extern "C" fn ishkrela_place(file: &[u8], state: u16, device: u16) -> PlaceR
     ensures { result ≡ place_reply (place_of file.now state device) }
 {
     let placed = ishkrela::place(file, state, Device(device));
-    let outcome = placed.outcome;
-    match outcome {
-        PlaceOutcome::Found(rank) => place_found(rank, placed),
-        PlaceOutcome::Refused(refusal) => place_refused(refusal),
+    match placed.outcome {
+        Ok(rank) => place_found(rank, placed),
+        Err(refusal) => place_refused(refusal),
     }
 }
 
@@ -205,14 +204,9 @@ pub extern "C" fn ishkrela_place_all(
     ensures leaves { first.new ≡ place_all_leaves file.now state devices.now first.old }
 {
     let placed = ishkrela::place_all(file, state, devices, first);
-    let outcome = placed.outcome;
-    let place = placed.place;
-    match outcome {
-        PlaceAllOutcome::Placed => PlaceAllReply { refusal: 0, place },
-        PlaceAllOutcome::Refused(refusal) => PlaceAllReply {
-            refusal: code_of(refusal),
-            place,
-        },
+    PlaceAllReply {
+        refusal: outcome_code(placed.outcome),
+        place: placed.place,
     }
 }
 
@@ -222,11 +216,7 @@ pub extern "C" fn ishkrela_groups(mesh: &[u16], axes: &[u8], out: &mut [u16]) ->
     ensures answers { result ≡ refusal_code (groups_of mesh.now axes.now out.old) }
     ensures leaves { out.new ≡ groups_leave mesh.now axes.now out.old }
 {
-    let outcome = ishkrela::groups(mesh, axes, out);
-    match outcome {
-        GroupsOutcome::Listed(_) => 0,
-        GroupsOutcome::Refused(refusal) => code_of(refusal),
-    }
+    outcome_code(ishkrela::groups(mesh, axes, out))
 }
 
 // The group listing by an order of the devices.
@@ -240,21 +230,7 @@ pub extern "C" fn ishkrela_groups_ordered(
     ensures answers { result ≡ refusal_code (groups_ordered_of mesh.now order.now axes.now out.old) }
     ensures leaves { out.new ≡ groups_ordered_leave mesh.now order.now axes.now out.old }
 {
-    let outcome = ishkrela::groups_ordered(mesh, order, axes, out);
-    match outcome {
-        GroupsOutcome::Listed(_) => 0,
-        GroupsOutcome::Refused(refusal) => code_of(refusal),
-    }
-}
-
-// The outcome of a run as one number, 0 where it finished.
-fn run_code(outcome: RunOutcome) -> u32
-    ensures { result ≡ refusal_code (run_meaning outcome) }
-{
-    match outcome {
-        RunOutcome::Finished => 0,
-        RunOutcome::Refused(refusal) => code_of(refusal),
-    }
+    outcome_code(ishkrela::groups_ordered(mesh, order, axes, out))
 }
 
 // The run of a plan.
@@ -265,9 +241,8 @@ pub extern "C" fn ishkrela_run(file: &[u8], work: &mut [u32], spare: &mut [u32])
     ensures clears { spare.new ≡ (run_of file.now work.old spare.old).spare }
 {
     let ran = ishkrela::run(file, work, spare);
-    let outcome = ran.outcome;
     RunReply {
-        refusal: run_code(outcome),
+        refusal: outcome_code(ran.outcome),
         moved: ran.moved,
     }
 }
@@ -285,28 +260,24 @@ pub extern "C" fn ishkrela_write<'a>(
     ensures answers { result ≡ written_reply (write_of (records_given mesh.now order.now table.now (sharding_in start) steps.now) file.old) }
     ensures leaves { file.new ≡ write_leaves (records_given mesh.now order.now table.now (sharding_in start) steps.now) file.old }
 {
-    let sharding = sharding_in(start);
+    let sharding = Sharding::from(start);
     let outcome = ishkrela::write(mesh, order, table, sharding, steps, file);
-    match outcome {
-        WriteOutcome::Written(bytes) => WriteReply { refusal: 0, bytes },
-        WriteOutcome::Refused(refusal) => WriteReply {
-            refusal: code_of(refusal),
-            bytes: 0,
-        },
+    WriteReply {
+        refusal: outcome_code(outcome),
+        bytes: outcome.unwrap_or(0),
     }
 }
 
 fn read_refused(refusal: Refusal) -> ReadReply
     ensures { result ≡ opened_reply (refused_with refusal) }
 {
-    let start = no_sharding();
     ReadReply {
         refusal: code_of(refusal),
         n: 0,
         rank: 0,
         mesh: [0; Axis::MOST],
         table: [0; Dim::MOST],
-        start,
+        start: no_sharding(),
         order: 0,
         steps_bytes: 0,
     }
@@ -314,9 +285,8 @@ fn read_refused(refusal: Refusal) -> ReadReply
 
 fn read_opened(counts: ReadCounts, opened: Opened) -> ReadReply
     requires { (counts.n ≤ most_axes) × (counts.rank ≤ most_dims) }
-    ensures { result ≡ read_reply (ReadOutcome.Opened counts) opened }
+    ensures { result ≡ read_reply (Ok counts) opened }
 {
-    let start = sharding_reply(opened.start);
     let mesh = opened.mesh;
     let table = opened.table;
     ReadReply {
@@ -325,7 +295,7 @@ fn read_opened(counts: ReadCounts, opened: Opened) -> ReadReply
         rank: counts.rank as u16,
         mesh,
         table,
-        start,
+        start: ShardingReply::from(opened.start),
         order: counts.order,
         steps_bytes: counts.steps,
     }
@@ -339,38 +309,39 @@ pub extern "C" fn ishkrela_read(file: &[u8], order: &mut [u16], steps: &mut [u8]
     ensures leaves_steps { steps.new ≡ read_leaves_steps file.now order.old steps.old }
 {
     let opened = ishkrela::read(file, order, steps);
-    let outcome = opened.outcome;
-    match outcome {
-        ReadOutcome::Opened(counts) => read_opened(counts, opened),
-        ReadOutcome::Refused(refusal) => read_refused(refusal),
+    match opened.outcome {
+        Ok(counts) => read_opened(counts, opened),
+        Err(refusal) => read_refused(refusal),
     }
 }
 
 fn plan_refused(refusal: Refusal) -> PlanReply
     ensures { result ≡ planned_reply (refused_with refusal) }
 {
-    let none = no_step();
     PlanReply {
         refusal: code_of(refusal),
         count: 0,
-        steps: [none; 3],
+        steps: [no_step(); 3],
+    }
+}
+
+// A place of the plan.
+fn step_in_place(step: Option<Step>) -> StepReply
+    ensures { result ≡ step_in_place step }
+{
+    match step {
+        Some(step) => StepReply::from(step),
+        None => no_step(),
     }
 }
 
 fn plan_made(plan: Steps) -> PlanReply
-    requires { plan.count ≤ 3 }
-    ensures { result ≡ made_reply PlanOutcome.Made plan }
+    ensures { result ≡ made_reply plan }
 {
-    let steps = plan.steps;
-    let records = [
-        step_reply(steps[0]),
-        step_reply(steps[1]),
-        step_reply(steps[2]),
-    ];
     PlanReply {
         refusal: 0,
-        count: plan.count as u32,
-        steps: records,
+        count: plan.count() as u32,
+        steps: plan.0.map(step_in_place),
     }
 }
 
@@ -385,12 +356,11 @@ pub extern "C" fn ishkrela_plan<'a>(
 ) -> PlanReply
     ensures { result ≡ planned_reply (steps_planned mesh.now order.now table.now (sharding_in start) (sharding_in goal)) }
 {
-    let from = sharding_in(start);
-    let to = sharding_in(goal);
+    let from = Sharding::from(start);
+    let to = Sharding::from(goal);
     let planned = ishkrela::plan(mesh, order, table, from, to);
-    let outcome = planned.outcome;
-    match outcome {
-        PlanOutcome::Made => plan_made(planned.plan),
-        PlanOutcome::Refused(refusal) => plan_refused(refusal),
+    match planned.outcome {
+        Ok(()) => plan_made(planned.plan),
+        Err(refusal) => plan_refused(refusal),
     }
 }

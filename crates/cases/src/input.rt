@@ -1,5 +1,5 @@
 // Reading from standard input. Numbers are little-endian; past the end of the input every byte is 0.
-ghost use Rattle.std.specs.Prelude.{◌≡◌, ◌<◌, ◌≤◌, length};
+ghost use Rattle.std.specs.Prelude.{◌≡◌, ◌≤◌, length};
 
 use answer::read_full;
 use std::io::Read;
@@ -14,12 +14,6 @@ pub(crate) fn file_buffer() -> [u8; MOST]
     [0; MOST]
 }
 
-fn wide(byte: u8) -> usize
-    ensures { result < 256 }
-{
-    byte as usize
-}
-
 // The next byte.
 pub(crate) fn next_byte(input: &mut impl Read) -> u8 {
     let mut bytes = [0u8; 1];
@@ -31,27 +25,25 @@ pub(crate) fn next_byte(input: &mut impl Read) -> u8 {
 pub(crate) fn next_number(input: &mut impl Read) -> u16 {
     let mut bytes = [0u8; 2];
     read_full(input, &mut bytes);
-    let low = wide(bytes[0]);
-    let high = wide(bytes[1]);
-    (low + 256 * high) as u16
+    u16::from_le_bytes(bytes)
 }
 
 // The next word, in four bytes.
 fn next_word(input: &mut impl Read) -> u32 {
-    let low = next_number(input) as u64;
-    let high = next_number(input) as u64;
-    (low + 65536 * high) as u32
+    let mut bytes = [0u8; 4];
+    read_full(input, &mut bytes);
+    u32::from_le_bytes(bytes)
 }
 
 fn fill_numbers(input: &mut impl Read, numbers: &mut [u16]) {
-    for i in 0..numbers.len() {
-        numbers[i] = next_number(input);
+    for number in numbers {
+        *number = next_number(input);
     }
 }
 
 fn fill_words(input: &mut impl Read, words: &mut [u32]) {
-    for i in 0..words.len() {
-        words[i] = next_word(input);
+    for word in words {
+        *word = next_word(input);
     }
 }
 

@@ -4,9 +4,9 @@
 ghost use Rattle.std.specs.Prelude.{◌≡◌, length};
 
 use super::input::{MOST, next_number, read_axes, read_mesh, read_order};
-use super::printing::{print_next, print_numbers, print_text};
+use super::printing::print_numbers;
 use answer::print_refusal;
-use ishkrela::{GroupsOutcome, groups, groups_ordered};
+use ishkrela::{Refusal, groups, groups_ordered};
 use std::io::Read;
 
 // The output before the call: 9999 is no device of any mesh.
@@ -17,15 +17,14 @@ fn blank() -> [u16; MOST]
 }
 
 // Prints what the call answered and left.
-fn print_outcome(rt: &impl Print, outcome: GroupsOutcome, out: &[u16]) {
+fn print_outcome(rt: &impl Print, outcome: Result<usize, Refusal>, out: &[u16]) {
     match outcome {
-        GroupsOutcome::Listed(devices) => {
-            print_text(rt, b"ok");
-            print_next(rt, devices as u64);
+        Ok(devices) => {
+            let _ = print!(rt; "ok {devices}");
             print_numbers(rt, out);
-            print_text(rt, b"\n");
+            let _ = println!(rt; "");
         }
-        GroupsOutcome::Refused(refusal) => {
+        Err(refusal) => {
             print_refusal(rt, refusal);
         }
     }

@@ -26,7 +26,7 @@ fn one_case(rt: &impl Print, input: &mut impl Read) -> bool {
     true
 }
 
-// A proved loop has to end, so it counts down from a number that no run uses up.
+// Stays: (d) a proved loop has to end, so it counts down from a number that no run uses up, and ends sooner as a rule.
 fn main(rt: HostRuntime) {
     let mut input = rt.stdin();
     let mut turns = u64::MAX;

@@ -1,41 +1,38 @@
 // Call 2, the placement: a plan file, and the state and the device in two bytes each. Prints `no NUMBER STEP`, or
 // `ok lists DIMS UNREDUCED sizes SHARD first INDEXES`, the replicated axes after the unreduced ones where there are any.
 use super::input::{file_buffer, next_number, read_file};
-use super::printing::{print_list, print_lists, print_sizes, print_text};
+use super::printing::{print_list, print_lists, print_sizes};
 use answer::print_refusal;
-use ishkrela::{AxisList, Device, PlaceOutcome, Placed, place};
+use ishkrela::{AxisList, Device, Placed, place};
 use std::io::Read;
 
 fn print_replicated(rt: &impl Print, list: AxisList) {
     if list.len() != 0 {
-        print_text(rt, b" ");
+        let _ = print!(rt; " ");
         print_list(rt, list);
     }
 }
 
 fn print_found(rt: &impl Print, placed: Placed, rank: usize) {
     let sharding = placed.sharding;
-    let shard = placed.shard;
-    let first = placed.first;
-    print_text(rt, b"ok lists ");
+    let _ = print!(rt; "ok lists ");
     print_lists(rt, sharding.dims, rank);
-    print_text(rt, b" ");
+    let _ = print!(rt; " ");
     print_list(rt, sharding.unreduced);
     print_replicated(rt, sharding.replicated);
-    print_text(rt, b" sizes ");
-    print_sizes(rt, shard, rank);
-    print_text(rt, b" first ");
-    print_sizes(rt, first, rank);
-    print_text(rt, b"\n");
+    let _ = print!(rt; " sizes ");
+    print_sizes(rt, placed.shard, rank);
+    let _ = print!(rt; " first ");
+    print_sizes(rt, placed.first, rank);
+    let _ = println!(rt; "");
 }
 
 fn print_placed(rt: &impl Print, placed: Placed) {
-    let outcome = placed.outcome;
-    match outcome {
-        PlaceOutcome::Found(rank) => {
+    match placed.outcome {
+        Ok(rank) => {
             print_found(rt, placed, rank);
         }
-        PlaceOutcome::Refused(refusal) => {
+        Err(refusal) => {
             print_refusal(rt, refusal);
         }
     }

@@ -3,9 +3,9 @@
 ghost use Rattle.std.specs.Prelude.{◌≡◌, length};
 
 use super::input::{MOST, file_buffer, read_file, read_words};
-use super::printing::{print_text, print_words};
+use super::printing::print_numbers;
 use answer::print_refusal;
-use ishkrela::{RunOutcome, run};
+use ishkrela::{Refusal, run};
 use std::io::Read;
 
 fn buffer() -> [u32; MOST]
@@ -14,30 +14,29 @@ fn buffer() -> [u32; MOST]
     [0; MOST]
 }
 
-fn print_outcome(rt: &impl Print, outcome: RunOutcome) {
+fn print_outcome(rt: &impl Print, outcome: Result<(), Refusal>) {
     match outcome {
-        RunOutcome::Finished => {
-            print_text(rt, b"ok\n");
+        Ok(()) => {
+            let _ = println!(rt; "ok");
         }
-        RunOutcome::Refused(refusal) => {
+        Err(refusal) => {
             print_refusal(rt, refusal);
         }
     }
 }
 
-fn print_buffer(rt: &impl Print, name: &[u8], words: &[u32]) {
-    print_text(rt, name);
-    print_words(rt, words);
-    print_text(rt, b"\n");
+fn print_buffer(rt: &impl Print, name: &str, words: &[u32]) {
+    let _ = print!(rt; "{name}");
+    print_numbers(rt, words);
+    let _ = println!(rt; "");
 }
 
 // Makes the call and prints what it answers and leaves.
 fn answer_run(rt: &impl Print, file: &[u8], work: &mut [u32], spare: &mut [u32]) {
     let ran = run(file, work, spare);
-    let outcome = ran.outcome;
-    print_outcome(rt, outcome);
-    print_buffer(rt, b"work", work);
-    print_buffer(rt, b"spare", spare);
+    print_outcome(rt, ran.outcome);
+    print_buffer(rt, "work", work);
+    print_buffer(rt, "spare", spare);
 }
 
 // Reads a case and answers it.

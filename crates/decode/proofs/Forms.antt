@@ -1,33 +1,53 @@
--- Laws of the bytes of a record, from the stores that make them. Assumes nothing.
-use Prim.Native.Nat.{ℕ}
-use mathlib.Core.Path.{◌≡◌, transport}
-use mathlib.Core.List.{List, [], ◌∷◌, ◌++◌, map}
-use lib.ListN.{length, get_or}
-use Rattle.rules.specs.Lists.{flat}
-use Rattle.records.specs.Forms.{five_lists, six_places, form_bytes}
+-- Laws of the bytes of a record, from the stores that make them: parts of one length in turn (`Parts`), and a record without the one list. Assumes nothing.
+use Prim.Native.Nat.{ℕ, ◌+◌, ◌*◌, ◌≤◌, ◌<◌}
+use mathlib.Core.Path.{◌≡◌, sym, ap, ◌∙◌, subst, transport}
+use mathlib.Core.List.{List, [], ◌∷◌, ◌++◌, append-nil, append_assoc}
+use native.Mathlib.Omega.{arith}
+use native.Mathlib.Nat.{zero-mul}
+use native.Mathlib.Numerals.{add-one}
+use lib.ListN.{length}
+use Rattle.rules.specs.Lists.{tab, flat}
+use Rattle.laws.proofs.Fronts.{next-part}
+use Rattle.records.specs.Forms.{five_lists, form_bytes}
 use Rattle.encode.specs.Putting.{Put}
-use Rattle.encode.proofs.Puts.{put_both}
+use Rattle.encode.proofs.Puts.{put-none, put_both}
+
+flat-last : (ls : List (List ℕ)) (l : List ℕ) → flat (ls ++ l ∷ []) ≡ flat ls ++ l
+flat-last [] l = append-nil l
+flat-last (k ∷ ls) l = ap (λ (m : List ℕ). k ++ m) (flat-last ls l) ∙ sym (append_assoc k (flat ls) l)
+
+-- i of so many parts are stored, each of one length
+pub record Parts (length_each most : ℕ) (part : ℕ → List ℕ) (entry exit : List ℕ) (at next i : ℕ) : Type 0 where
+  pub few : i ≤ most
+  pub far : next ≡ at + i * length_each
+  pub put : Put entry exit at next (flat (tab i part))
+
+module _ {each most : ℕ} {part : ℕ → List ℕ} {entry : List ℕ} {at : ℕ} where
+  pub parts-start : Parts each most part entry entry at at 0
+  parts-start = record { few = omega arith; far = omega (arith, zero-mul each); put = put-none entry at }
+
+  module _ {exit : List ℕ} {next i : ℕ} (g : Parts each most part entry exit at next i) where
+    pub parts-step : i < most → {after : List ℕ} {r : ℕ} (bytes : List ℕ) → bytes ≡ part i → length bytes ≡ each → Put exit after next r bytes
+        → Parts each most part entry after at r (i + 1)
+    parts-step h {after} {r} bytes e n p = record {
+      few = omega arith;
+      far = omega (arith, g.far, p.next, n, next-part i each);
+      put = subst (Put entry after at r)
+          (ap (λ (b : List ℕ). flat (tab i part) ++ b) e ∙ sym (ap (λ (k : ℕ). flat (tab k part)) (add-one i) ∙ flat-last (tab i part) (part i)))
+          (put_both g.put p);
+    }
+
+    pub parts-done : most ≤ i → Put entry exit at next (flat (tab most part))
+    parts-done h =
+        let e : i ≡ most = omega (arith, g.few) in
+        subst (λ (k : ℕ). Put entry exit at next (flat (tab k part))) e g.put
 
 module _ {entry exit : List ℕ} {at r : ℕ} where
-  -- the six places of a list, each by its axis
-  pub places-put : (l : List ℕ) {a b c d e f : ℕ} → a ≡ get_or l 0 0 → b ≡ get_or l 1 0 → c ≡ get_or l 2 0 → d ≡ get_or l 3 0 → e ≡ get_or l 4 0 → f ≡ get_or l 5 0
-      → Put entry exit at r (a ∷ b ∷ c ∷ d ∷ e ∷ f ∷ []) → Put entry exit at r (six_places l)
-  places-put l p q s t u v x = transport (λ i. Put entry exit at r (p i ∷ q i ∷ s i ∷ t i ∷ u i ∷ v i ∷ [])) x
-
-  -- the counts of five lists
-  pub counts-put : (ls : List (List ℕ)) (l : List ℕ) {a b c d e : ℕ} → a ≡ length (get_or ls 0 []) → b ≡ length (get_or ls 1 []) → c ≡ length (get_or ls 2 [])
-      → d ≡ length (get_or ls 3 []) → e ≡ length l → Put entry exit at r (a ∷ b ∷ c ∷ d ∷ e ∷ []) → Put entry exit at r (map length (five_lists ls l))
-  counts-put ls l p q s t u x = transport (λ i. Put entry exit at r (p i ∷ q i ∷ s i ∷ t i ∷ u i ∷ [])) x
+  -- bytes that are known in other words
+  pub put-same : {bytes others : List ℕ} → bytes ≡ others → Put entry exit at r bytes → Put entry exit at r others
+  put-same e x = transport (λ i. Put entry exit at r (e i)) x
 
   -- a record without the one list
   pub without-list : (head : List ℕ) (ls : List (List ℕ)) {l : List ℕ} → l ≡ [] → Put entry exit at r (form_bytes head (five_lists ls l))
       → Put entry exit at r (form_bytes head (five_lists ls []))
   without-list head ls e x = transport (λ i. Put entry exit at r (form_bytes head (five_lists ls (e i)))) x
-
--- the places of five lists
-pub axes-put : {x₀ x₁ x₂ x₃ x₄ x₅ : List ℕ} {n₀ n₁ n₂ n₃ n₄ n₅ : ℕ} (ls : List (List ℕ)) (l : List ℕ) {a b c d : List ℕ} → a ≡ get_or ls 0 [] → b ≡ get_or ls 1 []
-    → c ≡ get_or ls 2 [] → d ≡ get_or ls 3 [] → Put x₀ x₁ n₀ n₁ (six_places a) → Put x₁ x₂ n₁ n₂ (six_places b) → Put x₂ x₃ n₂ n₃ (six_places c)
-    → Put x₃ x₄ n₃ n₄ (six_places d) → Put x₄ x₅ n₄ n₅ (six_places l) → Put x₀ x₅ n₀ n₅ (flat (map six_places (five_lists ls l)))
-axes-put {x₀} {x₅ = x₅} {n₀} {n₅ = n₅} ls l p q s t u v w x y =
-    transport (λ i. Put x₀ x₅ n₀ n₅ (six_places (p i) ++ (six_places (q i) ++ (six_places (s i) ++ (six_places (t i) ++ six_places l)))))
-    (put_both u (put_both v (put_both w (put_both x y))))

@@ -34,14 +34,14 @@ pub few-numbers : (b : Bool) {n devices most : ℕ} → n ≡ pick b devices 0 �
 few-numbers true e h = omega (arith, e, h)
 few-numbers false e h = omega (arith, e)
 
-module _ {file : List ℕ} {at : ℕ} {w : Whole} (h : (p : Plan) × (judge file ≡ accept p) × HoldsPlan file at w p) where
+module _ {file : List ℕ} {w : Whole} (h : (p : Plan) × (judge file ≡ accept p) × HoldsPlan file w p) where
   abbrev p : Plan
   p = h.0
 
   abbrev e : judge file ≡ accept p
   e = h.1
 
-  abbrev g : HoldsPlan file at w p
+  abbrev g : HoldsPlan file w p
   g = h.2
 
   pub records-are : records_in file ≡ p.records
@@ -50,16 +50,16 @@ module _ {file : List ℕ} {at : ℕ} {w : Whole} (h : (p : Plan) × (judge file
 
   -- ---- the records
 
-  spelled : drop at file ≡ steps_bytes (map known p.records)
+  spelled : drop w.at file ≡ steps_bytes (map known p.records)
   spelled =
       let o : Outermost = record { records = p.records; steps = p.steps; runs = p.runs; next = length file } in
-      let s : Spells file at (length file) (steps_bytes (map known p.records)) =
-      steps-spell p.mesh p.sizes file (item_at every_kind p.mesh p.sizes file most_depth) (item-spells p.mesh p.sizes file every_kind most_depth) w.steps 1 at
+      let s : Spells file w.at (length file) (steps_bytes (map known p.records)) =
+      steps-spell p.mesh p.sizes file (item_at every_kind p.mesh p.sizes file most_depth) (item-spells p.mesh p.sizes file every_kind most_depth) w.steps 1 w.at
       p.start (read_by p.mesh p.sizes file p.start o) g.inside
-      (outermost-steps p.mesh p.sizes file every_kind 0 w.steps 1 at p.start o g.begins) in
+      (outermost-steps p.mesh p.sizes file every_kind 0 w.steps 1 w.at p.start o g.begins) in
       s.is ∙ ap (λ (l : List ℕ). steps_bytes (map known p.records) ++ l) (drop-length file) ∙ append-nil (steps_bytes (map known p.records))
 
-  pub steps-stand : StepsStand file at w.table.rank
+  pub steps-stand : StepsStand file w.at w.table.rank
   steps-stand =
       let a : AcceptedPlan p = accepted file p e in
       let ranked : AllRanked (length p.sizes) (map known p.records) =

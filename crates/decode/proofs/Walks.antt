@@ -1,5 +1,6 @@
 -- Laws of the records of a file, one behind the other: what is read where one stands (`repeat-copied`, `plain_copied`), and the loop over all (`Walk`).
 -- Assumes nothing.
+use Rattle.std.specs.Prelude.{Result, Ok, Err, IsOk}
 use Prim.Native.Nat.{ℕ, zero, suc, ◌+◌, ◌*◌, ◌-◌, ◌≤◌, ◌<◌}
 use mathlib.Core.Path.{◌≡◌, refl, sym, ap, ap₂, ◌∙◌, subst}
 use mathlib.Core.List.{List, [], ◌∷◌, ◌++◌, map, append_assoc, append-nil}
@@ -12,11 +13,10 @@ use Rattle.rules.specs.Refusals.{Judged, accept, ◌>>◌}
 use Rattle.rules.specs.PlanFile.{Read, step_at, Record, plain, repeat, kind_byte}
 use Rattle.types.specs.Types.{step_of}
 use Rattle.types.specs.declared.Refusal.{Refusal}
+use Rattle.types.specs.declared.Step as code
 use Rattle.laws.proofs.Judging.{never, accept-inj}
-use Rattle.reader.specs.Reading.{StepTells}
-use Rattle.reader.specs.declared.Next.TheVariants as next
-use Rattle.reader.specs.declared.StepRead.{StepRead}
-use Rattle.reader.proofs.Answers.{read-on, read-stopped}
+use Rattle.reader.specs.Reading.{reading}
+use Rattle.reader.specs.declared.Read as reader
 use Rattle.records.specs.Records.{known, step_bytes, given_bytes, steps_bytes}
 use Rattle.records.specs.Writing.{judge_counts}
 use Rattle.records.specs.RoundTrip.{AllRanked, ShortLists, ShortStep, AllShort}
@@ -85,21 +85,22 @@ module _ {file : List ℕ} {at rank : ℕ} where
       fine (all_to_all source target L) h = short-counts (L ∷ []) (short-one L h)
       fine (reduce_scatter Ss) h = short-counts Ss h
 
-  module _ (r : StepRead) (k : ℕ) (other : get_or file at 0 ≡ 9 → ⊥) (tells : StepTells rank (step_at most_axes rank k file at) r) where
-    pub plain_copied : {entry exit : List ℕ} {to end q : ℕ} → r.next ≡ next.At end → Put entry exit to q (record_of (plain (step_of rank r.step)))
-        → Copies file at rank entry exit to end
+  module _ (k : ℕ) (other : get_or file at 0 ≡ 9 → ⊥) where
+    pub never-refused : (r : Result (reader.Read code.Step) Refusal) → reading (step_of rank) r ≡ step_at most_axes rank k file at
+        → (g : Record) → Stands file at rank g → IsOk r
     unfolding given_bytes
-    plain_copied {entry} {exit} {to} {end} e p (plain t) s =
-        let same : ◌≡◌ {A = Read Step} (record { value = step_of rank r.step; next = end }) (read t (at + length (step_bytes t))) =
-        accept-inj (sym (read-on (step_of rank r.step) tells.reads e) ∙ step-stands t k s) in
-        record { is = p.is ∙ ap (λ (x : Read Step). sets entry to (record_of (plain x.value))) same; ends = ap (λ (x : Read Step). x.next) same }
-    plain_copied e p (repeat count number) s = absurd (other (from_byte at file 9 (count ∷ number ∷ s.rest) (stands_from s)))
+    never-refused (Ok x) e g s = refl
+    never-refused (Err x) e (plain t) s = absurd (never (e ∙ step-stands t k s))
+    never-refused (Err x) e (repeat count number) s = absurd (other (from_byte at file 9 (count ∷ number ∷ s.rest) (stands_from s)))
 
-    pub never-refused : {x : Refusal} → r.next ≡ next.Refused x → (g : Record) → Stands file at rank g → ⊥
+    pub plain_copied : (r : Result (reader.Read code.Step) Refusal) (x : reader.Read code.Step) → reading (step_of rank) r ≡ step_at most_axes rank k file at
+        → r ≡ Ok x → {entry exit : List ℕ} {to q : ℕ} → Put entry exit to q (record_of (plain (step_of rank x.value))) → Copies file at rank entry exit to x.next
     unfolding given_bytes
-    never-refused e (plain t) s =
-        never (sym (read-stopped (step_of rank r.step) tells.reads e refl) ∙ step-stands t k s)
-    never-refused e (repeat count number) s = other (from_byte at file 9 (count ∷ number ∷ s.rest) (stands_from s))
+    plain_copied r x e h {entry} {exit} {to} p (plain t) s =
+        let same : ◌≡◌ {A = Read Step} (record { value = step_of rank x.value; next = x.next }) (read t (at + length (step_bytes t))) =
+        accept-inj (sym (ap (reading (step_of rank)) h) ∙ e ∙ step-stands t k s) in
+        record { is = p.is ∙ ap (λ (y : Read Step). sets entry to (record_of (plain y.value))) same; ends = ap (λ (y : Read Step). y.next) same }
+    plain_copied r x e h p (repeat count number) s = absurd (other (from_byte at file 9 (count ∷ number ∷ s.rest) (stands_from s)))
 
 -- ---- all records
 
@@ -112,16 +113,16 @@ records-one : (g : Record) → records_bytes (g ∷ []) ≡ record_of g
 unfolding records_bytes
 records-one g = append-nil (record_of g)
 
--- i records are copied, and the others stand from `place` on
-pub record Walk (out₀ out file : List ℕ) (place rank i : ℕ) : Type 0 where
+-- records are copied up to `to`, and the others stand from `place` on
+pub record Walk (out₀ out file : List ℕ) (place rank to : ℕ) : Type 0 where
   pub done : List Record
   pub todo : List Record
   pub all : done ++ todo ≡ records_in file
   pub here : From place file (steps_bytes (map known todo))
   pub ranked : AllRanked rank (map known todo)
   pub short : AllShort todo
-  pub early : i ≤ place
-  pub put : Put out₀ out 0 (record_bytes * i) (records_bytes done)
+  pub early : to ≤ record_bytes * place
+  pub put : Put out₀ out 0 to (records_bytes done)
 
 pub walk_start : (out : List ℕ) {file : List ℕ} {at rank : ℕ} → StepsStand file at rank → Walk out out file at rank 0
 unfolding records_bytes
@@ -136,9 +137,9 @@ walk_start out {file} s = record {
   put = put-none out 0;
 }
 
-module _ {out₀ out file : List ℕ} {place rank i : ℕ} where
+module _ {out₀ out file : List ℕ} {place rank to : ℕ} where
   -- the next one
-  pub walk-stands : Walk out₀ out file place rank i → place < length file → SomeStands file place rank
+  pub walk-stands : Walk out₀ out file place rank to → place < length file → SomeStands file place rank
   unfolding steps_bytes
   walk-stands w h = go w.todo w.here w.ranked w.short
     where
@@ -148,24 +149,24 @@ module _ {out₀ out file : List ℕ} {place rank i : ℕ} where
       go (g ∷ todo) f r s =
           record { one = g; stands = record { rest = steps_bytes (map known todo); is = f.is; inside = f.inside; ranked = r.0; short = s.0 } }
 
-  pub walk-few : Walk out₀ out file place rank i → length file ≤ most_bytes → record_bytes * i + record_bytes ≤ farthest
+  pub walk-few : Walk out₀ out file place rank to → length file ≤ most_bytes → to + record_bytes ≤ farthest
   walk-few w h = omega (arith, h, w.early, w.here.inside)
 
-  pub walk_step : {out' : List ℕ} {place' : ℕ} → Walk out₀ out file place rank i → place < length file
-      → Copies file place rank out out' (record_bytes * i) place' → Walk out₀ out' file place' rank (i + 1) × (length file - place' < length file - place)
+  pub walk_step : {out' : List ℕ} {place' : ℕ} → Walk out₀ out file place rank to → place < length file
+      → Copies file place rank out out' to place' → Walk out₀ out' file place' rank (to + record_bytes) × (length file - place' < length file - place)
   unfolding steps_bytes
   walk_step {out'} {place'} w h copies = go w.todo w.all w.here w.ranked w.short
     where
       go : (todo : List Record) → w.done ++ todo ≡ records_in file → From place file (steps_bytes (map known todo)) → AllRanked rank (map known todo) → AllShort todo
-          → Walk out₀ out' file place' rank (i + 1) × (length file - place' < length file - place)
+          → Walk out₀ out' file place' rank (to + record_bytes) × (length file - place' < length file - place)
       go [] a f r s = absurd (omega (arith, h, from-length place file _ f))
       go (g ∷ todo) a f r s =
           let bytes : List ℕ = given_bytes (known g) in
-          let c : Copied out out' (record_bytes * i) place place' g =
+          let c : Copied out out' to place place' g =
           copies g (record { rest = steps_bytes (map known todo); is = f.is; inside = f.inside; ranked = r.0; short = s.0 }) in
           let further : From place' file (steps_bytes (map known todo)) =
           subst (λ (k : ℕ). From k file (steps_bytes (map known todo))) (sym c.ends) (from_next place file bytes (steps_bytes (map known todo)) f) in
-          let p : Put out out' (record_bytes * i) (record_bytes * (i + 1)) (record_of g) = record { is = c.is; next = omega (arith, record-length g) } in
+          let p : Put out out' to (to + record_bytes) (record_of g) = record { is = c.is; next = omega (arith, record-length g) } in
           let some : 1 ≤ length bytes = given-some (known g) in (
             record {
               done = w.done ++ g ∷ [];
@@ -175,17 +176,17 @@ module _ {out₀ out file : List ℕ} {place rank i : ℕ} where
               ranked = r.1;
               short = s.1;
               early = omega (arith, w.early, c.ends, some);
-              put = subst (Put out₀ out' 0 (record_bytes * (i + 1)))
+              put = subst (Put out₀ out' 0 (to + record_bytes))
                   (ap (λ (l : List ℕ). records_bytes w.done ++ l) (sym (records-one g)) ∙ sym (records-joined w.done (g ∷ []))) (put_both w.put p);
             },
             omega (arith, c.ends, some, further.inside, h),
           )
 
-  pub walk-done : Walk out₀ out file place rank i → length file ≤ place → Put out₀ out 0 (record_bytes * i) (records_bytes (records_in file))
+  pub walk-done : Walk out₀ out file place rank to → length file ≤ place → Put out₀ out 0 to (records_bytes (records_in file))
   unfolding steps_bytes
   walk-done w h = go w.todo w.all w.here
     where
-      go : (todo : List Record) → w.done ++ todo ≡ records_in file → From place file (steps_bytes (map known todo)) → Put out₀ out 0 (record_bytes * i) (records_bytes (records_in file))
-      go [] a f = subst (λ (l : List Record). Put out₀ out 0 (record_bytes * i) (records_bytes l)) (sym (append-nil w.done) ∙ a) w.put
+      go : (todo : List Record) → w.done ++ todo ≡ records_in file → From place file (steps_bytes (map known todo)) → Put out₀ out 0 to (records_bytes (records_in file))
+      go [] a f = subst (λ (l : List Record). Put out₀ out 0 to (records_bytes l)) (sym (append-nil w.done) ∙ a) w.put
       go (g ∷ todo) a f =
           absurd (omega (arith, h, from-length place file _ f, length-append (given_bytes (known g)) (steps_bytes (map known todo)), given-some (known g)))

@@ -2,10 +2,10 @@
 // bytes of a record in records/specs/Forms.antt.
 #![tactic(auto)]
 
-ghost use Rattle.std.specs.Prelude.{◌≡◌, [], ◌∷◌, ◌++◌, map, ◌+◌, ◌*◌, ◌≤◌, length, get_or, take, drop};
+ghost use Rattle.std.specs.Prelude.{◌≡◌, [], ◌∷◌, ◌++◌, map, ◌+◌, ◌*◌, ◌≤◌, length, take, drop};
 ghost use Rattle.rules.specs.Lists.{tab, pick, flat};
 ghost use Rattle.rules.specs.Limits.{most_axes, most_devices, most_dims};
-ghost use Rattle.rules.specs.Refusals.{accept, refuse};
+ghost use Rattle.rules.specs.Refusals.{accept};
 ghost use Rattle.types.specs.Answers.{refused_with};
 ghost use Rattle.rules.specs.PlanFile.{u16_at, edition, carries_order, plain, repeat};
 ghost use Rattle.types.specs.Types.{axes_of, dims_of, mesh_of, step_of};
@@ -19,9 +19,9 @@ ghost use Rattle.decode.specs.Decoding.{SomeStands, Copies, records_in, StepsSta
 use dims::{list_at, lists_within, no_lists, sizes_within};
 use encode::{StepRecord, put_byte, put_three};
 use plan::{Whole, judge_file};
-use reader::{Next, carries_order, read_order, read_step};
-use records::{Opened, ReadCounts, ReadOutcome};
-use types::{Axis, AxisList, Dim, DimLists, Kind, Mesh, PlanFile, Reason, Refusal, Step};
+use reader::{carries_order, read_order, read_step};
+use records::{Opened, ReadCounts};
+use types::{Axis, AxisList, Dim, DimLists, Mesh, PlanFile, Reason, Refusal, Step};
 
 // How many axes a list has, as a byte.
 fn count_of(list: AxisList) -> u8
@@ -35,13 +35,11 @@ fn put_counts(out: &mut [u8], at: usize, lists: DimLists, rank: usize, list: Axi
     requires { at + 5 ≤ farthest }
     ensures { Put out.old out.new at result (map length (five_lists (take rank (dims_of lists)) (axes_of list))) }
 {
-    let first = count_of(list_at(lists, rank, 0));
-    let second = count_of(list_at(lists, rank, 1));
-    let third = count_of(list_at(lists, rank, 2));
-    let fourth = count_of(list_at(lists, rank, 3));
-    let next = put_three(out, at, first, second, third);
-    let last = put_byte(out, next, fourth);
-    put_byte(out, last, count_of(list))
+    let mut next = at;
+    for d in 0..Dim::MOST {
+        next = put_byte(out, next, count_of(list_at(lists, rank, d)));
+    }
+    put_byte(out, next, count_of(list))
 }
 
 // The six places of a list.
@@ -49,14 +47,11 @@ fn put_places(out: &mut [u8], at: usize, list: AxisList) -> usize
     requires { at + 6 ≤ farthest }
     ensures { Put out.old out.new at result (six_places (axes_of list)) }
 {
-    let a = list.at(0);
-    let b = list.at(1);
-    let c = list.at(2);
-    let d = list.at(3);
-    let e = list.at(4);
-    let f = list.at(5);
-    let next = put_three(out, at, a.0, b.0, c.0);
-    put_three(out, next, d.0, e.0, f.0)
+    let mut next = at;
+    for i in 0..Axis::MOST {
+        next = put_byte(out, next, list.at(i).0);
+    }
+    next
 }
 
 // The places of a record's five lists.
@@ -64,11 +59,11 @@ fn put_axes(out: &mut [u8], at: usize, lists: DimLists, rank: usize, list: AxisL
     requires { at + 30 ≤ farthest }
     ensures { Put out.old out.new at result (flat (map six_places (five_lists (take rank (dims_of lists)) (axes_of list)))) }
 {
-    let second = put_places(out, at, list_at(lists, rank, 0));
-    let third = put_places(out, second, list_at(lists, rank, 1));
-    let fourth = put_places(out, third, list_at(lists, rank, 2));
-    let fifth = put_places(out, fourth, list_at(lists, rank, 3));
-    put_places(out, fifth, list)
+    let mut next = at;
+    for d in 0..Dim::MOST {
+        next = put_places(out, next, list_at(lists, rank, d));
+    }
+    put_places(out, next, list)
 }
 
 // A record: kind, source and target, then the lists by dimension, as many as the rank, and the one list.
@@ -90,22 +85,23 @@ fn put_form(
     put_axes(out, axes, lists, rank, list)
 }
 
-// The record of a plain step; one of an unknown kind, which no read answers, is a step that names no axis.
+// The record of a plain step.
 fn put_plain(out: &mut [u8], at: usize, step: Step, rank: usize) -> usize
     requires { at + record_bytes ≤ farthest }
     ensures { Put out.old out.new at result (record_of (plain (step_of rank step))) }
 {
-    let kind = step.kind;
-    let lists = step.lists;
-    let list = step.list;
+    let no_lists = DimLists::empty();
     let none = AxisList::empty();
-    match kind {
-        Kind::AllSlice => put_form(out, at, 1, 0, 0, lists, rank, none),
-        Kind::AllGather => put_form(out, at, 2, 0, 0, lists, rank, none),
-        Kind::AllReduce => put_form(out, at, 3, 0, 0, lists, 0, list),
-        Kind::AllToAll => put_form(out, at, 4, step.source.0, step.target.0, lists, 0, list),
-        Kind::ReduceScatter => put_form(out, at, 5, 0, 0, lists, rank, none),
-        Kind::Unknown => put_form(out, at, 3, 0, 0, lists, 0, none),
+    match step {
+        Step::AllSlice(lists) => put_form(out, at, 1, 0, 0, lists, rank, none),
+        Step::AllGather(lists) => put_form(out, at, 2, 0, 0, lists, rank, none),
+        Step::AllReduce(list) => put_form(out, at, 3, 0, 0, no_lists, 0, list),
+        Step::AllToAll {
+            source,
+            target,
+            list,
+        } => put_form(out, at, 4, source.0, target.0, no_lists, 0, list),
+        Step::ReduceScatter(lists) => put_form(out, at, 5, 0, 0, lists, rank, none),
     }
 }
 
@@ -125,18 +121,14 @@ fn copy_record(out: &mut [u8], to: usize, file: &[u8], at: usize, rank: usize) -
     requires { (to + record_bytes ≤ farthest) × (rank ≤ most_dims) × SomeStands file.now at rank }
     ensures { Copies file.now at rank out.old out.new to result }
 {
+    // Stays: (d) a repeat has no kind of step; 9 is its byte.
     if file[at] == 9 {
         put_repeat(out, to, file[at + 1], file[at + 2]);
         return at + 3;
     }
-    let read = read_step(file, at, Axis::MOST, rank, 0);
-    let next = read.next;
-    let Next::At(end) = next else {
-        return at;
-    };
-    let step = read.step;
-    put_plain(out, to, step, rank);
-    end
+    let read = read_step(file, at, Axis::MOST, rank, 0).unwrap();
+    put_plain(out, to, read.value, rank);
+    read.next
 }
 
 // The records of an accepted file, whose steps stand from a place on; it answers their bytes. A buffer of one place measures.
@@ -145,12 +137,13 @@ fn put_records(out: &mut [u8], file: &[u8], at: usize, rank: usize) -> usize
     ensures { Put out.old out.new 0 result (records_bytes (records_in file.now)) }
 {
     let mut place = at;
-    let mut i: usize = 0;
+    let mut to: usize = 0;
+    // Stays: (d) each turn goes on by the length of the record that stands there, so no range has the turns.
     while place < file.len() {
-        place = copy_record(out, StepRecord::BYTES * i, file, place, rank);
-        i += 1;
+        place = copy_record(out, to, file, place, rank);
+        to += StepRecord::BYTES;
     }
-    StepRecord::BYTES * i
+    to
 }
 
 // The bytes of those records.
@@ -166,10 +159,7 @@ fn records_length(file: &[u8], at: usize, rank: usize) -> usize
 fn order_length(file: &[u8], devices: usize) -> usize
     ensures { result ≡ pick (carries_order (edition file.now)) devices 0 }
 {
-    if carries_order(file) {
-        return devices;
-    }
-    0
+    if carries_order(file) { devices } else { 0 }
 }
 
 // The first device numbers, right behind the n sizes of the mesh.
@@ -180,47 +170,25 @@ fn put_order(file: &[u8], n: usize, numbers: usize, order: &mut [u16])
     read_order(file, PlanFile::LEAST + 2 * n, &mut order[0..numbers]);
 }
 
-// The size of an axis, 0 past the last.
-fn size_in(mesh: Mesh, a: usize) -> u16
-    requires { a + 1 ≤ most_axes }
-    ensures { result ≡ get_or (mesh_of mesh) a 0 }
-{
-    if a < mesh.n { mesh.sizes[a] } else { 0 }
-}
-
 // The sizes of a mesh, 0 past the last.
 fn mesh_within(mesh: Mesh) -> [u16; Axis::MOST]
     ensures { result ≡ six_places (mesh_of mesh) }
 {
-    [
-        size_in(mesh, 0),
-        size_in(mesh, 1),
-        size_in(mesh, 2),
-        size_in(mesh, 3),
-        size_in(mesh, 4),
-        size_in(mesh, 5),
-    ]
+    let mut sizes = mesh.sizes;
+    sizes[mesh.n.min(Axis::MOST)..].fill(0);
+    sizes
 }
 
 // No sizes and no lists, beside a refusal.
 fn refused(refusal: Refusal) -> Opened
     ensures { result ≡ opened_of (refused_with refusal) }
 {
-    let start = no_lists();
     Opened {
-        outcome: ReadOutcome::Refused(refusal),
+        outcome: Err(refusal),
         mesh: [0; Axis::MOST],
         table: [0; Dim::MOST],
-        start,
+        start: no_lists(),
     }
-}
-
-// 33: a lent list is too short.
-fn too_short() -> Opened
-    ensures { result ≡ opened_of (refuse 33 0) }
-{
-    let reason = Reason::OutputTooShort;
-    refused(Refusal { reason, step: 0 })
 }
 
 // The answer for a plan that passed, of which so many device numbers and bytes of records are written.
@@ -237,7 +205,7 @@ fn opened(whole: Whole, order: usize, steps: usize) -> Opened
         steps,
     };
     Opened {
-        outcome: ReadOutcome::Opened(counts),
+        outcome: Ok(counts),
         mesh: mesh_within(mesh),
         table: sizes_within(table),
         start: lists_within(whole.start, table.rank),
@@ -249,22 +217,18 @@ fn opened(whole: Whole, order: usize, steps: usize) -> Opened
 pub fn read(file: &[u8], order: &mut [u16], steps: &mut [u8]) -> Opened
     ensures { ReadPromise file.now order.old steps.old result order.new steps.new }
 {
-    let whole = judge_file(file);
-    let next = whole.next;
-    let Next::At(at) = next else {
-        return refused(next.refusal());
+    let whole = match judge_file(file) {
+        Ok(whole) => whole,
+        Err(refusal) => return refused(refusal),
     };
     let rank = whole.table.rank;
     let n = whole.mesh.n;
     let numbers = order_length(file, whole.devices);
-    let bytes = records_length(file, at, rank);
-    if order.len() < numbers {
-        return too_short();
-    }
-    if steps.len() < bytes {
-        return too_short();
+    let bytes = records_length(file, whole.at, rank);
+    if order.len() < numbers || steps.len() < bytes {
+        return refused(Refusal::outside(Reason::OutputTooShort));
     }
     put_order(file, n, numbers, order);
-    put_records(steps, file, at, rank);
+    put_records(steps, file, whole.at, rank);
     opened(whole, numbers, bytes)
 }

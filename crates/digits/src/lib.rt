@@ -17,11 +17,8 @@ pub fn fill_strides(strides: &mut [usize], mesh: &[u16], m: usize)
     requires { HasStrides strides.old mesh.now × (product mesh.now * m ≤ most_room) }
     ensures { strides.new ≡ mesh_strides mesh.now m }
 {
-    let mut i = mesh.len();
-    while 0 < i {
-        let stride = product_from(mesh, i) * m;
-        i -= 1;
-        strides[i] = stride;
+    for i in (0..mesh.len()).rev() {
+        strides[i] = product_from(mesh, i + 1) * m;
     }
 }
 
@@ -42,9 +39,7 @@ pub fn axis_digits(
 {
     let mut first = end;
     let mut count = inner;
-    let mut i = axes.len();
-    while 0 < i {
-        i -= 1;
+    for i in (0..axes.len()).rev() {
         first -= 3;
         let axis = axes.at(i);
         let size = size_at(mesh, axis);
@@ -65,9 +60,7 @@ pub fn mesh_digits(digits: &mut [usize], strides: &[usize], mesh: &[u16], end: u
 {
     let mut first = end;
     let mut count = inner;
-    let mut i = mesh.len();
-    while 0 < i {
-        i -= 1;
+    for i in (0..mesh.len()).rev() {
         first -= 3;
         let size = mesh[i] as usize;
         put_digit(digits, first, size, count, strides[i]);

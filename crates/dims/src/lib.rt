@@ -21,13 +21,11 @@ pub fn names_axis(lists: DimLists, rank: usize) -> bool
     requires { rank ≤ most_dims }
     ensures { result ≡ some (flat (take rank (dims_of lists))) }
 {
-    let mut d: usize = 0;
-    while d < rank {
+    for d in 0..rank {
         let list = lists.at(Dim(d as u8));
         if list.len() != 0 {
             return true;
         }
-        d += 1;
     }
     false
 }
@@ -37,13 +35,11 @@ pub fn names_below(lists: DimLists, rank: usize, n: usize) -> bool
     requires { rank ≤ most_dims }
     ensures { result ≡ all_below n (flat (take rank (dims_of lists))) }
 {
-    let mut d: usize = 0;
-    while d < rank {
+    for d in 0..rank {
         let list = lists.at(Dim(d as u8));
         if !all_below(list, n) {
             return false;
         }
-        d += 1;
     }
     true
 }
@@ -53,11 +49,9 @@ pub fn mark_dims(lists: DimLists, rank: usize, marks: &mut [bool])
     requires { rank ≤ most_dims }
     ensures { marks.new ≡ marks_with marks.old (flat (take rank (dims_of lists))) }
 {
-    let mut d: usize = 0;
-    while d < rank {
+    for d in 0..rank {
         let list = lists.at(Dim(d as u8));
         mark_list(marks, list);
-        d += 1;
     }
 }
 
@@ -76,14 +70,12 @@ pub fn tails(dims: DimLists, lists: DimLists, rank: usize) -> bool
     requires { rank ≤ most_dims }
     ensures { result ≡ both is_tail (take rank (dims_of dims)) (take rank (dims_of lists)) }
 {
-    let mut d: usize = 0;
-    while d < rank {
+    for d in 0..rank {
         let list = dims.at(Dim(d as u8));
         let tail = lists.at(Dim(d as u8));
         if !is_tail(list, tail) {
             return false;
         }
-        d += 1;
     }
     true
 }
@@ -95,13 +87,11 @@ pub fn cut_tails(dims: DimLists, lists: DimLists, rank: usize) -> DimLists
         × (drop rank (dims_of result) ≡ drop rank (dims_of dims)) }
 {
     let mut next = dims;
-    let mut d: usize = 0;
-    while d < rank {
+    for d in 0..rank {
         let dim = Dim(d as u8);
         let list = dims.at(dim);
         let tail = lists.at(dim);
         next = next.with(dim, cut_tail(list, tail));
-        d += 1;
     }
     next
 }
@@ -113,23 +103,13 @@ pub fn join_lists(dims: DimLists, lists: DimLists, rank: usize) -> DimLists
         × (drop rank (dims_of result) ≡ drop rank (dims_of dims)) }
 {
     let mut next = dims;
-    let mut d: usize = 0;
-    while d < rank {
+    for d in 0..rank {
         let dim = Dim(d as u8);
         let list = dims.at(dim);
         let tail = lists.at(dim);
         next = next.with(dim, join(list, tail));
-        d += 1;
     }
     next
-}
-
-fn divides(span: usize, size: u16) -> bool
-    requires { 1 ≤ span }
-    ensures { result ≡ eqb (size % span) 0 }
-{
-    let whole = size as usize;
-    whole % span == 0
 }
 
 // Whether each size of a table is divisible by the span of its dimension's list.
@@ -138,14 +118,11 @@ pub fn divisible(table: Table, lists: DimLists, mesh: Mesh) -> bool
     ensures { result ≡ divisible_of (mesh_of mesh) (sizes_of table) (take table.rank (dims_of lists)) }
 {
     let rank = table.rank;
-    let mut d: usize = 0;
-    while d < rank {
+    for d in 0..rank {
         let list = lists.at(Dim(d as u8));
-        let size = table.sizes[d];
-        if !divides(span(list, mesh), size) {
+        if table.sizes[d] as usize % span(list, mesh) != 0 {
             return false;
         }
-        d += 1;
     }
     true
 }
@@ -156,21 +133,11 @@ pub fn span_dims(lists: DimLists, rank: usize, mesh: Mesh) -> usize
     ensures { result ≡ span_of (mesh_of mesh) (flat (take rank (dims_of lists))) }
 {
     let mut product: usize = 1;
-    let mut d: usize = 0;
-    while d < rank {
+    for d in 0..rank {
         let list = lists.at(Dim(d as u8));
-        product = product * span(list, mesh);
-        d += 1;
+        product *= span(list, mesh);
     }
     product
-}
-
-fn quotient(size: u16, span: usize) -> u16
-    requires { 1 ≤ span }
-    ensures { result ≡ size / span }
-{
-    let whole = size as usize;
-    (whole / span) as u16
 }
 
 // One shard of a table whose dimensions the lists split, itself a table. Sizes past the rank stay.
@@ -181,20 +148,11 @@ pub fn shard_of(table: Table, dims: DimLists, mesh: Mesh) -> Table
 {
     let rank = table.rank;
     let mut shard = table;
-    let mut d: usize = 0;
-    while d < rank {
+    for d in 0..rank {
         let list = dims.at(Dim(d as u8));
-        let size = table.sizes[d];
-        shard.sizes[d] = quotient(size, span(list, mesh));
-        d += 1;
+        shard.sizes[d] = (table.sizes[d] as usize / span(list, mesh)) as u16;
     }
     shard
-}
-
-fn wide(size: u16) -> usize
-    ensures { (result ≡ size) × (result < 65536) }
-{
-    size as usize
 }
 
 // The words of a table.
@@ -204,11 +162,8 @@ pub fn words(table: Table) -> usize
 {
     let rank = table.rank;
     let mut product: usize = 1;
-    let mut d: usize = 0;
-    while d < rank {
-        let size = wide(table.sizes[d]);
-        product = product * size;
-        d += 1;
+    for d in 0..rank {
+        product *= table.sizes[d] as usize;
     }
     product
 }

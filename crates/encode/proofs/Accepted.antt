@@ -8,6 +8,7 @@ use native.Mathlib.Omega.{arith}
 use lib.Dec.{leb, leb→le, eqb, lit≤}
 use lib.ListN.{length, get_or, length-map}
 use lib.Seq.{length-take-le}
+use Rattle.std.specs.Prelude.{Result, Ok, Err}
 use Rattle.rules.specs.Lists.{tab, pick}
 use Rattle.rules.specs.Limits.{most_axes, most_devices, most_dims, most_words, most_steps, every_kind}
 use Rattle.rules.specs.Mesh.{devices}
@@ -16,14 +17,14 @@ use Rattle.rules.specs.PlanFile.{axes_allowed, rank_allowed, judge_sizes, kind_o
 use Rattle.types.specs.declared.DimLists.{DimLists}
 use Rattle.types.specs.declared.Sharding as code
 use Rattle.types.specs.declared.Kind.{Kind}
-use Rattle.types.specs.declared.Kind.TheVariants.{AllSlice, AllGather, AllReduce, AllToAll, ReduceScatter, Unknown}
-use Rattle.types.specs.declared.Step as records
+use Rattle.types.specs.declared.Kind.TheVariants.{AllSlice, AllGather, AllReduce, AllToAll, ReduceScatter}
+use Rattle.types.specs.declared.Reason.{Reason}
 use Rattle.laws.proofs.Lists.{T_and, get_or-tab, both-length}
 use Rattle.laws.proofs.Judging.{need-inv, then-inv, bind_inv}
 use Rattle.laws.proofs.Accepted.{sizes-facts}
 use Rattle.records.specs.Records.{Given, known, unknown, Records, outermost, steps_bytes}
 use Rattle.records.specs.Writing.{judge_sharding, judge_order, judge_opening, step_numbered, judge_records}
-use Rattle.records.specs.Forms.{list_given, dims_given, record_bytes, step_record, given_kind, given_at, record_count, steps_given, records_given}
+use Rattle.records.specs.Forms.{list_given, dims_given, record_bytes, lists_record, step_if_kind, given_kind, given_at, record_count, steps_given, records_given}
 use Rattle.records.specs.RoundTrip.{Shorts, Ranked, AllRanked, ShortGiven, AllShort, Proper}
 use Rattle.records.proofs.Places.{from_all}
 use Rattle.records.proofs.Given.{all-given}
@@ -42,22 +43,22 @@ module _ (rank : ℕ) (few : rank ≤ most_dims) where
   unfolding dims_given
   dims_ranked ls e = length-take-le rank (map list_given ls.0) (omega (arith, length-map ls.0 list_given, e, few))
 
-  kind-ranked : (k : Kind) (t : records.Step) → length t.lists.0 ≡ most_dims → Ranked rank (given_kind k rank t)
-  kind-ranked AllSlice t e = dims_ranked t.lists e
-  kind-ranked AllGather t e = dims_ranked t.lists e
-  kind-ranked AllReduce t e = tt
-  kind-ranked AllToAll t e = tt
-  kind-ranked ReduceScatter t e = dims_ranked t.lists e
-  kind-ranked Unknown t e = tt
+  kind-ranked : (k : Result Kind Reason) (bytes : List ℕ) (at : ℕ) → Ranked rank (given_kind rank (step_if_kind k bytes at))
+  kind-ranked (Ok AllSlice) bytes at = dims_ranked (lists_record bytes at) refl
+  kind-ranked (Ok AllGather) bytes at = dims_ranked (lists_record bytes at) refl
+  kind-ranked (Ok AllReduce) bytes at = tt
+  kind-ranked (Ok AllToAll) bytes at = tt
+  kind-ranked (Ok ReduceScatter) bytes at = dims_ranked (lists_record bytes at) refl
+  kind-ranked (Err reason) bytes at = tt
 
   record-ranked : (bytes : List ℕ) (at : ℕ) → Ranked rank (given_at rank bytes at)
   unfolding given_at
   record-ranked bytes at = go (eqb (get_or bytes at 0) 9)
     where
       go : (b : Bool)
-          → Ranked rank (pick b (known (repeat (get_or bytes (at + 1) 0) (get_or bytes (at + 2) 0))) (given_kind (kind_from (kind_of (get_or bytes at 0))) rank (step_record bytes at)))
+          → Ranked rank (pick b (known (repeat (get_or bytes (at + 1) 0) (get_or bytes (at + 2) 0))) (given_kind rank (step_if_kind (kind_from (kind_of (get_or bytes at 0))) bytes at)))
       go true = tt
-      go false = kind-ranked (kind_from (kind_of (get_or bytes at 0))) (step_record bytes at) refl
+      go false = kind-ranked (kind_from (kind_of (get_or bytes at 0))) bytes at
 
   ranked-append : (l m : List Given) → AllRanked rank l → AllRanked rank m → AllRanked rank (l ++ m)
   ranked-append [] m h g = g

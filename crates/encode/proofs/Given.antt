@@ -5,23 +5,26 @@ use mathlib.Core.Path.{◌≡◌, refl, sym, ap, ap₂, ◌∙◌, subst}
 use mathlib.Core.List.{List, [], ◌∷◌, ◌++◌, map, append-nil, append_assoc}
 use native.Mathlib.Omega.{arith}
 use native.Mathlib.Numerals.{add-one}
-use native.Mathlib.Nat.{div-add-mod'}
+use native.Mathlib.Nat.{add-zero, div-add-mod'}
+use Rattle.std.proofs.lemmas.List.{take-map}
+use Rattle.std.proofs.lemmas.List.FromFn.{fill_by_all}
 use lib.Dec.{T, leb, leb→le, eqb, eqb→eq}
-use lib.ListN.{length, get_or, take, replicate, length-append, length-take, length-replicate}
+use lib.ListN.{length, get_or, take, replicate, length-append, length-map, length-take, length-replicate, get_or-map}
+use Rattle.std.specs.Prelude.{Option, Some, None}
 use Rattle.rules.specs.Lists.{tab, pick}
 use Rattle.rules.specs.Limits.{most_axes, most_dims}
 use Rattle.rules.specs.PlanFile.{repeat}
-use Rattle.types.specs.Types.{axes_of, dims_of}
+use Rattle.types.specs.Types.{axes_of, dims_of, numbers_of}
+use Rattle.types.specs.declared.Axis.{Axis}
 use Rattle.types.specs.declared.AxisList.{AxisList}
 use Rattle.types.specs.declared.DimLists.{DimLists}
 use Rattle.types.specs.declared.Sharding as code
-use Rattle.types.specs.declared.Kind.{Kind}
-use Rattle.types.specs.declared.Kind.TheVariants.{AllSlice, AllGather, AllReduce, AllToAll, ReduceScatter, Unknown}
 use Rattle.types.specs.declared.Step.{Step}
+use Rattle.types.specs.declared.Step.TheVariants.{AllSlice, AllGather, AllReduce, AllToAll, ReduceScatter}
 use Rattle.laws.proofs.Lists.{n_t→false}
 use Rattle.records.specs.Records.{Given, known, list_bytes, lists_bytes, replicated_bytes, sharding_bytes, step_bytes, given_bytes, steps_bytes}
-use Rattle.records.specs.Forms.{list_given, dims_given, sharding_given, record_bytes, step_record, given_kind, given_at, record_count, steps_given}
-use Rattle.records.specs.RoundTrip.{ShortLists, ShortSharding, ShortGiven}
+use Rattle.records.specs.Forms.{list_given, dims_given, sharding_given, record_bytes, axis_at, places_at, list_record, lists_record, step_record, step_given, given_kind, given_at, record_count, steps_given}
+use Rattle.records.specs.RoundTrip.{ShortLists, ShortSharding, ShortStep, ShortGiven}
 use Rattle.records.proofs.Lists.{is_le, is_eq}
 use Rattle.encode.specs.Putting.{Put}
 use Rattle.encode.proofs.Puts.{put-none, put_both}
@@ -61,6 +64,24 @@ pub list_put : {entry exit : List ℕ} {at r : ℕ} (l : AxisList) → length (l
     → Put entry exit at r (list_bytes (list_given l))
 list_put {entry} {exit} {at} {r} l h p = subst (λ (x : List ℕ). Put entry exit at r (list_bytes x)) (sym (list-given l h)) p
 
+-- the axes of a list, and the lists, as they stand in the code's arrays
+pub numbers-length : (l : List Axis) → length (numbers_of l) ≡ length l
+unfolding numbers_of
+numbers-length l = length-map l (λ (a : Axis). a.0)
+
+pub number-at : (l : List Axis) (i : ℕ) → (get_or l i (record { 0 = 0 })).0 ≡ get_or (numbers_of l) i 0
+unfolding numbers_of
+number-at l i = sym (get_or-map (λ (a : Axis). a.0) l i (record { 0 = 0 }))
+
+pub lists-length : (rank : ℕ) (ls : DimLists) → length (take rank (dims_of ls)) ≡ length (take rank ls.0)
+unfolding dims_of
+lists-length rank ls = ap length (take-map axes_of rank ls.0) ∙ length-map (take rank ls.0) axes_of
+
+pub list-at : (rank : ℕ) (ls : DimLists) (d : ℕ) → axes_of (get_or (take rank ls.0) d (record { count = 0; axes = [] })) ≡ get_or (take rank (dims_of ls)) d []
+unfolding dims_of axes_of
+list-at rank ls d =
+    sym (ap (λ (l : List (List ℕ)). get_or l d []) (take-map axes_of rank ls.0) ∙ get_or-map axes_of (take rank ls.0) d (record { count = 0; axes = [] }))
+
 -- ---- how many bytes they take
 
 lists_length : (ls : List (List ℕ)) → ShortLists ls → length (lists_bytes ls) ≤ 7 * length ls
@@ -97,43 +118,60 @@ module _ {a b c d : List ℕ} {at i j r : ℕ} where
 
 -- ---- a record
 
+pub places-of : (bytes : List ℕ) (at : ℕ) (l : List Axis) → length l ≡ most_axes
+    → ((i : ℕ) → i < most_axes → get_or l i (record { 0 = 0 }) ≡ axis_at bytes (at + i)) → l ≡ places_at bytes at
+places-of bytes at l e h =
+    fill_by_all (λ i. axis_at bytes (at + i)) l most_axes (record { 0 = 0 }) e h
+    ∙ ap (λ (i : ℕ). axis_at bytes i ∷ axis_at bytes (at + 1) ∷ axis_at bytes (at + 2) ∷ axis_at bytes (at + 3) ∷ axis_at bytes (at + 4) ∷ axis_at bytes (at + 5) ∷ [])
+    (add-zero at)
+
+pub lists-of : (bytes : List ℕ) (at : ℕ) (l : List AxisList) → length l ≡ most_dims
+    → ((d : ℕ) → d < most_dims → get_or l d (record { count = 0; axes = [] }) ≡ list_record bytes at d) → l ≡ (lists_record bytes at).0
+lists-of bytes at l e h = fill_by_all (list_record bytes at) l most_dims (record { count = 0; axes = [] }) e h
+
 module _ (rank : ℕ) (bytes : List ℕ) (from : ℕ) where
   pub repeat-given : get_or bytes from 0 ≡ 9 → given_at rank bytes from ≡ known (repeat (get_or bytes (from + 1) 0) (get_or bytes (from + 2) 0))
   unfolding given_at
   repeat-given e = rw (is_eq (get_or bytes from 0) 9 e) refl
 
-  pub plain-given : (get_or bytes from 0 ≡ 9 → ⊥) → given_at rank bytes from ≡ given_kind (step_record bytes from).kind rank (step_record bytes from)
+  pub plain-given : (get_or bytes from 0 ≡ 9 → ⊥) → given_at rank bytes from ≡ given_kind rank (step_record bytes from)
   unfolding given_at
   plain-given n = rw (n_t→false (eqb (get_or bytes from 0) 9) (λ t. n (eqb→eq (get_or bytes from 0) 9 t))) refl
 
-  pub plain-short : (get_or bytes from 0 ≡ 9 → ⊥) → {t : Step} → t ≡ step_record bytes from → ShortGiven (given_at rank bytes from)
-      → ShortGiven (given_kind t.kind rank t)
-  plain-short n {t} e h =
-      subst (λ (z : Step). ShortGiven (given_kind z.kind rank z)) (sym e) (subst ShortGiven (plain-given n) h)
+  given-as : (get_or bytes from 0 ≡ 9 → ⊥) → {t : Option Step} → t ≡ step_record bytes from → given_at rank bytes from ≡ given_kind rank t
+  given-as n e = plain-given n ∙ ap (given_kind rank) (sym e)
+
+  pub plain-short : (get_or bytes from 0 ≡ 9 → ⊥) → {t : Step} → Some t ≡ step_record bytes from → ShortGiven (given_at rank bytes from)
+      → ShortStep (step_given rank t)
+  plain-short n e h = subst ShortGiven (given-as n e) h
 
   pub repeat-put : {entry exit : List ℕ} {at r : ℕ} → get_or bytes from 0 ≡ 9
       → Put entry exit at r (9 ∷ get_or bytes (from + 1) 0 ∷ get_or bytes (from + 2) 0 ∷ []) → Put entry exit at r (given_bytes (given_at rank bytes from))
   unfolding given_bytes
   repeat-put {entry} {exit} {at} {r} e p = subst (λ (g : Given). Put entry exit at r (given_bytes g)) (sym (repeat-given e)) p
 
-  pub plain-put : {entry exit : List ℕ} {at r : ℕ} → (get_or bytes from 0 ≡ 9 → ⊥) → {t : Step} → t ≡ step_record bytes from
-      → Put entry exit at r (given_bytes (given_kind t.kind rank t)) → Put entry exit at r (given_bytes (given_at rank bytes from))
-  plain-put {entry} {exit} {at} {r} n {t} e p =
-      subst (λ (g : Given). Put entry exit at r (given_bytes g)) (sym (plain-given n))
-      (subst (λ (z : Step). Put entry exit at r (given_bytes (given_kind z.kind rank z))) e p)
+  pub plain-put : {entry exit : List ℕ} {at r : ℕ} → (get_or bytes from 0 ≡ 9 → ⊥) → {t : Step} → Some t ≡ step_record bytes from
+      → Put entry exit at r (step_bytes (step_given rank t)) → Put entry exit at r (given_bytes (given_at rank bytes from))
+  unfolding given_bytes
+  plain-put {entry} {exit} {at} {r} n e p = subst (λ (g : Given). Put entry exit at r (given_bytes g)) (sym (given-as n e)) p
 
-  kind-few : (k : Kind) (t : Step) → rank ≤ most_dims → ShortGiven (given_kind k rank t) → length (given_bytes (given_kind k rank t)) ≤ 31
+  pub unknown-put : {entry exit : List ℕ} {at r : ℕ} → (get_or bytes from 0 ≡ 9 → ⊥) → None ≡ step_record bytes from
+      → Put entry exit at r (0 ∷ []) → Put entry exit at r (given_bytes (given_at rank bytes from))
+  unfolding given_bytes
+  unknown-put {entry} {exit} {at} {r} n e p = subst (λ (g : Given). Put entry exit at r (given_bytes g)) (sym (given-as n e)) p
+
+  kind-few : (t : Option Step) → rank ≤ most_dims → ShortGiven (given_kind rank t) → length (given_bytes (given_kind rank t)) ≤ 31
   unfolding given_bytes step_bytes
-  kind-few AllSlice t h f = omega (arith, lists-few rank t.lists h f)
-  kind-few AllGather t h f = omega (arith, lists-few rank t.lists h f)
-  kind-few AllReduce t h f = omega (arith, f)
-  kind-few AllToAll t h f = omega (arith, f)
-  kind-few ReduceScatter t h f = omega (arith, lists-few rank t.lists h f)
-  kind-few Unknown t h f = omega arith
+  kind-few (Some (AllSlice lists)) h f = omega (arith, lists-few rank lists h f)
+  kind-few (Some (AllGather lists)) h f = omega (arith, lists-few rank lists h f)
+  kind-few (Some (AllReduce list)) h f = omega (arith, f)
+  kind-few (Some (AllToAll source target list)) h f = omega (arith, f)
+  kind-few (Some (ReduceScatter lists)) h f = omega (arith, lists-few rank lists h f)
+  kind-few None h f = omega arith
 
   -- a record by whether it is a repeat
   abbrev either : Bool → Given
-  either b = pick b (known (repeat (get_or bytes (from + 1) 0) (get_or bytes (from + 2) 0))) (given_kind (step_record bytes from).kind rank (step_record bytes from))
+  either b = pick b (known (repeat (get_or bytes (from + 1) 0) (get_or bytes (from + 2) 0))) (given_kind rank (step_record bytes from))
 
   -- a record takes at most 31 bytes
   pub record-few : rank ≤ most_dims → ShortGiven (given_at rank bytes from) → length (given_bytes (given_at rank bytes from)) ≤ 31
@@ -142,7 +180,7 @@ module _ (rank : ℕ) (bytes : List ℕ) (from : ℕ) where
     where
       go : (b : Bool) → ShortGiven (either b) → length (given_bytes (either b)) ≤ 31
       go true g = omega arith
-      go false g = kind-few (step_record bytes from).kind (step_record bytes from) h g
+      go false g = kind-few (step_record bytes from) h g
 
 -- ---- all records
 

@@ -1,6 +1,6 @@
 -- What the writing functions leave in a buffer (`Put`), and what they ask of lists: no more axes than there are places, as the judgement has found before
 -- (8). Assumes nothing.
-use Rattle.std.specs.Prelude.{ℕ, zero, suc, ◌+◌, ◌*◌, ◌≤◌, ◌<◌, ◌≡◌, List, [], ◌∷◌, ◌++◌, length}
+use Rattle.std.specs.Prelude.{ℕ, ◌+◌, ◌*◌, ◌≤◌, ◌<◌, ◌≡◌, List, [], ◌∷◌, ◌++◌, length}
 use Rattle.std.proofs.lemmas.List.Edits.{sets}
 use Rattle.rules.specs.Limits.{most_axes, most_devices, most_dims, most_steps, least_bytes, most_bytes}
 use Rattle.rules.specs.Sharding.{Sharding}
@@ -53,14 +53,3 @@ front_bytes e mesh order sizes s = u16s_bytes mesh ++ (u16s_bytes order ++ (u16s
 abbrev pub header_of : (edition n devices rank outer first total : ℕ) → List ℕ
 header_of e n devices rank outer first total =
     e ∷ n ∷ rank ∷ outer ∷ least_bytes ∷ (least_bytes + 2 * n + 2 * devices) ∷ (least_bytes + 2 * n + 2 * devices + 2 * rank) ∷ first ∷ total ∷ []
-
--- ---- counting outermost steps
-
--- of one record, where so many are still to come of the blocks that are open: whether it stands in none of them, and how many are to come after it
-abbrev pub outermost_one : (still : ℕ) → ℕ
-outermost_one zero = 1
-outermost_one (suc n) = 0
-
-abbrev pub still_after : (still inner : ℕ) → ℕ
-still_after zero inner = inner
-still_after (suc n) inner = inner + n

@@ -7,13 +7,12 @@ ghost use Rattle.rules.specs.Lists.{pick};
 ghost use Rattle.rules.specs.Limits.{most_axes, most_devices, most_dims, most_steps, least_bytes, most_bytes};
 ghost use Rattle.rules.specs.PlanFile.{some};
 ghost use Rattle.types.specs.Types.{axes_of};
-ghost use Rattle.records.specs.Records.{u16_bytes, u16s_bytes, list_bytes, lists_bytes, replicated_bytes, sharding_bytes, inner_of, outermost, given_bytes, steps_bytes, file_length, file_of};
+ghost use Rattle.records.specs.Records.{u16_bytes, u16s_bytes, list_bytes, lists_bytes, replicated_bytes, sharding_bytes, inner_of, outermost, step_bytes, given_bytes, steps_bytes, file_length, file_of};
 ghost use Rattle.records.specs.Writing.{most_records};
-ghost use Rattle.records.specs.RoundTrip.{ShortLists, ShortSharding, ShortGiven};
-ghost use Rattle.records.specs.Forms.{list_given, dims_given, sharding_given, record_bytes, axis_at, list_record, step_record, given_kind, given_at, record_count, steps_given, records_given};
-ghost use Rattle.encode.specs.Putting.{Put, farthest, ShortSteps, front_bytes, header_of, Encodable, Writable, outermost_one, still_after};
+ghost use Rattle.records.specs.RoundTrip.{ShortLists, ShortSharding, ShortStep, ShortGiven};
+ghost use Rattle.records.specs.Forms.{list_given, dims_given, sharding_given, record_bytes, list_record, lists_record, step_record, step_given, given_at, record_count, steps_given, records_given};
+ghost use Rattle.encode.specs.Putting.{Put, farthest, ShortSteps, front_bytes, header_of, Encodable, Writable};
 
-use reader::kind_of;
 use types::{Axis, AxisList, Dim, DimLists, Kind, PlanFile, Sharding, Step};
 
 // A step record, by where it begins in the bytes of the records.
@@ -46,18 +45,18 @@ pub fn put_byte(out: &mut [u8], at: usize, byte: u8) -> usize
 {
     if at < out.len() {
         out[at] = byte;
-        return at + 1;
     }
     at + 1
 }
 
 // A number of 16 bits, little-endian.
-fn put_u16(out: &mut [u8], at: usize, number: usize) -> usize
+fn put_u16(out: &mut [u8], at: usize, number: u16) -> usize
     requires { at + 2 ≤ farthest }
     ensures { Put out.old out.new at result (u16_bytes number) }
 {
-    let next = put_byte(out, at, (number % 256) as u8);
-    put_byte(out, next, (number / 256 % 256) as u8)
+    let [low, high] = number.to_le_bytes();
+    let next = put_byte(out, at, low);
+    put_byte(out, next, high)
 }
 
 // Numbers of 16 bits: sizes, an order, the header.
@@ -66,10 +65,8 @@ fn put_u16s(out: &mut [u8], at: usize, numbers: &[u16]) -> usize
     ensures { Put out.old out.new at result (u16s_bytes numbers.now) }
 {
     let mut place = at;
-    let mut i: usize = 0;
-    while i < numbers.len() {
-        place = put_u16(out, place, numbers[i] as usize);
-        i += 1;
+    for number in numbers {
+        place = put_u16(out, place, *number);
     }
     place
 }
@@ -79,13 +76,10 @@ fn put_list(out: &mut [u8], at: usize, list: AxisList) -> usize
     requires { (at + 7 ≤ farthest) × (length (axes_of list) ≤ most_axes) }
     ensures { Put out.old out.new at result (list_bytes (axes_of list)) }
 {
-    let count = list.len();
-    let mut place = put_byte(out, at, count as u8);
-    let mut i: usize = 0;
-    while i < count {
-        let axis = list.at(i);
+    let axes = list.as_slice();
+    let mut place = put_byte(out, at, axes.len() as u8);
+    for axis in axes {
         place = put_byte(out, place, axis.0);
-        i += 1;
     }
     place
 }
@@ -96,11 +90,8 @@ fn put_lists(out: &mut [u8], at: usize, lists: DimLists, rank: usize) -> usize
     ensures { Put out.old out.new at result (lists_bytes (dims_given rank lists)) }
 {
     let mut place = at;
-    let mut d: usize = 0;
-    while d < rank {
-        let list = lists.at(Dim(d as u8));
-        place = put_list(out, place, list);
-        d += 1;
+    for list in &lists.0[..rank] {
+        place = put_list(out, place, *list);
     }
     place
 }
@@ -166,82 +157,83 @@ fn put_to_all(out: &mut [u8], at: usize, source: Dim, target: Dim, list: AxisLis
     put_list(out, next, list)
 }
 
-// A plain step, or the byte of a kind that there is not.
+// A plain step.
 fn put_step(out: &mut [u8], at: usize, step: Step, rank: usize) -> usize
-    requires { (at + 31 ≤ farthest) × (rank ≤ most_dims) × ShortGiven (given_kind step.kind rank step) }
-    ensures { Put out.old out.new at result (given_bytes (given_kind step.kind rank step)) }
+    requires { (at + 31 ≤ farthest) × (rank ≤ most_dims) × ShortStep (step_given rank step) }
+    ensures { Put out.old out.new at result (step_bytes (step_given rank step)) }
 {
-    let kind = step.kind;
-    let lists = step.lists;
-    let list = step.list;
-    match kind {
-        Kind::AllSlice => put_per_dim(out, at, 1, lists, rank),
-        Kind::AllGather => put_per_dim(out, at, 2, lists, rank),
-        Kind::AllReduce => put_reduce(out, at, list),
-        Kind::AllToAll => put_to_all(out, at, step.source, step.target, list),
-        Kind::ReduceScatter => put_per_dim(out, at, 5, lists, rank),
-        Kind::Unknown => put_byte(out, at, 0),
+    match step {
+        Step::AllSlice(lists) => put_per_dim(out, at, 1, lists, rank),
+        Step::AllGather(lists) => put_per_dim(out, at, 2, lists, rank),
+        Step::AllReduce(list) => put_reduce(out, at, list),
+        Step::AllToAll {
+            source,
+            target,
+            list,
+        } => put_to_all(out, at, source, target, list),
+        Step::ReduceScatter(lists) => put_per_dim(out, at, 5, lists, rank),
     }
 }
 
-// An axis, a list and a step of the records, from their bytes.
-fn axis_at(steps: &[u8], at: usize) -> Axis
-    requires { at < length steps.now }
-    ensures { result ≡ axis_at steps.now at }
-{
-    Axis(steps[at])
-}
-
+// A list of a record, the lists by dimension, and its step, from their bytes.
 fn list_record(steps: &[u8], at: usize, list: usize) -> AxisList
     requires { (at + record_bytes ≤ length steps.now) × (list ≤ 4) }
     ensures { result ≡ list_record steps.now at list }
 {
     let first = at + 8 + 6 * list;
-    let axes = [
-        axis_at(steps, first),
-        axis_at(steps, first + 1),
-        axis_at(steps, first + 2),
-        axis_at(steps, first + 3),
-        axis_at(steps, first + 4),
-        axis_at(steps, first + 5),
-    ];
+    let mut axes = [Axis(0); Axis::MOST];
+    for i in 0..Axis::MOST {
+        axes[i] = Axis(steps[first + i]);
+    }
     AxisList {
-        count: steps[at + 3 + list] as u16,
+        count: u16::from(steps[at + 3 + list]),
         axes,
     }
 }
 
-pub fn step_record(steps: &[u8], at: usize) -> Step
+fn lists_record(steps: &[u8], at: usize) -> DimLists
+    requires { at + record_bytes ≤ length steps.now }
+    ensures { result ≡ lists_record steps.now at }
+{
+    let mut lists = [AxisList::empty(); Dim::MOST];
+    for d in 0..Dim::MOST {
+        lists[d] = list_record(steps, at, d);
+    }
+    DimLists(lists)
+}
+
+// None where there is no kind of its byte.
+pub fn step_record(steps: &[u8], at: usize) -> Option<Step>
     requires { at + record_bytes ≤ length steps.now }
     ensures { result ≡ step_record steps.now at }
 {
-    let kind = kind_of(steps[at]);
-    let lists = [
-        list_record(steps, at, 0),
-        list_record(steps, at, 1),
-        list_record(steps, at, 2),
-        list_record(steps, at, 3),
-    ];
-    let list = list_record(steps, at, 4);
-    Step {
-        kind,
-        source: Dim(steps[at + 1]),
-        target: Dim(steps[at + 2]),
-        lists: DimLists(lists),
-        list,
-    }
+    let kind = Kind::try_from(steps[at]).ok()?;
+    Some(match kind {
+        Kind::AllSlice => Step::AllSlice(lists_record(steps, at)),
+        Kind::AllGather => Step::AllGather(lists_record(steps, at)),
+        Kind::AllReduce => Step::AllReduce(list_record(steps, at, 4)),
+        Kind::AllToAll => Step::AllToAll {
+            source: Dim(steps[at + 1]),
+            target: Dim(steps[at + 2]),
+            list: list_record(steps, at, 4),
+        },
+        Kind::ReduceScatter => Step::ReduceScatter(lists_record(steps, at)),
+    })
 }
 
-// The record that begins at a place of the records.
+// The record that begins at a place of the records; of a kind that there is not, the byte that is no kind's.
 fn put_record(out: &mut [u8], at: usize, steps: &[u8], from: usize, rank: usize) -> usize
     requires { (at + 31 ≤ farthest) × (rank ≤ most_dims) × (from + record_bytes ≤ length steps.now) × ShortGiven (given_at rank steps.now from) }
     ensures { Put out.old out.new at result (given_bytes (given_at rank steps.now from)) }
 {
+    // Stays: (d) a repeat has no kind of step; 9 is its byte in the records, as in the file.
     if steps[from] == 9 {
         return put_three(out, at, 9, steps[from + 1], steps[from + 2]);
     }
-    let step = step_record(steps, from);
-    put_step(out, at, step, rank)
+    match step_record(steps, from) {
+        Some(step) => put_step(out, at, step, rank),
+        None => put_byte(out, at, 0),
+    }
 }
 
 // All records; bytes after the last whole one count for nothing.
@@ -251,10 +243,8 @@ fn put_steps(out: &mut [u8], at: usize, steps: &[u8], rank: usize) -> usize
 {
     let count = steps.len() / StepRecord::BYTES;
     let mut place = at;
-    let mut i: usize = 0;
-    while i < count {
+    for i in 0..count {
         place = put_record(out, place, steps, StepRecord::BYTES * i, rank);
-        i += 1;
     }
     place
 }
@@ -264,45 +254,28 @@ fn inner_at(steps: &[u8], from: usize) -> usize
     requires { from + record_bytes ≤ length steps.now }
     ensures { (result ≤ 255) × ((rank : ℕ) → result ≡ inner_of (given_at rank steps.now from)) }
 {
+    // Stays: (d) a repeat has no kind of step; 9 is its byte in the records, as in the file.
     if steps[from] == 9 {
-        return steps[from + 2] as usize;
+        usize::from(steps[from + 2])
+    } else {
+        0
     }
-    0
 }
 
-// Whether a record stands in no block, as 1 or 0, where so many are still to come of the blocks that are open; and how many are after it.
-fn is_outermost(still: usize) -> usize
-    ensures { result ≡ outermost_one still }
-{
-    if still == 0 {
-        return 1;
-    }
-    0
-}
-
-fn still_after(still: usize, inner: usize) -> usize
-    requires { still + inner < 18446744073709551616 }
-    ensures { result ≡ still_after still inner }
-{
-    if still == 0 {
-        return inner;
-    }
-    still - 1 + inner
-}
-
-// The number of outermost steps. Where the open blocks ask for as many records as are left, no other one is outermost.
+// The number of outermost steps: records that come where no open block still asks for any. Where the open blocks ask for as many records as are left, no
+// other one is outermost.
 pub fn outermost_steps(steps: &[u8]) -> usize
     ensures { (rank : ℕ) → result ≡ outermost (steps_given rank steps.now) }
 {
     let count = steps.len() / StepRecord::BYTES;
     let mut outer: usize = 0;
     let mut still: usize = 0;
-    let mut i: usize = 0;
-    while still < count - i {
-        let inner = inner_at(steps, StepRecord::BYTES * i);
-        outer += is_outermost(still);
-        still = still_after(still, inner);
-        i += 1;
+    for i in 0..count {
+        if count - i <= still {
+            break;
+        }
+        outer += usize::from(still == 0);
+        still = still.saturating_sub(1) + inner_at(steps, StepRecord::BYTES * i);
     }
     outer
 }
@@ -311,13 +284,13 @@ pub fn outermost_steps(steps: &[u8]) -> usize
 fn edition_of(order: &[u16], replicated: AxisList) -> usize
     ensures { result ≡ pick (some order.now) 3 (pick (some (axes_of replicated)) 2 1) }
 {
-    if order.len() != 0 {
-        return 3;
+    if !order.is_empty() {
+        3
+    } else if replicated.len() != 0 {
+        2
+    } else {
+        1
     }
-    if replicated.len() != 0 {
-        return 2;
-    }
-    1
 }
 
 // What stands between the header and the steps; it answers where the steps begin.

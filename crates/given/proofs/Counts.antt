@@ -1,33 +1,35 @@
--- Counts of lists: a list that passes 8 is the list of its places (`lists-fit`, `list-fits`), and what the loop over the dimensions keeps. Assumes nothing.
+-- Counts of lists: a list that passes 8 is the list of its places (`lists-fit`, `list-fits`), and lists in turn. Assumes nothing.
 use Prim.Native.Nat.{ℕ, zero, suc, ◌+◌, ◌≤◌, ◌<◌, min}
 use mathlib.Core.Path.{◌≡◌, refl, sym, ap, ap₂, ◌∙◌}
-use mathlib.Core.Logic.{⊎_elim}
+use mathlib.Core.Logic.{◌⊎◌, ⊎_elim}
 use mathlib.Core.Bool.{Bool, true, false}
 use mathlib.Core.List.{List, [], ◌∷◌, map}
 use native.Mathlib.Omega.{arith}
 use borrow.Author.Tests.{le-leb, lt-leb}
-use lib.ListN.{length, get_or, take, drop, replicate, length-replicate, get_or-map, length-map}
-use lib.Seq.{get_or-take, length-take-le}
+use lib.ListN.{length, get_or, take, drop, replicate, length-replicate, drop_of_length-le}
+use lib.Seq.{drop-cons}
+use Rattle.std.proofs.lemmas.List.{take-map}
+use native.Mathlib.Numerals.{add-one}
 use lib.Dec.{leb, leb→le, nleb→lt}
 use Rattle.rules.specs.Lists.{pick}
-use Rattle.rules.specs.Limits.{most_axes, most_dims}
+use Rattle.rules.specs.Limits.{most_axes}
 use Rattle.rules.specs.Refusals.{Judged, accept, refuse, ◌>>◌, need}
 use Rattle.rules.specs.PlanFile.{judge_start}
 use Rattle.types.specs.Types.{axes_of, dims_of, sharding_of}
 use Rattle.types.specs.declared.AxisList.{AxisList}
+use Rattle.types.specs.declared.Dim.{Dim}
 use Rattle.types.specs.declared.DimLists.{DimLists}
+use Rattle.types.specs.declared.Step.{Step}
+use Rattle.types.specs.declared.Step.TheVariants.{AllSlice, AllGather, AllReduce, AllToAll, ReduceScatter}
 use Rattle.types.specs.declared.Refusal.{Refusal}
+use Rattle.types.specs.Answers.{refused_with}
 use Rattle.types.specs.declared.Sharding as code
 use Rattle.laws.proofs.Lists.{T?}
 use Rattle.laws.proofs.Judging.{need-inv}
 use Rattle.types.proofs.Types.{axes-length}
-use Rattle.axes.proofs.Going.{Going, ahead, onward, finish}
-use Rattle.start.specs.Start.{meaning}
-use Rattle.start.specs.declared.Verdict.{Verdict}
-use Rattle.start.specs.declared.Verdict.TheVariants as verdict
-use Rattle.start.proofs.Verdicts.{stops, goes_on}
 use Rattle.records.specs.Writing.{judge_counts, judge_sharding, step_numbered}
-use Rattle.records.specs.Forms.{list_given, dims_given, sharding_given}
+use Rattle.records.specs.Forms.{list_given, dims_given, sharding_given, step_given}
+use Rattle.given.specs.Given.{lists_in}
 
 -- ---- one list
 
@@ -76,10 +78,6 @@ counts-numbered n (l ∷ ls) = go (leb (length l) n) (counts-numbered n ls)
     go true e = e
     go false e = refl
 
-pub counts-two : (n : ℕ) (l m : List ℕ) → judge_counts n (l ∷ m ∷ []) ≡ ◌>>◌ (need (leb (length l) n) 8) (need (leb (length m) n) 8)
-unfolding judge_counts
-counts-two n l m = ap (λ (j : Judged (Unit {0})). ◌>>◌ (need (leb (length l) n) 8) j) (counts-one n m)
-
 pub lists-fit : (n rank : ℕ) (ls : DimLists) → n ≤ most_axes → judge_counts n (dims_given rank ls) ≡ accept tt → dims_given rank ls ≡ take rank (dims_of ls)
 unfolding dims_given dims_of
 lists-fit n rank ls h e = go rank ls.0 e
@@ -91,38 +89,34 @@ lists-fit n rank ls h e = go rank ls.0 e
         let p = counts-inv n (list_given l) (take r (map list_given ds)) q in
         ap₂ (λ (a : List ℕ) (m : List (List ℕ)). a ∷ m) (list-fits l (omega (arith, p.0))) (go r ds p.1)
 
--- ---- the loop over dimensions
+-- ---- lists as they stand in an array
 
-pub dims-length : (rank : ℕ) (ls : DimLists) → length ls.0 ≡ most_dims → rank ≤ most_dims → rank ≡ length (dims_given rank ls)
+pub counts-next : (n : ℕ) (ls : List AxisList) (i : ℕ) → i < length ls
+    → judge_counts n (map list_given (drop i ls))
+    ≡ ◌>>◌ (need (leb (length (list_given (get_or ls i (record { count = 0; axes = [] })))) n) 8) (judge_counts n (map list_given (drop (i + 1) ls)))
+unfolding judge_counts
+counts-next n ls i h = rw (drop-cons ls i (record { count = 0; axes = [] }) h, add-one i) refl
+
+pub counts-fine : (n : ℕ) (ls : List AxisList) (i : ℕ) → length ls ≤ i → judge_counts n (map list_given (drop i ls)) ≡ accept tt
+unfolding judge_counts
+counts-fine n ls i h = rw (drop_of_length-le ls {i = i} h) refl
+
+pub dims-counted : (n rank : ℕ) (ls : DimLists) → judge_counts n (map list_given (take rank ls.0)) ≡ judge_counts n (dims_given rank ls)
 unfolding dims_given
-dims-length rank ls e h = sym (length-take-le rank (map list_given ls.0) (omega (arith, length-map ls.0 list_given, e)))
+dims-counted n rank ls = ap (judge_counts n) (sym (take-map list_given rank ls.0))
 
-no-axes : list_given (record { count = 0; axes = [] }) ≡ []
-unfolding list_given axes_of
-no-axes = refl
+module _ (rank : ℕ) (step : Step) where
+  -- the lists of a step are those by dimension, or the one
+  pub lists-by-dim : (lists : DimLists) → (step ≡ AllSlice lists) ⊎ ((step ≡ AllGather lists) ⊎ (step ≡ ReduceScatter lists))
+      → lists_in (step_given rank step) ≡ dims_given rank lists
+  lists-by-dim lists is =
+      ⊎_elim (λ e. ap (λ (t : Step). lists_in (step_given rank t)) e)
+      (λ o. ⊎_elim (λ e. ap (λ (t : Step). lists_in (step_given rank t)) e) (λ e. ap (λ (t : Step). lists_in (step_given rank t)) e) o) is
 
-pub list-is : (rank : ℕ) (ls : DimLists) (d : ℕ) → d < rank → list_given (get_or ls.0 d (record { count = 0; axes = [] })) ≡ get_or (dims_given rank ls) d []
-unfolding dims_given
-list-is rank ls d h =
-    sym (get_or-map list_given ls.0 d (record { count = 0; axes = [] })) ∙ ap (λ (z : List ℕ). get_or (map list_given ls.0) d z) no-axes
-    ∙ sym (get_or-take rank (map list_given ls.0) d [] h)
-
-module _ (n rank : ℕ) (ls : DimLists) (d : ℕ) (g : Going (judge_counts n (dims_given rank ls)) (judge_counts n) (dims_given rank ls) rank d) where
-  pub counts-refused : (l : List ℕ) (v : Verdict) (r : Refusal) → d < rank → l ≡ get_or (dims_given rank ls) d [] → meaning v ≡ need (leb (length l) n) 8
-      → v ≡ verdict.Refused r → meaning v ≡ judge_counts n (dims_given rank ls)
-  unfolding judge_counts
-  counts-refused l v r h e m f =
-      stops v (need (leb (length l) n) 8) (judge_counts n (drop (d + 1) (dims_given rank ls))) m r f ∙ sym (ahead g h l [] e)
-
-  pub counts-onward : (l : List ℕ) (v : Verdict) → d < rank → l ≡ get_or (dims_given rank ls) d [] → meaning v ≡ need (leb (length l) n) 8 → v ≡ verdict.Fine
-      → Going (judge_counts n (dims_given rank ls)) (judge_counts n) (dims_given rank ls) rank (d + 1)
-  unfolding judge_counts
-  counts-onward l v h e m f =
-      onward g h l [] e (judge_counts n) (goes_on v (need (leb (length l) n) 8) (judge_counts n (drop (d + 1) (dims_given rank ls))) m f)
-
-  pub counts-fine : rank ≤ d → judge_counts n (dims_given rank ls) ≡ accept tt
-  unfolding judge_counts
-  counts-fine h = finish g h
+  pub lists-one : (list : AxisList) → (step ≡ AllReduce list) ⊎ ((source : Dim) × (target : Dim) × (step ≡ AllToAll source target list))
+      → lists_in (step_given rank step) ≡ list_given list ∷ []
+  lists-one list is =
+      ⊎_elim (λ e. ap (λ (t : Step). lists_in (step_given rank t)) e) (λ o. ap (λ (t : Step). lists_in (step_given rank t)) o.2) is
 
 -- ---- a sharding
 
@@ -146,20 +140,12 @@ module _ (mesh sizes : List ℕ) (n rank : ℕ) (s : code.Sharding) (n_is : leng
   unfolding judge_sharding
   in_parts = ap (λ (k : ℕ). ◌>>◌ (judge_counts k (dims_given rank s.dims)) (◌>>◌ (judge_counts k others) (judge_start mesh sizes (sharding_given rank s)))) n_is
 
-  pub dims-stop : (v : Verdict) (r : Refusal) → meaning v ≡ judge_counts n (dims_given rank s.dims) → v ≡ verdict.Refused r
-      → meaning v ≡ judge_sharding mesh sizes (sharding_given rank s)
-  dims-stop v r e f = stops v (judge_counts n (dims_given rank s.dims)) _ e r f ∙ sym in_parts
+  pub dims-stop : (r : Refusal) → refused_with r ≡ judge_counts n (dims_given rank s.dims) → refused_with r ≡ judge_sharding mesh sizes (sharding_given rank s)
+  dims-stop r e = rw (in_parts, ← e) refl
 
-  module _ (c : judge_counts n (dims_given rank s.dims) ≡ accept tt) where
-    then-others : judge_sharding mesh sizes (sharding_given rank s) ≡ ◌>>◌ (judge_counts n others) (judge_start mesh sizes (sharding_given rank s))
-    then-others = in_parts ∙ ap (λ (j : Judged (Unit {0})). ◌>>◌ j (◌>>◌ (judge_counts n others) (judge_start mesh sizes (sharding_given rank s)))) c
+  module _ (c : accept tt ≡ judge_counts n (dims_given rank s.dims)) where
+    pub others-stop : (r : Refusal) → refused_with r ≡ judge_counts n others → refused_with r ≡ judge_sharding mesh sizes (sharding_given rank s)
+    others-stop r e = rw (in_parts, ← c, ← e) refl
 
-    pub others-stop : (v : Verdict) (r : Refusal) → meaning v ≡ judge_counts n others → v ≡ verdict.Refused r
-        → meaning v ≡ judge_sharding mesh sizes (sharding_given rank s)
-    others-stop v r e f = stops v (judge_counts n others) _ e r f ∙ sym then-others
-
-    pub start-decides : n ≤ most_axes → (v : Verdict) → judge_counts n others ≡ accept tt → meaning v ≡ judge_start mesh sizes (sharding_of rank s)
-        → meaning v ≡ judge_sharding mesh sizes (sharding_given rank s)
-    start-decides h v o e =
-        e ∙ ap (judge_start mesh sizes) (sym (sharding-fits n rank s h c o))
-        ∙ sym (then-others ∙ ap (λ (j : Judged (Unit {0})). ◌>>◌ j (judge_start mesh sizes (sharding_given rank s))) o)
+    pub start-decides : n ≤ most_axes → accept tt ≡ judge_counts n others → judge_start mesh sizes (sharding_of rank s) ≡ judge_sharding mesh sizes (sharding_given rank s)
+    start-decides h o = rw (in_parts, ← c, ← o) (ap (judge_start mesh sizes) (sym (sharding-fits n rank s h (sym c) (sym o))))

@@ -1,6 +1,6 @@
 -- The head of a repeat, from its record (`none-run`, `none_inside`, `nests-too-deep`, `head-given`). Assumes nothing.
-use Prim.Native.Nat.{ℕ, ◌+◌, ◌*◌, ◌≤◌}
-use mathlib.Core.Path.{◌≡◌, ap, ◌∙◌, subst}
+use Prim.Native.Nat.{ℕ, ◌+◌, ◌*◌}
+use mathlib.Core.Path.{◌≡◌, ap, ◌∙◌}
 use mathlib.Core.Logic.{◌≢◌}
 use mathlib.Core.Bool.{Bool, true}
 use mathlib.Core.List.{List}
@@ -11,13 +11,11 @@ use lib.Dec.{ltb}
 use Rattle.rules.specs.Refusals.{Judged, accept, refuse, ◌>>◌, need_at}
 use Rattle.rules.specs.PlanFile.{positive_at, is_repeat}
 use Rattle.blocks.specs.Blocks.{head_at}
-use Rattle.blocks.specs.declared.RepeatRead.{RepeatRead}
-use Rattle.blocks.specs.declared.RepeatRead.TheVariants as read
 use Rattle.blocks.proofs.Heads.{count-stops, number-stops, too-deep, head-is}
 use Rattle.records.specs.Records.{Given, steps_bytes}
 use Rattle.records.specs.Forms.{record_bytes, steps_given}
 use Rattle.records.proofs.Records.{read-repeat}
-use Rattle.given.specs.Given.{repeat_here, FewInner, place_of}
+use Rattle.given.specs.Given.{repeat_here, place_of}
 use Rattle.given.proofs.Plain.{gives-repeat}
 
 tested : (k n : ℕ) (j : Judged ℕ) → j ≡ ◌>>◌ (need_at k (ltb 0 n) 44) (accept n) → (n ≡ 0 → j ≡ refuse 44 k) × (n ≢ 0 → j ≡ accept n)
@@ -25,9 +23,6 @@ tested k n j e = (
   (λ z. e ∙ ap (λ (b : Bool). ◌>>◌ (need_at k b 44) (accept n)) (le-ltb 0 n (omega arith))),
   (λ z. e ∙ ap (λ (b : Bool). ◌>>◌ (need_at k b 44) (accept n)) (lt-ltb 0 n (omega (arith, z)))),
 )
-
-pub few-inner : {x : RepeatRead} {c n : ℕ} → FewInner x → x ≡ read.Of c n → n ≤ 255
-few-inner f e = subst FewInner e f
 
 module _ (steps : List ℕ) (i : ℕ) (e : repeat_here steps i ≡ true) (rank depth : ℕ) where
   abbrev gs : List Given

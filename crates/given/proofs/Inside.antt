@@ -16,9 +16,6 @@ use Rattle.types.specs.Types.{sharding_of}
 use Rattle.types.specs.declared.Sharding as code
 use Rattle.laws.proofs.Judging.{never, accept-inj}
 use Rattle.laws.proofs.Turns.{length-times}
-use Rattle.reader.specs.Reading.{reading, IfRefused, Tells}
-use Rattle.reader.specs.declared.Next.{Next}
-use Rattle.reader.specs.declared.Next.TheVariants as next
 use Rattle.blocks.specs.Blocks as blocks
 use Rattle.blocks.proofs.Plain as blocks-plain
 use Rattle.blocks.proofs.Inner.{Inner, inner_start, inner-stops, inner-done, inner-step, runs_few}
@@ -26,7 +23,7 @@ use Rattle.blocks.proofs.Items.{inner_steps, by-inner, head-halts, inner-halts}
 use Rattle.records.specs.Records.{Given, steps_bytes}
 use Rattle.records.specs.Writing.{step_numbered}
 use Rattle.records.specs.RoundTrip.{AllRanked}
-use Rattle.given.specs.Given.{place_of, Summary, summary_of, summarized, RecordsTell, Closing, closed}
+use Rattle.given.specs.Given.{place_of, Summary, summary_of, summarized, closed}
 use Rattle.given.specs.declared.RecordsJudged.{RecordsJudged}
 use Rattle.given.proofs.Ends.{Ends, item-ends}
 
@@ -48,9 +45,6 @@ summary-stops i (refuse a b) e = ap₂ refuse (refused-1 e) (refused-2 e)
 
 -- ---- the end of a block, by its two tests
 
-goes_on : {A : Type 0} {none value : A} {x : Next} {k : ℕ} {j : Judged (Read A)} → x ≡ next.At k → reading x value ≡ j → Tells none j x value
-goes_on {none} {value} e r = record { reads = r; beside = subst (λ (y : Next). IfRefused y (value ≡ none)) (sym e) tt }
-
 module _ (k count rank : ℕ) (before : code.Sharding) (block : RecordsJudged) where
   pub changed : same_sharding (sharding_of rank block.sharding) (sharding_of rank before) ≡ false → closed k count rank before block ≡ step_numbered (refuse 41 k)
   changed e = rw e refl
@@ -59,13 +53,11 @@ module _ (k count rank : ℕ) (before : code.Sharding) (block : RecordsJudged) w
     pub too_many : leb (count * block.runs) most_run ≡ false → closed k count rank before block ≡ step_numbered (refuse 43 k)
     too_many f = rw (e, f) refl
 
-    pub is-closed : Closing block rank → leb (count * block.runs) most_run ≡ true
-        → RecordsTell rank (sharding_of rank before) (closed k count rank before block)
-        (record { next = block.next; runs = count * block.runs; sharding = block.sharding })
-    is-closed c f =
-        let after : Summary = record { runs = count * block.runs; sharding = sharding_of rank block.sharding } in
-        let q = c.goes_on.1 in
-        goes_on q (sym (rw (e, f) (ap (λ (x : Next). step_numbered (reading x after)) q ∙ sym (ap (λ (x : Next). reading x after) q))))
+    pub is-closed : leb (count * block.runs) most_run ≡ true → closed k count rank before block ≡ accept (record {
+      value = record { runs = count * block.runs; sharding = sharding_of rank block.sharding };
+      next = block.at;
+    })
+    is-closed f = rw (e, f) refl
 
 -- ---- the loop
 

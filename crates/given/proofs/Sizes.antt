@@ -1,48 +1,42 @@
--- Sizes in turn: what the loop of judge_sizes keeps (`Sizing`), with the law of each way out; sizes in the places of an array; and an order that is none
--- or is given. Assumes nothing.
-use Prim.Native.Nat.{ℕ, ◌+◌, ◌*◌, ◌≤◌, ◌<◌}
-use mathlib.Core.Path.{◌≡◌, refl, ap, ◌∙◌}
+-- Sizes in the places of an array, and an order that is none or is given. Assumes nothing.
+use Prim.Native.Nat.{ℕ, ◌≤◌, ◌<◌, min}
+use mathlib.Core.Path.{◌≡◌, refl, sym, ap, ◌∙◌}
 use mathlib.Core.Logic.{◌≢◌}
 use mathlib.Core.Bool.{Bool}
-use mathlib.Core.List.{List, [], ◌∷◌}
+use mathlib.Core.List.{List, [], ◌∷◌, ◌++◌}
 use native.Mathlib.Omega.{arith}
-use borrow.Author.Tests.{lt-ltb, le-ltb, le-leb, lt-leb}
-use lib.ListN.{length, get_or, take, drop, drop_of_length-le}
-use Rattle.rules.specs.Refusals.{accept, refuse, need}
-use Rattle.rules.specs.PlanFile.{judge_sizes, order_allowed}
+use native.Mathlib.Decide.{dec_lt}
+use lib.ListN.{length, get_or, take, drop, replicate, length-append, length-take, length-drop, length-replicate}
+use lib.Seq.{ext_get_or}
+use Rattle.std.proofs.lemmas.Grind.{common_steps}
+use Rattle.rules.specs.Lists.{tab}
+use Rattle.rules.specs.Refusals.{accept, need}
+use Rattle.rules.specs.PlanFile.{order_allowed}
 use Rattle.types.specs.Types.{mesh_of, sizes_of}
 use Rattle.types.specs.declared.Mesh.{Mesh}
 use Rattle.types.specs.declared.Table.{Table}
-use Rattle.axes.proofs.Going.{drop_at}
+use Rattle.laws.proofs.Lists.{length-tab, get_or-tab}
 use Rattle.records.specs.Writing.{judge_order}
 use Rattle.given.specs.Given.{mesh_from, table_from}
 
-pub record Sizing (most zero over : ℕ) (sizes : List ℕ) (product i : ℕ) : Type 0 where
-  pub small : product ≤ most
-  pub same : judge_sizes most zero over 1 sizes ≡ judge_sizes most zero over product (drop i sizes)
-
-module _ {most zero over : ℕ} {sizes : List ℕ} {product i : ℕ} (g : Sizing most zero over sizes product i) (h : i < length sizes) (n : ℕ) (e : n ≡ get_or sizes i 0) where
-  next-size : judge_sizes most zero over 1 sizes ≡ judge_sizes most zero over product (n ∷ drop (i + 1) sizes)
-  next-size = g.same ∙ ap (judge_sizes most zero over product) (drop_at sizes i n 0 h e)
-
-  pub size-zero : n ≡ 0 → judge_sizes most zero over 1 sizes ≡ refuse zero 0
-  unfolding judge_sizes
-  size-zero z = next-size ∙ simp (le-ltb 0 n (omega arith))
-
-  pub size-over : ¬ (n ≡ 0) → most < product * n → judge_sizes most zero over 1 sizes ≡ refuse over 0
-  unfolding judge_sizes
-  size-over z o = next-size ∙ simp (lt-ltb 0 n (omega arith), lt-leb (product * n) most o)
-
-  pub size-passes : ¬ (n ≡ 0) → product * n ≤ most → Sizing most zero over sizes (product * n) (i + 1)
-  unfolding judge_sizes
-  size-passes z o = record { small = o; same = next-size ∙ simp (lt-ltb 0 n (omega arith), le-leb (product * n) most o) }
-
-pub sizes-pass : {most zero over : ℕ} {sizes : List ℕ} {product i : ℕ} → Sizing most zero over sizes product i → length sizes ≤ i
-    → judge_sizes most zero over 1 sizes ≡ accept tt
-unfolding judge_sizes
-sizes-pass {sizes} {i = i} g h = g.same ∙ rw (drop_of_length-le sizes {i = i} h) refl
-
 -- ---- sizes in the places of an array
+
+-- as many as there are places, and 1 behind them
+pub places-are : (sizes : List ℕ) (n count : ℕ) → count ≡ min (length sizes) n → take count sizes ++ drop count (replicate n 1) ≡ tab n (λ i. get_or sizes i 1)
+places-are sizes n count e =
+    let ones : List ℕ = replicate n 1 in
+    let both : List ℕ = take count sizes ++ drop count ones in
+    let f : ℕ → ℕ = λ i. get_or sizes i 1 in
+    let long : length both ≡ length (tab n f) =
+    omega (arith, e, length-append (take count sizes) (drop count ones), length-take count sizes, length-drop count ones, length-replicate {A = ℕ} n 1, length-tab n f) in
+    ext_get_or 1 both (tab n f) long (λ i h. at i (omega (arith, h, long, length-tab n f)) ∙ sym (get_or-tab n i f 1 (omega (arith, h, long, length-tab n f))))
+  where
+    at : (i : ℕ) → i < n → get_or (take count sizes ++ drop count (replicate n 1)) i 1 ≡ get_or sizes i 1
+    at i h = go (dec_lt i count)
+      where
+        go : Dec (i < count) → get_or (take count sizes ++ drop count (replicate n 1)) i 1 ≡ get_or sizes i 1
+        go (yes l) = grind (arith, common_steps)
+        go (no l) = grind (arith, common_steps)
 
 six-places : (l : List ℕ) → length l ≤ 6
     → take (length l) (get_or l 0 1 ∷ get_or l 1 1 ∷ get_or l 2 1 ∷ get_or l 3 1 ∷ get_or l 4 1 ∷ get_or l 5 1 ∷ []) ≡ l

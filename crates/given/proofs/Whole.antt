@@ -14,6 +14,8 @@ use Rattle.rules.specs.Sharding.{Sharding, IsSharding}
 use Rattle.rules.specs.PlanFile.{axes_allowed, rank_allowed, judge_sizes, judge_start, Outermost, outermost_at}
 use Rattle.types.specs.Types.{Sized, sharding_of, mesh_of, sizes_of}
 use Rattle.types.specs.declared.Mesh.{Mesh}
+use Rattle.types.specs.declared.Refusal.{Refusal}
+use Rattle.types.specs.Answers.{refused_with}
 use Rattle.types.specs.declared.Sharding as code
 use Rattle.types.specs.declared.Table.{Table}
 use Rattle.laws.proofs.Lists.{T_and}
@@ -25,6 +27,14 @@ use Rattle.records.specs.Forms.{list_given, dims_given, sharding_given, steps_gi
 use Rattle.given.specs.Given.{judge_limits, mesh_from, table_from, Shaped, verdict_of, judge_shape, outermost_given, judge_rest}
 use Rattle.given.proofs.Sizes.{mesh_is, table_is}
 use Rattle.given.proofs.Counts.{sharding-fits}
+
+-- ---- one judgement after another
+
+pub then-stop : {A : Type 0} (k : Judged A) (r : Refusal) {j : Judged (Unit {0})} → refused_with r ≡ j → refused_with r ≡ ◌>>◌ j k
+then-stop k r e = ap (λ (j : Judged (Unit {0})). ◌>>◌ j k) e
+
+pub then-on : {A : Type 0} (k : Judged A) {j : Judged (Unit {0})} → accept tt ≡ j → k ≡ ◌>>◌ j k
+then-on k e = ap (λ (j : Judged (Unit {0})). ◌>>◌ j k) e
 
 -- ---- what passed
 

@@ -11,11 +11,7 @@ use Rattle.types.specs.Types.{sharding_of, mesh_of, sizes_of, WithinPlaces}
 use Rattle.types.specs.declared.Mesh.{Mesh}
 use Rattle.types.specs.declared.Sharding as code
 use Rattle.types.specs.declared.Table.{Table}
-use Rattle.reader.specs.Reading.{reading, Tells}
-use Rattle.reader.specs.declared.Next.TheVariants as next
 use Rattle.blocks.specs.Blocks.{inner_at}
-use Rattle.blocks.specs.declared.RepeatRead.{RepeatRead}
-use Rattle.blocks.specs.declared.RepeatRead.TheVariants as read
 use Rattle.records.specs.Records.{Given, known, unknown, steps_bytes}
 use Rattle.records.specs.Writing.{judge_counts, judge_sharding, judge_order, step_numbered}
 use Rattle.records.specs.Forms.{sharding_given, record_bytes, record_count, steps_given}
@@ -63,11 +59,6 @@ judge_form n k unknown = refuse 20 k
 abbrev pub repeat_here : List ℕ → ℕ → Bool
 repeat_here steps i = ltb i (record_count steps) && eqb (get_or steps (record_bytes * i) 0) 9
 
--- a byte's number of inner steps
-abbrev pub FewInner : RepeatRead → Type 0
-FewInner (read.Of count number) = number ≤ 255
-FewInner (read.Refused r) = Unit {0}
-
 -- the bytes that the records stand for, and where record i begins there
 abbrev pub bytes_given : (rank : ℕ) → List ℕ → List ℕ
 bytes_given rank steps = steps_bytes (steps_given rank steps)
@@ -105,12 +96,9 @@ abbrev pub item_given : (mesh sizes : List ℕ) → (rank : ℕ) → List ℕ �
 item_given mesh sizes rank steps depth i s =
     step_numbered (summarized i (item_at every_kind mesh sizes (bytes_given rank steps) depth (i + 1) (place_given rank steps i) s))
 
-abbrev pub summary_in : ℕ → RecordsJudged → Summary
-summary_in rank r = record { runs = r.runs; sharding = sharding_of rank r.sharding }
-
--- beside a refusal: nothing, and the sharding s as it was
-abbrev pub RecordsTell : ℕ → Sharding → Judged (Read Summary) → RecordsJudged → Type 0
-RecordsTell rank s j r = Tells (record { runs = 0; sharding = s }) j r.next (summary_in rank r)
+-- what the code's answer stands for
+abbrev pub summary_in : ℕ → RecordsJudged → Read Summary
+summary_in rank r = record { value = record { runs = r.runs; sharding = sharding_of rank r.sharding }; next = r.at }
 
 -- What is asked before a record: the sharding is one.
 pub record Judging (steps : List ℕ) (i : ℕ) (mesh : Mesh) (table : Table) (s : code.Sharding) : Type 0 where
@@ -122,7 +110,6 @@ pub record Judging (steps : List ℕ) (i : ℕ) (mesh : Mesh) (table : Table) (s
 
 -- the inner steps are accepted; they are a byte's number at most, and each runs no more than the limit
 pub record Closing (block : RecordsJudged) (rank : ℕ) : Type 0 where
-  pub goes_on : (end : ℕ) × (block.next ≡ next.At end)
   pub rank_few : rank ≤ most_dims
   pub runs_few : block.runs ≤ 255 * most_run
 
@@ -131,7 +118,7 @@ abbrev pub closed : (k count rank : ℕ) → code.Sharding → RecordsJudged →
 closed k count rank before block = step_numbered (do
   need_at k (same_sharding (sharding_of rank block.sharding) (sharding_of rank before)) 41
   need_at k (leb (count * block.runs) most_run) 43
-  reading block.next (record { runs = count * block.runs; sharding = sharding_of rank block.sharding }))
+  accept (record { value = record { runs = count * block.runs; sharding = sharding_of rank block.sharding }; next = block.at }))
 
 -- ---- the whole
 

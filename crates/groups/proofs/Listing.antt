@@ -1,12 +1,11 @@
 -- The calls: their tests together, the listing by place where one refuses and where all pass (`refuses`, `lists`), and the two promises from it
 -- (`plain-promised`, `order-promised`), for an accepted listing is a rearrangement. Assumes nothing.
-use Prim.Native.Nat.{ℕ, ◌-◌, ◌<◌, ◌≤◌}
+use Rattle.std.specs.Prelude.{Result, Ok, Err}
+use Prim.Native.Nat.{ℕ, ◌<◌, ◌≤◌}
 use mathlib.Core.Path.{◌≡◌, refl, sym, ap, ap₂, ◌∙◌}
-use mathlib.Core.Bool.{false, not}
+use mathlib.Core.Bool.{Bool, false, not}
 use mathlib.Core.List.{List, [], ◌++◌, map}
-use native.Mathlib.Nat.{sub-zero}
 use native.Mathlib.Omega.{arith}
-use borrow.Rule.Slice.PartMut.{put_mid}
 use lib.ListN.{length, get_or, take, drop, length-append}
 use lib.Seq.{take_at, drop_at}
 use lib.Dec.{leb, leb→le, lit<, lit≤}
@@ -14,17 +13,14 @@ use Rattle.rules.specs.Lists.{tab}
 use Rattle.rules.specs.Mesh.{devices, plain_order, listing, places_listed, OnMesh, Rearrangement}
 use Rattle.rules.specs.Limits.{most_axes, most_devices}
 use Rattle.rules.specs.Refusals.{Judged, accept, refuse, ◌>>◌, need}
-use Rattle.types.specs.Answers.{refused_with, groups_meaning}
+use Rattle.types.specs.Answers.{refused_with, judged}
 use Rattle.rules.specs.PlanFile.{axes_allowed, judge_sizes, judge_axes, same, rearranges, order_allowed}
 use Rattle.rules.specs.Calls.{groups_by, groups_out, groups_of, groups_leave, groups_ordered_of, groups_ordered_leave}
 use Rattle.types.specs.Promises.{ListingPromise, GroupsPromise, GroupsOrderedPromise}
 use Rattle.types.specs.declared.Refusal.{Refusal}
-use Rattle.types.specs.declared.GroupsOutcome.{GroupsOutcome}
-use Rattle.types.specs.declared.GroupsOutcome.TheVariants as groups
 use Rattle.laws.proofs.Lists.{T_and}
 use Rattle.laws.proofs.Judging.{accept-inj, need-inv, need-true, then-inv, then-assoc}
 use Rattle.laws.proofs.Accepted.{SizesFacts, sizes-facts, AxesFacts, axes-facts}
-use Rattle.laws.proofs.Fronts.{lent-put}
 use Rattle.laws.proofs.Groups.{places-rearranges}
 use Rattle.laws.proofs.Orders.{rearranged, plain-rearranged, listing-places, listing-plain, listing-rearranges}
 use Rattle.order.specs.Order.{EachBelow}
@@ -67,15 +63,20 @@ module _ (ordered : Judged (Unit {0})) (mesh axes out : List ℕ) where
       sym (then-assoc (need (axes_allowed (length mesh)) 5) (judge_sizes most_devices 10 11 1 mesh) (◌>>◌ ordered (◌>>◌ named (◌>>◌ fits d))))
       ∙ ap (λ (j : Judged ℕ). ◌>>◌ (judge_mesh mesh) j) last
 
-  -- the verdicts of the code, put together
-  pub tested : {n f last judged : Judged (Unit {0})} {d : ℕ} → d ≡ devices mesh → n ≡ named → f ≡ need (leb d (length out)) 33 → last ≡ judge_both n f
-      → judged ≡ judge_both ordered last → judged ≡ tests
-  tested w en ef el ej = rw (ej, el, en, ef, w) refl
+  -- the tests of the code in turn
+  pub all-pass : ordered ≡ accept tt → named ≡ accept tt → fits ≡ accept tt → tests ≡ accept tt
+  all-pass eo en ef = rw (eo, en, ef) refl
+
+  pub axes-refuse : (r : Refusal) → ordered ≡ accept tt → named ≡ refused_with r → tests ≡ refused_with r
+  axes-refuse r eo en = rw (eo, en) refl
+
+  pub room-refuses : (r : Refusal) → ordered ≡ accept tt → named ≡ accept tt → fits ≡ refused_with r → tests ≡ refused_with r
+  room-refuses r eo en ef = rw (eo, en, ef) refl
 
   pub mesh-refuses : (r : Refusal) → judge_mesh mesh ≡ refused_with r → groups_by ordered mesh axes out ≡ refused_with r
   mesh-refuses r e = by_tests ∙ rw e refl
 
-  pub refuses : judge_mesh mesh ≡ accept tt → (r : Refusal) → tests ≡ refused_with r → ByPlace ordered mesh axes out (groups.Refused r) out
+  pub refuses : judge_mesh mesh ≡ accept tt → (r : Refusal) → tests ≡ refused_with r → ByPlace ordered mesh axes out (Err r) out
   refuses m r e =
       let a : groups_by ordered mesh axes out ≡ refused_with r = by_tests ∙ rw (m, e) refl in
       record { answers = sym a; leaves = sym (ap (λ (j : Judged ℕ). places_out j mesh axes out) a) }
@@ -109,7 +110,7 @@ module _ (ordered : Judged (Unit {0})) (mesh axes out : List ℕ) where
 
     -- "It writes D device numbers .. Entries after the first D stay."
     pub lists : (all : List ℕ) (d : ℕ) {after : List ℕ} → all ≡ axis_order (length mesh) axes → d ≡ devices mesh
-        → after ≡ tab (devices mesh) (along mesh all) ++ drop (devices mesh) out → ByPlace ordered mesh axes out (groups.Listed d) after
+        → after ≡ tab (devices mesh) (along mesh all) ++ drop (devices mesh) out → ByPlace ordered mesh axes out (Ok d) after
     lists all d ea w l =
         let a : groups_by ordered mesh axes out ≡ accept d = by_tests ∙ rw (p.mesh-fine, p.fine, w) refl in
         let front : tab (devices mesh) (along mesh all) ≡ places_listed mesh axes =
@@ -142,12 +143,12 @@ module _ (ordered : Judged (Unit {0})) (order mesh axes out : List ℕ) (o : ord
       let p : Rearrangement (devices mesh) (places_listed mesh axes) = places-rearranges mesh axes l.once l.below in
       record { all = accept-inj t.1; order_is = r; places = p; numbers = listing-rearranges order mesh axes r p }
 
-  abbrev Promise : GroupsOutcome → List ℕ → Type 0
+  abbrev Promise : Result ℕ Refusal → List ℕ → Type 0
   Promise r after = ListingPromise answer (groups_out answer order mesh axes out) mesh out r after
 
-  promised : (r : GroupsOutcome) {after : List ℕ} → groups_meaning r ≡ answer → after ≡ groups_out answer order mesh axes out → Promise r after
+  promised : (r : Result ℕ Refusal) {after : List ℕ} → judged r ≡ answer → after ≡ groups_out answer order mesh axes out → Promise r after
   promised r {after} e l =
-      let out_at : (j : Judged ℕ) → groups_meaning r ≡ j → after ≡ groups_out j order mesh axes out = λ j q.
+      let out_at : (j : Judged ℕ) → judged r ≡ j → after ≡ groups_out j order mesh axes out = λ j q.
       l ∙ ap (λ (k : Judged ℕ). groups_out k order mesh axes out) (sym e ∙ q) in
       record {
         answers = e;
@@ -162,8 +163,8 @@ module _ (ordered : Judged (Unit {0})) (order mesh axes out : List ℕ) (o : ord
         refused = λ n k q. out_at (refuse n k) q;
       }
 
-  refused-here : (r : Refusal) → answer ≡ refused_with r → Promise (groups.Refused r) out
-  refused-here r e = promised (groups.Refused r) (sym e) (sym (ap (λ (j : Judged ℕ). groups_out j order mesh axes out) e))
+  refused-here : (r : Refusal) → answer ≡ refused_with r → Promise (Err r) out
+  refused-here r e = promised (Err r) (sym e) (sym (ap (λ (j : Judged ℕ). groups_out j order mesh axes out) e))
 
 -- ---- without an order
 
@@ -171,11 +172,11 @@ module _ (mesh axes out : List ℕ) where
   plain-is : {ordered : Judged (Unit {0})} → ordered ≡ accept tt → Rearrangement (devices mesh) (plain_order (devices mesh))
   plain-is e = plain-rearranged (devices mesh)
 
-  pub plain-mesh : (r : Refusal) → judge_mesh mesh ≡ refused_with r → GroupsPromise mesh axes out (groups.Refused r) out
+  pub plain-mesh : (r : Refusal) → judge_mesh mesh ≡ refused_with r → GroupsPromise mesh axes out (Err r) out
   unfolding groups_of groups_leave
   plain-mesh r e = refused-here (accept tt) (plain_order (devices mesh)) mesh axes out plain-is r (mesh-refuses (accept tt) mesh axes out r e)
 
-  pub plain-promised : (r : GroupsOutcome) {after : List ℕ} → ByPlace (accept tt) mesh axes out r after → GroupsPromise mesh axes out r after
+  pub plain-promised : (r : Result ℕ Refusal) {after : List ℕ} → ByPlace (accept tt) mesh axes out r after → GroupsPromise mesh axes out r after
   unfolding groups_of groups_leave
   plain-promised r b =
       promised (accept tt) (plain_order (devices mesh)) mesh axes out plain-is r b.answers
@@ -190,12 +191,16 @@ module _ (mesh axes out : List ℕ) where
 
 -- ---- with an order
 
+pub order-tested : (mesh order : List ℕ) {d : ℕ} {allowed : Bool} {j : Judged (Unit {0})} → d ≡ devices mesh → allowed ≡ order_allowed d order
+    → j ≡ need allowed 19 → j ≡ need (order_allowed (devices mesh) order) 19
+order-tested mesh order ed ea ej = rw (ej, ea, ed) refl
+
 -- places that are lent to be looked up: what look_up asks, and what it leaves
 pub record LooksUp (mesh order axes out placed : List ℕ) (d : ℕ) : Type 0 where
   pub room : d ≤ length placed
-  pub inside : EachBelow (length order) (take (d - 0) placed)
-  pub leaves : (part : List ℕ) → part ≡ map (λ p. get_or order p 0) (take (d - 0) placed)
-      → GroupsOrderedPromise mesh order axes out (groups.Listed d) (put_mid 0 (d - 0) placed part)
+  pub inside : EachBelow (length order) (take d placed)
+  pub leaves : (part : List ℕ) → part ≡ map (λ p. get_or order p 0) (take d placed)
+      → GroupsOrderedPromise mesh order axes out (Ok d) (part ++ drop d placed)
 
 module _ (mesh order axes out : List ℕ) where
   abbrev order_test : Judged (Unit {0})
@@ -207,35 +212,35 @@ module _ (mesh order axes out : List ℕ) where
       rearranged (devices mesh) order
       (T_and (rearranges (devices mesh) order) (not (same order (plain_order (devices mesh)))) (need-true 0 (order_allowed (devices mesh) order) 19 e)).0
 
-  pub order-mesh : (r : Refusal) → judge_mesh mesh ≡ refused_with r → GroupsOrderedPromise mesh order axes out (groups.Refused r) out
+  pub order-mesh : (r : Refusal) → judge_mesh mesh ≡ refused_with r → GroupsOrderedPromise mesh order axes out (Err r) out
   unfolding groups_ordered_of groups_ordered_leave
   order-mesh r e = refused-here order_test order mesh axes out order_is r (mesh-refuses order_test mesh axes out r e)
 
-  module _ {r : GroupsOutcome} {ordered : Judged (Unit {0})} {placed : List ℕ} (q : ordered ≡ order_test)
+  module _ {r : Result ℕ Refusal} {ordered : Judged (Unit {0})} {placed : List ℕ} (q : ordered ≡ order_test)
       (b : ByPlace ordered mesh axes out r placed) where
-    answers : groups_meaning r ≡ groups_by order_test mesh axes out
+    answers : judged r ≡ groups_by order_test mesh axes out
     answers = b.answers ∙ ap (λ (j : Judged (Unit {0})). groups_by j mesh axes out) q
 
-    placed-is : {j : Judged ℕ} → groups_meaning r ≡ j → placed ≡ places_out j mesh axes out
+    placed-is : {j : Judged ℕ} → judged r ≡ j → placed ≡ places_out j mesh axes out
     placed-is e = b.leaves ∙ ap (λ (j : Judged ℕ). places_out j mesh axes out) (sym b.answers ∙ e)
 
-    left_is : {j : Judged ℕ} → groups_meaning r ≡ j → groups_out j order mesh axes out ≡ groups_out (groups_by order_test mesh axes out) order mesh axes out
+    left_is : {j : Judged ℕ} → judged r ≡ j → groups_out j order mesh axes out ≡ groups_out (groups_by order_test mesh axes out) order mesh axes out
     left_is e = ap (λ (j : Judged ℕ). groups_out j order mesh axes out) (sym e ∙ answers)
 
     -- a refusal leaves the same by place and by number
-    pub order-refuses : {t : Refusal} → r ≡ groups.Refused t → GroupsOrderedPromise mesh order axes out r placed
+    pub order-refuses : {t : Refusal} → r ≡ Err t → GroupsOrderedPromise mesh order axes out r placed
     unfolding groups_ordered_of groups_ordered_leave
-    order-refuses e = promised order_test order mesh axes out order_is r answers (placed-is (ap groups_meaning e) ∙ left_is (ap groups_meaning e))
+    order-refuses e = promised order_test order mesh axes out order_is r answers (placed-is (ap judged e) ∙ left_is (ap judged e))
 
-    pub order-promised : {d : ℕ} → r ≡ groups.Listed d → LooksUp mesh order axes out placed d
+    pub order-promised : {d : ℕ} → r ≡ Ok d → LooksUp mesh order axes out placed d
     unfolding groups_ordered_of groups_ordered_leave
     order-promised {d} e =
         let places : List ℕ = places_listed mesh axes in
         let n : Numbers order_test order mesh axes out order_is d =
-        accepted order_test order mesh axes out order_is d (sym answers ∙ ap groups_meaning e) in
-        let l : placed ≡ places ++ drop d out = placed-is (ap groups_meaning e) in
+        accepted order_test order mesh axes out order_is d (sym answers ∙ ap judged e) in
+        let l : placed ≡ places ++ drop d out = placed-is (ap judged e) in
         let s : length places ≡ d = n.places.size ∙ n.all in
-        let front : take (d - 0) placed ≡ places = ap₂ take (sub-zero d) l ∙ take_at places (drop d out) d s in
+        let front : take d placed ≡ places = ap (take d) l ∙ take_at places (drop d out) d s in
         let rest : drop d placed ≡ drop d out = ap (drop d) l ∙ drop_at places (drop d out) d s in
         record {
           room = omega (arith, ap length l, length-append places (drop d out), s);
@@ -244,6 +249,6 @@ module _ (mesh order axes out : List ℕ) where
               omega (arith, ap (λ (x : List ℕ). get_or x p 0) front, n.places.below p k, n.order_is.size);
           leaves = λ part w.
               let looked : part ≡ listing order mesh axes = w ∙ ap (map (λ p. get_or order p 0)) front ∙ sym (listing-places order mesh axes) in
-              promised order_test order mesh axes out order_is (groups.Listed d) (ap groups_meaning (sym e) ∙ answers)
-              (lent-put placed part d ∙ ap₂ (λ (x y : List ℕ). x ++ y) looked rest ∙ left_is (ap groups_meaning e));
+              promised order_test order mesh axes out order_is (Ok d) (ap judged (sym e) ∙ answers)
+              (ap₂ (λ (x y : List ℕ). x ++ y) looked rest ∙ left_is (ap judged e));
         }

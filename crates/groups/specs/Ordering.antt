@@ -1,13 +1,13 @@
 -- The listing by place, as both calls begin; the axes in the order of its places; and what the functions that make them ask for. Assumes nothing.
-use Rattle.std.specs.Prelude.{ℕ, ◌+◌, ◌*◌, ◌/◌, ◌%◌, ◌<◌, ◌≤◌, ◌≡◌, List, ◌++◌, length, get_or, drop}
+use Rattle.std.specs.Prelude.{ℕ, ◌+◌, ◌*◌, ◌/◌, ◌%◌, ◌<◌, ◌≤◌, ◌≡◌, List, ◌++◌, length, get_or, drop, Result}
 use Rattle.rules.specs.Lists.{tab, without, In, Distinct}
 use Rattle.rules.specs.Mesh.{number, coords, devices, span, member, places_listed, OnMesh}
 use Rattle.rules.specs.Limits.{most_axes, most_devices}
 use Rattle.rules.specs.Refusals.{Judged, accept, refuse, ◌>>◌, need}
 use Rattle.rules.specs.PlanFile.{axes_allowed, judge_sizes}
 use Rattle.rules.specs.Calls.{groups_by}
-use Rattle.types.specs.Answers.{groups_meaning}
-use Rattle.types.specs.declared.GroupsOutcome.{GroupsOutcome}
+use Rattle.types.specs.Answers.{judged}
+use Rattle.types.specs.declared.Refusal.{Refusal}
 
 -- 5, 10, 11: what groups_by judges before an order
 abbrev pub judge_mesh : List ℕ → Judged (Unit {0})
@@ -26,8 +26,8 @@ abbrev pub places_out : Judged ℕ → (mesh axes out : List ℕ) → List ℕ
 places_out (accept d) mesh axes out = places_listed mesh axes ++ drop d out
 places_out (refuse n k) mesh axes out = out
 
-pub record ByPlace (ordered : Judged (Unit {0})) (mesh axes out : List ℕ) (r : GroupsOutcome) (outAfter : List ℕ) : Type 0 where
-  pub answers : groups_meaning r ≡ groups_by ordered mesh axes out
+pub record ByPlace (ordered : Judged (Unit {0})) (mesh axes out : List ℕ) (r : Result ℕ Refusal) (outAfter : List ℕ) : Type 0 where
+  pub answers : judged r ≡ groups_by ordered mesh axes out
   pub leaves : outAfter ≡ places_out (groups_by ordered mesh axes out) mesh axes out
 
 -- "the remaining axes (taken in increasing axis number)", then those of the list

@@ -6,11 +6,11 @@ ghost use Rattle.types.specs.Promises.{CheckPromise, PlacePromise, GroupsPromise
 ghost use Rattle.placements.specs.PlaceAll.{PlaceAllPromise};
 ghost use Rattle.records.specs.Promises.{WritePromise, ReadPromise, PlanPromise};
 
-pub use placements::{PlaceAllOutcome, PlacedAll};
-pub use records::{Opened, PlanOutcome, Planned, ReadCounts, ReadOutcome, Steps, WriteOutcome};
+pub use placements::PlacedAll;
+pub use records::{Opened, Planned, ReadCounts, Steps};
 pub use types::{
-    Axis, AxisList, CheckOutcome, Checked, Device, Dim, DimLists, GroupsOutcome, Kind,
-    PlaceOutcome, Placed, Ran, Reason, Refusal, RunOutcome, Sharding, Step, Totals,
+    Axis, AxisList, Checked, Device, Dim, DimLists, Kind, Placed, Ran, Reason, Refusal, Sharding,
+    Step, Totals,
 };
 
 // Judges a plan file: the room, D, the number of steps, the rank, the words that a run moves between devices, the final sharding and its shard sizes, or the
@@ -37,14 +37,19 @@ pub fn place_all(file: &[u8], state: u16, devices: &[u16], first: &mut [u16]) ->
 }
 
 // Lists the devices of a mesh group by group along an axis list, at the front of out.
-pub fn groups(mesh: &[u16], axes: &[u8], out: &mut [u16]) -> GroupsOutcome
+pub fn groups(mesh: &[u16], axes: &[u8], out: &mut [u16]) -> Result<usize, Refusal>
     ensures { GroupsPromise mesh.now axes.now out.old result out.new }
 {
     groups::groups(mesh, axes, out)
 }
 
 // The same by an order of the devices: the device at each coordinate tuple, in row-major order.
-pub fn groups_ordered(mesh: &[u16], order: &[u16], axes: &[u8], out: &mut [u16]) -> GroupsOutcome
+pub fn groups_ordered(
+    mesh: &[u16],
+    order: &[u16],
+    axes: &[u8],
+    out: &mut [u16],
+) -> Result<usize, Refusal>
     ensures { GroupsOrderedPromise mesh.now order.now axes.now out.old result out.new }
 {
     groups::groups_ordered(mesh, order, axes, out)
@@ -67,7 +72,7 @@ pub fn write<'a>(
     start: Sharding,
     steps: &[u8],
     file: &mut [u8],
-) -> WriteOutcome
+) -> Result<usize, Refusal>
     ensures { WritePromise mesh.now order.now table.now start steps.now file.old result file.new }
 {
     writer::write(mesh, order, table, start, steps, file)

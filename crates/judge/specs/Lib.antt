@@ -1,2 +1,2 @@
--- What the judgement of a step stands for, and what it asks.
+-- What the judgement of a step asks.
 pub mod Step

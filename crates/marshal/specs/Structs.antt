@@ -1,18 +1,16 @@
 -- C's structs of a sharding and of a step: the numbers that stand for one, every place of them, and what the library takes of a sharding that is given.
 -- Assumes nothing.
-use Rattle.std.specs.Prelude.{ℕ, ◌+◌, ◌*◌, ◌/◌, ◌%◌, ◌≡◌, refl, List, [], ◌∷◌, ◌++◌, map, length, get_or, take, replicate}
+use Rattle.std.specs.Prelude.{ℕ, ◌+◌, ◌*◌, ◌/◌, ◌%◌, List, [], ◌∷◌, ◌++◌, map, length, get_or, replicate}
 use Rattle.rules.specs.Lists.{tab, flat}
 use Rattle.rules.specs.Limits.{most_axes, most_dims}
 use Rattle.rules.specs.Sharding.{Sharding}
-use Rattle.rules.specs.Collectives.{all_slice, all_gather, all_reduce, all_to_all, reduce_scatter}
-use Rattle.rules.specs.PlanFile.{Record, plain, repeat}
-use Rattle.types.specs.Types.{four_places, sharding_of}
+use Rattle.rules.specs.PlanFile.{Record}
+use Rattle.types.specs.Types.{axes_of, dims_of, four_places}
 use Rattle.types.specs.declared.AxisList.{AxisList}
 use Rattle.types.specs.declared.Sharding as code
-use Rattle.types.specs.declared.Kind.{Kind}
-use Rattle.types.specs.declared.Kind.TheVariants.{AllSlice, AllGather, AllReduce, AllToAll, ReduceScatter, Unknown}
 use Rattle.types.specs.declared.Step.{Step}
-use Rattle.records.specs.Forms.{places_at, record_head, record_lists, six_places, record_of}
+use Rattle.types.specs.declared.Step.TheVariants as step
+use Rattle.records.specs.Forms.{places_at, record_head, record_lists, five_lists, six_places}
 use Rattle.marshal.specs.declared.ShardingReply.{ShardingReply}
 use Rattle.marshal.specs.declared.StepReply.{StepReply}
 
@@ -29,16 +27,16 @@ places = lists * most_axes
 abbrev pub lists_of : Sharding → List (List ℕ)
 lists_of s = four_places [] s.dims ++ s.unreduced ∷ s.replicated ∷ []
 
-abbrev pub list_of : Sharding → ℕ → List ℕ
-list_of s d = get_or (lists_of s) d []
-
 -- how many axes each list has
 abbrev pub list_counts : Sharding → List ℕ
 list_counts s = map length (lists_of s)
 
 -- the axes of each list, in six places; places not used are 0
+abbrev pub axis_among : List (List ℕ) → ℕ → ℕ
+axis_among ls i = get_or (get_or ls (i / most_axes) []) (i % most_axes) 0
+
 abbrev pub axis_in : Sharding → ℕ → ℕ
-axis_in s i = get_or (list_of s (i / most_axes)) (i % most_axes) 0
+axis_in s = axis_among (lists_of s)
 
 abbrev pub list_axes : Sharding → List ℕ
 list_axes s = tab places (axis_in s)
@@ -80,23 +78,19 @@ blank_step = record { kind = 0; source = 0; target = 0; counts = replicate 5 0; 
 abbrev pub reply_bytes : StepReply → List ℕ
 reply_bytes r = r.kind ∷ r.source ∷ r.target ∷ (r.counts ++ r.axes)
 
--- the same numbers, from a step of the library: its lists by dimension and its one list are the first five of a sharding's
-abbrev pub kind_byte : Kind → ℕ
-kind_byte AllSlice = 1
-kind_byte AllGather = 2
-kind_byte AllReduce = 3
-kind_byte AllToAll = 4
-kind_byte ReduceScatter = 5
-kind_byte Unknown = 0
-
-abbrev pub step_lists : Step → Sharding
-step_lists t = sharding_of most_dims (record { dims = t.lists; unreduced = t.list; replicated = t.list })
+-- the same numbers, from a step of the library: its lists by dimension, and its one list
+abbrev pub record_reply : (kind source target : ℕ) → (dims : List (List ℕ)) → (list : List ℕ) → StepReply
+record_reply kind source target dims list = record {
+  kind = kind;
+  source = source;
+  target = target;
+  counts = map length (five_lists dims list);
+  axes = tab 30 (axis_among (five_lists dims list));
+}
 
 abbrev pub step_numbers : Step → StepReply
-step_numbers t = record {
-  kind = kind_byte t.kind;
-  source = t.source.0;
-  target = t.target.0;
-  counts = take 5 (list_counts (step_lists t));
-  axes = take 30 (list_axes (step_lists t));
-}
+step_numbers (step.AllSlice lists) = record_reply 1 0 0 (dims_of lists) []
+step_numbers (step.AllGather lists) = record_reply 2 0 0 (dims_of lists) []
+step_numbers (step.AllReduce list) = record_reply 3 0 0 [] (axes_of list)
+step_numbers (step.AllToAll source target list) = record_reply 4 source.0 target.0 [] (axes_of list)
+step_numbers (step.ReduceScatter lists) = record_reply 5 0 0 (dims_of lists) []

@@ -1,13 +1,14 @@
 // Shardings and steps in C's structs, out and in, for the boundary (crates/capi). What each stands for is defined in specs/Structs.antt.
 #![tactic(auto)]
 
-ghost use Rattle.std.specs.Prelude.{◌≡◌, ◌≤◌, ◌<◌, ◌*◌, length, get_or};
+ghost use Rattle.std.specs.Prelude.{◌≡◌, ◌<◌, ◌*◌, map, length};
 ghost use Rattle.rules.specs.Lists.{tab};
 ghost use Rattle.rules.specs.Limits.{most_axes, most_dims};
-ghost use Rattle.types.specs.Types.{axes_of, sharding_of};
-ghost use Rattle.marshal.specs.Structs.{lists, list_of, list_counts, axis_in, list_axes, sharding_reply, blank_sharding, list_in, sharding_in, kind_byte, step_numbers, blank_step};
+ghost use Rattle.types.specs.Types.{axes_of, dims_of, sharding_of};
+ghost use Rattle.records.specs.Forms.{six_places};
+ghost use Rattle.marshal.specs.Structs.{lists, axis_among, sharding_reply, blank_sharding, list_in, sharding_in, record_reply, step_numbers, blank_step};
 
-use types::{Axis, AxisList, Dim, DimLists, Kind, Sharding, Step};
+use types::{Axis, AxisList, Dim, DimLists, Sharding, Step};
 
 // A list for each dimension, the unreduced axes, and the replicated ones.
 const LISTS: usize = Dim::MOST + 2;
@@ -39,77 +40,54 @@ pub struct StepReply {
     pub axes: [u8; STEP_PLACES],
 }
 
-// One of the six lists: that of a dimension, then the unreduced axes, then the replicated ones.
-fn list_of(sharding: Sharding, d: usize) -> AxisList
-    requires { d < lists }
-    ensures { axes_of result ≡ list_of (sharding_of most_dims sharding) d }
+// How many axes a list has.
+fn count_of(list: AxisList) -> u8
+    ensures { result ≡ length (axes_of list) }
 {
-    if d == Dim::MOST {
-        return sharding.unreduced;
-    }
-    if d == Dim::MOST + 1 {
-        return sharding.replicated;
-    }
-    let dims = sharding.dims;
-    dims.at(Dim(d as u8))
-}
-
-fn count_of(sharding: Sharding, d: usize) -> u8
-    requires { d < lists }
-    ensures { result ≡ length (list_of (sharding_of most_dims sharding) d) }
-{
-    let list = list_of(sharding, d);
     list.len() as u8
 }
 
-fn list_counts(sharding: Sharding) -> [u8; LISTS]
-    ensures { result ≡ list_counts (sharding_of most_dims sharding) }
-{
-    [
-        count_of(sharding, 0),
-        count_of(sharding, 1),
-        count_of(sharding, 2),
-        count_of(sharding, 3),
-        count_of(sharding, 4),
-        count_of(sharding, 5),
-    ]
-}
-
 // The axes of a list in its six places.
-fn put_axes(places: &mut [u8], list: AxisList)
-    requires { length places.old ≡ most_axes }
-    ensures { places.new ≡ tab most_axes (λ i. get_or (axes_of list) i 0) }
+#[tactic(auto, unfolding(types::specs::Types::list_from))]
+fn places_of(list: AxisList) -> [u8; Axis::MOST]
+    ensures { result ≡ six_places (axes_of list) }
 {
-    let mut i: usize = 0;
-    while i < Axis::MOST {
-        let axis = list.at(i);
-        places[i] = axis.0;
-        i += 1;
-    }
+    list.cleared().axes.map(|axis| axis.0)
 }
 
-// The first so many of the six lists.
-fn put_lists(axes: &mut [u8], sharding: Sharding, count: usize)
-    requires { (length axes.old ≡ count * most_axes) × (count ≤ lists) }
-    ensures { axes.new ≡ tab (count * most_axes) (axis_in (sharding_of most_dims sharding)) }
+// The axes of lists, each in its six places.
+fn put_lists(axes: &mut [u8], lists: &[AxisList])
+    requires { length axes.old ≡ length lists.now * most_axes }
+    ensures { axes.new ≡ tab (length lists.now * most_axes) (axis_among (map axes_of lists.now)) }
 {
-    let mut d: usize = 0;
-    while d < count {
+    for (d, list) in lists.iter().enumerate() {
         let first = d * Axis::MOST;
         let end = first + Axis::MOST;
-        put_axes(&mut axes[first..end], list_of(sharding, d));
-        d += 1;
+        axes[first..end].copy_from_slice(&places_of(*list));
     }
 }
 
-// A sharding in numbers.
-pub fn sharding_reply(sharding: Sharding) -> ShardingReply
-    ensures { result ≡ sharding_reply (sharding_of most_dims sharding) }
-{
-    let counts = list_counts(sharding);
-    let mut axes = [0u8; PLACES];
-    put_lists(&mut axes[0..PLACES], sharding, LISTS);
-    ShardingReply { counts, axes }
+// A sharding in numbers: a list for each dimension, then the unreduced axes, then the replicated ones.
+impl From<Sharding> for ShardingReply {
+    ghost from_gives = { λ sharding reply. reply ≡ sharding_reply (sharding_of most_dims sharding) };
+
+    fn from(sharding: Sharding) -> ShardingReply {
+        let dims = sharding.dims;
+        let lists = [
+            dims.at(Dim(0)),
+            dims.at(Dim(1)),
+            dims.at(Dim(2)),
+            dims.at(Dim(3)),
+            sharding.unreduced,
+            sharding.replicated,
+        ];
+        let mut axes = [0; PLACES];
+        put_lists(&mut axes, &lists);
+        ShardingReply {
+            counts: lists.map(count_of),
+            axes,
+        }
+    }
 }
 
 // No axes, beside a refusal.
@@ -127,10 +105,9 @@ fn list_in(sharding: ShardingReply, d: usize) -> AxisList
     requires { d < lists }
     ensures { result ≡ list_in sharding d }
 {
-    let counts = sharding.counts;
     let axes = sharding.axes;
     let first = Axis::MOST * d;
-    let places = [
+    let axes = [
         Axis(axes[first]),
         Axis(axes[first + 1]),
         Axis(axes[first + 2]),
@@ -139,69 +116,71 @@ fn list_in(sharding: ShardingReply, d: usize) -> AxisList
         Axis(axes[first + 5]),
     ];
     AxisList {
-        count: counts[d] as u16,
-        axes: places,
+        count: u16::from(sharding.counts[d]),
+        axes,
     }
 }
 
 // C's sharding as the library takes it.
-pub fn sharding_in(sharding: ShardingReply) -> Sharding
-    ensures { result ≡ sharding_in sharding }
+impl From<ShardingReply> for Sharding {
+    ghost from_gives = { λ reply sharding. sharding ≡ sharding_in reply };
+
+    fn from(reply: ShardingReply) -> Sharding {
+        let lists = [
+            list_in(reply, 0),
+            list_in(reply, 1),
+            list_in(reply, 2),
+            list_in(reply, 3),
+        ];
+        Sharding {
+            dims: DimLists(lists),
+            unreduced: list_in(reply, 4),
+            replicated: list_in(reply, 5),
+        }
+    }
+}
+
+// A step's record: its kind byte, source and target, its lists by dimension and its one list.
+fn record(kind: u8, source: Dim, target: Dim, dims: DimLists, list: AxisList) -> StepReply
+    ensures { result ≡ record_reply kind source.0 target.0 (dims_of dims) (axes_of list) }
 {
     let lists = [
-        list_in(sharding, 0),
-        list_in(sharding, 1),
-        list_in(sharding, 2),
-        list_in(sharding, 3),
+        dims.at(Dim(0)),
+        dims.at(Dim(1)),
+        dims.at(Dim(2)),
+        dims.at(Dim(3)),
+        list,
     ];
-    Sharding {
-        dims: DimLists(lists),
-        unreduced: list_in(sharding, 4),
-        replicated: list_in(sharding, 5),
-    }
-}
-
-// The kind byte of a step; 0 is no kind's.
-fn kind_byte(kind: Kind) -> u8
-    ensures { result ≡ kind_byte kind }
-{
-    match kind {
-        Kind::AllSlice => 1,
-        Kind::AllGather => 2,
-        Kind::AllReduce => 3,
-        Kind::AllToAll => 4,
-        Kind::ReduceScatter => 5,
-        Kind::Unknown => 0,
-    }
-}
-
-// A step in numbers: its five lists are the first of a sharding's.
-pub fn step_reply(step: Step) -> StepReply
-    ensures { result ≡ step_numbers step }
-{
-    let kind = step.kind;
-    let dims = step.lists;
-    let list = step.list;
-    let lists = Sharding {
-        dims,
-        unreduced: list,
-        replicated: list,
-    };
-    let counts = [
-        count_of(lists, 0),
-        count_of(lists, 1),
-        count_of(lists, 2),
-        count_of(lists, 3),
-        count_of(lists, 4),
-    ];
-    let mut axes = [0u8; STEP_PLACES];
-    put_lists(&mut axes[0..STEP_PLACES], lists, STEP_LISTS);
+    let mut axes = [0; STEP_PLACES];
+    put_lists(&mut axes, &lists);
     StepReply {
-        kind: kind_byte(kind),
-        source: step.source.0,
-        target: step.target.0,
-        counts,
+        kind,
+        source: source.0,
+        target: target.0,
+        counts: lists.map(count_of),
         axes,
+    }
+}
+
+// A step in numbers.
+impl From<Step> for StepReply {
+    ghost from_gives = { λ step reply. reply ≡ step_numbers step };
+
+    fn from(step: Step) -> StepReply {
+        let no_dim = Dim(0);
+        let no_dims = DimLists::empty();
+        let no_list = AxisList::empty();
+        match step {
+            Step::AllSlice(lists) => record(1, no_dim, no_dim, lists, no_list),
+            Step::AllGather(lists) => record(2, no_dim, no_dim, lists, no_list),
+            Step::AllReduce(list) => record(3, no_dim, no_dim, no_dims, list),
+            Step::AllToAll {
+                source,
+                target,
+                list,
+            } => record(4, source, target, no_dims, list),
+            Step::ReduceScatter(lists) => record(5, no_dim, no_dim, lists, no_list),
+        }
     }
 }
 

@@ -7,7 +7,9 @@ use mathlib.Core.List.{List, [], ◌∷◌, ◌++◌}
 use native.Mathlib.Nat.{mul-one, zero-mul, add-zero, mul-le-mul, pow-suc, pow-le-pow_right, mod-lt}
 use native.Mathlib.Numerals.{add-one}
 use native.Mathlib.Omega.{arith}
-use lib.ListN.{length, get_or, set, take, drop}
+use lib.ListN.{length, get_or, set, take, drop, length-map, get_or-map}
+use Rattle.types.specs.Types.{numbers_of}
+use Rattle.types.specs.declared.Axis.{Axis}
 use lib.Seq.{take-suc, take_all}
 use lib.Arith.{digits_lt}
 use Rattle.rules.specs.Lists.{product, In, Distinct}
@@ -49,6 +51,17 @@ position-step mesh L p s {q} {i} g a n c few h ea en ec =
 
 pub position-done : {mesh L x : List ℕ} {q i : ℕ} → PositionAt mesh L x q i → length L ≤ i → q ≡ position mesh L x
 position-done {mesh} {L} {x} {i = i} g h = g.same ∙ ap (λ (l : List ℕ). position mesh l x) (take_all i L h)
+
+-- ---- the axes of a list, as a slice has them
+
+module _ {L : List ℕ} (xs : List Axis) (e : numbers_of xs ≡ L) where
+  pub numbers-length : length L ≡ length xs
+  unfolding numbers_of
+  numbers-length = ap length (sym e) ∙ length-map xs (λ (a : Axis). a.0)
+
+  pub number_at : (i : ℕ) → (get_or xs i (record { 0 = 0 })).0 ≡ get_or L i 0
+  unfolding numbers_of
+  number_at i = sym (ap (λ (l : List ℕ). get_or l i 0) (sym e) ∙ get_or-map (λ (a : Axis). a.0) xs i (record { 0 = 0 }))
 
 -- ---- the number of a member by its digits
 

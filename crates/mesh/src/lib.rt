@@ -15,8 +15,7 @@ use types::{Axis, AxisList};
 pub fn size_at(mesh: &[u16], axis: Axis) -> usize
     ensures { result ≡ get_or mesh.now axis.0 1 }
 {
-    let a = axis.0 as usize;
-    if a < mesh.len() { mesh[a] as usize } else { 1 }
+    mesh.get(axis.0 as usize).map_or(1, |size| *size as usize)
 }
 
 // The product of the sizes from one on: D of a mesh and the words of a shard from 0 on, the stride of an axis from the next one on.
@@ -25,11 +24,8 @@ pub fn product_from(mesh: &[u16], first: usize) -> usize
     ensures { result ≡ product_of (drop first mesh.now) }
 {
     let mut product: usize = 1;
-    let mut i = first;
-    while i < mesh.len() {
-        let size = mesh[i] as usize;
-        product = product * size;
-        i += 1;
+    for i in first..mesh.len() {
+        product *= mesh[i] as usize;
     }
     product
 }
@@ -49,15 +45,11 @@ pub fn position_of(mesh: &[u16], list: AxisList, place: usize) -> usize
     requires { IsPlace mesh.now place }
     ensures { result ≡ position mesh.now (axes_of list) (coords mesh.now place) }
 {
-    let count = list.len();
     let mut position: usize = 0;
-    let mut i: usize = 0;
-    while i < count {
-        let axis = list.at(i);
-        let size = size_at(mesh, axis);
-        let digit = coordinate(mesh, axis, place);
+    for axis in list.as_slice() {
+        let size = size_at(mesh, *axis);
+        let digit = coordinate(mesh, *axis, place);
         position = position * size + digit;
-        i += 1;
     }
     position
 }
@@ -67,12 +59,9 @@ pub fn span_of(mesh: &[u16], list: AxisList) -> usize
     requires { Members mesh.now (axes_of list) }
     ensures { result ≡ span mesh.now (axes_of list) }
 {
-    let mut i = list.len();
     let mut count: usize = 1;
-    while 0 < i {
-        i -= 1;
-        let axis = list.at(i);
-        count = size_at(mesh, axis) * count;
+    for i in (0..list.len()).rev() {
+        count = size_at(mesh, list.at(i)) * count;
     }
     count
 }

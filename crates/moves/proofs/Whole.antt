@@ -15,7 +15,7 @@ use Rattle.mesh.specs.Fitting.{Factors}
 use Rattle.mesh.proofs.Sizes.{fit-sizes}
 use Rattle.digits.specs.Digits.{most_room, mesh_strides, cleared, mesh_digits, Devices}
 use Rattle.digits.proofs.Strides.{pos-left, strides-length, cleared-length}
-use Rattle.moves.specs.Moves.{moved_first, left, first_strides, device_strides, step_digits, Moving, Along, Reading, Adding, Dimensions, DimensionsAt, Setting}
+use Rattle.moves.specs.Moves.{moved_shape, digit_room, moved_first, left, first_strides, device_strides, step_digits, Moving, Along, Reading, Adding, Dimensions, DimensionsAt, Setting}
 use Rattle.moves.proofs.Leads.{Step, shard-length, counted-dims, left-length, device-length, copy-ok, copied_is}
 
 -- ---- strides are small
@@ -161,6 +161,19 @@ module _ {digits strides added mesh shape L : List ℕ} {Gs Ss : List (List ℕ)
   pub copy-leaves : {W : Type 0} (z : W) (digits : List ℕ) (n : ℕ) (old : List W) → digits ≡ step_digits mesh shape L Gs Ss → n ≡ product mesh * words
       → copied z digits n 0 old ≡ moved_first z mesh L Gs Ss shape old
   copy-leaves z digits n old es en = rw (es, en, t.words_are) (copied_is mesh shape L Gs Ss step_is t.along z old)
+
+-- a step with new places for its digits and strides
+pub setting : {mesh shape L : List ℕ} {Gs Ss : List (List ℕ)} {words : ℕ} → Moving mesh shape Gs Ss → Along mesh L
+    → words ≡ product (moved_shape mesh shape Gs Ss)
+    → Setting (replicate digit_room 0) (replicate (length mesh) 0) (replicate (length mesh) 0) mesh shape L Gs Ss words
+setting {mesh} m a w = record {
+  step = m;
+  along = a;
+  room = length-replicate {A = ℕ} digit_room 0;
+  strides_places = length-replicate {A = ℕ} (length mesh) 0;
+  none = refl;
+  words_are = w;
+}
 
 -- a group along no axes
 pub own-along : {mesh L : List ℕ} → L ≡ [] → Along mesh L

@@ -3,7 +3,7 @@
 -- its gathered axes and the words of one piece. A gathered axis has its stride at its own digit and none at the mesh's; slicing makes the strides
 -- of its axes larger. A step may also read, for each device, the first member of its group in place of the device: the strides of the group's axes
 -- are then cleared at the start. Assumes nothing.
-use Rattle.std.specs.Prelude.{ℕ, ◌+◌, ◌*◌, ◌/◌, ◌≤◌, ◌<◌, ◌≡◌, refl, List, [], ◌∷◌, ◌++◌, length, get_or, set, take, drop, replicate}
+use Rattle.std.specs.Prelude.{ℕ, ◌+◌, ◌*◌, ◌/◌, ◌≤◌, ◌<◌, ◌≡◌, List, [], ◌∷◌, ◌++◌, length, get_or, set, take, drop, replicate}
 use Rattle.rules.specs.Lists.{flat, product, In, Distinct}
 use Rattle.rules.specs.Mesh.{devices, span, member, OnMesh}
 use Rattle.rules.specs.Sharding.{shard_sizes, first_indexes}

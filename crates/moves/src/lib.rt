@@ -25,11 +25,8 @@ fn read_strides(strides: &mut [usize], mesh: &[u16], axes: types::AxisList, m: u
     ensures { strides.new ≡ cleared (axes_of axes) (mesh_strides mesh.now m) }
 {
     fill_strides(strides, mesh, m);
-    let mut i = axes.len();
-    while 0 < i {
-        i -= 1;
-        let a = axes.at(i).0 as usize;
-        strides[a] = 0;
+    for axis in axes.as_slice() {
+        strides[axis.0 as usize] = 0;
     }
 }
 
@@ -39,14 +36,10 @@ fn add_slice(added: &mut [usize], mesh: &[u16], axes: types::AxisList, v: usize)
     ensures { added.new ≡ with_slice mesh.now (axes_of axes) v added.old }
 {
     let mut words = v;
-    let mut i = axes.len();
-    while 0 < i {
-        i -= 1;
+    for i in (0..axes.len()).rev() {
         let axis = axes.at(i);
-        let a = axis.0 as usize;
-        let sum = added[a] + words;
-        added[a] = sum;
-        words = size_at(mesh, axis) * words;
+        added[axis.0 as usize] += words;
+        words *= size_at(mesh, axis);
     }
 }
 
@@ -55,11 +48,8 @@ fn add_strides(strides: &mut [usize], added: &[usize])
     requires { Adding strides.old added.now }
     ensures { strides.new ≡ from strides.old added.now }
 {
-    let mut i: usize = 0;
-    while i < added.len() {
-        let sum = strides[i] + added[i];
-        strides[i] = sum;
-        i += 1;
+    for (i, more) in added.iter().enumerate() {
+        strides[i] += *more;
     }
 }
 
@@ -93,91 +83,63 @@ fn dim_digits(
     all
 }
 
-// The digits of all dimensions, at the end of the slice. Answers where they begin.
-fn shape_digits(
-    digits: &mut [usize],
-    strides: &mut [usize],
-    added: &mut [usize],
-    mesh: &[u16],
-    shape: &[u16],
+// What a step does to the shards of a shape: each dimension is gathered and sliced by a list of axes.
+#[derive(Clone, Copy)]
+struct Move<'a> {
+    mesh: &'a [u16],
+    shape: &'a [u16],
     gathers: types::DimLists,
     slices: types::DimLists,
-) -> usize
-    requires { Dimensions digits.old strides.old added.old mesh.now shape.now (lists shape.now gathers) (lists shape.now slices) }
-    ensures { DimensionsAt mesh.now shape.now (lists shape.now gathers)
-        (lists shape.now slices) strides.old added.old digits.new strides.new added.new result
-        (product (moved_shape mesh.now shape.now (lists shape.now gathers) (lists shape.now slices)))
-        (product shape.now) 0 }
-{
-    let mut first = digits.len();
-    let mut count: usize = 1;
-    let mut w: usize = 1;
-    let mut j = shape.len();
-    while 0 < j {
-        j -= 1;
-        let dim = types::Dim(j as u8);
-        let gathered = gathers.at(dim);
-        let sliced = slices.at(dim);
-        let n = shape[j] as usize;
-        count = dim_digits(
-            digits, strides, added, mesh, gathered, sliced, n, w, first, count,
-        );
-        first = first - 3 - 3 * gathered.len();
-        w = n * w;
+}
+
+impl Move<'_> {
+    // The digits of all dimensions, at the end of the slice. Answers where they begin.
+    fn shape_digits(self, digits: &mut [usize], strides: &mut [usize], added: &mut [usize]) -> usize
+        requires { Dimensions digits.old strides.old added.old self.mesh.now self.shape.now (lists self.shape.now self.gathers)
+            (lists self.shape.now self.slices) }
+        ensures { DimensionsAt self.entry.mesh.now self.entry.shape.now (lists self.entry.shape.now self.entry.gathers)
+            (lists self.entry.shape.now self.entry.slices) strides.old added.old digits.new strides.new added.new result
+            (product (moved_shape self.entry.mesh.now self.entry.shape.now (lists self.entry.shape.now self.entry.gathers) (lists self.entry.shape.now self.entry.slices)))
+            (product self.entry.shape.now) 0 }
+    {
+        let mut first = digits.len();
+        let mut count: usize = 1;
+        let mut w: usize = 1;
+        for j in (0..self.shape.len()).rev() {
+            let dim = types::Dim(j as u8);
+            let gathered = self.gathers.at(dim);
+            let sliced = self.slices.at(dim);
+            let n = self.shape[j] as usize;
+            count = dim_digits(
+                digits, strides, added, self.mesh, gathered, sliced, n, w, first, count,
+            );
+            first -= 3 + 3 * gathered.len();
+            w *= n;
+        }
+        first
     }
-    first
-}
 
-// The digits of a step, at the end of the slice. Answers where they begin.
-fn make_digits(
-    digits: &mut [usize],
-    strides: &mut [usize],
-    added: &mut [usize],
-    mesh: &[u16],
-    shape: &[u16],
-    along: types::AxisList,
-    gathers: types::DimLists,
-    slices: types::DimLists,
-    words: usize,
-) -> usize
-    requires { Setting digits.old strides.old added.old mesh.now shape.now (axes_of along) (lists shape.now gathers)
-        (lists shape.now slices) words }
-    ensures { drop result digits.new ≡ step_digits mesh.now shape.now (axes_of along)
-        (lists shape.now gathers) (lists shape.now slices) }
-{
-    let m = product_from(shape, 0);
-    read_strides(strides, mesh, along, m);
-    let end = shape_digits(digits, strides, added, mesh, shape, gathers, slices);
-    add_strides(strides, added);
-    mesh_digits(digits, strides, mesh, end, words);
-    end - 3 * mesh.len()
-}
-
-// The step, with digits that are made first.
-fn move_with(
-    old: &[u32],
-    new: &mut [u32],
-    digits: &mut [usize],
-    strides: &mut [usize],
-    added: &mut [usize],
-    mesh: &[u16],
-    shape: &[u16],
-    along: types::AxisList,
-    gathers: types::DimLists,
-    slices: types::DimLists,
-    words: usize,
-)
-    requires setting { Setting digits.old strides.old added.old mesh.now shape.now (axes_of along) (lists shape.now gathers)
-        (lists shape.now slices) words }
-    requires shape_in_bounds { (product mesh.now * product shape.now ≤ length old.now) × (product mesh.now * words ≤ length new.old) }
-    ensures { new.new ≡ first_buffer 0 mesh.now shape.now (axes_of along) (lists shape.now gathers)
-        (lists shape.now slices) words old.now new.old }
-{
-    let first = make_digits(
-        digits, strides, added, mesh, shape, along, gathers, slices, words,
-    );
-    let all = product_from(mesh, 0) * words;
-    copy_digits(&mut new[0..all], old, &digits[first..]);
+    // The digits of the step, where new shards have so many words, at the end of the slice. Answers where they begin.
+    fn make_digits(
+        self,
+        digits: &mut [usize],
+        strides: &mut [usize],
+        added: &mut [usize],
+        along: types::AxisList,
+        words: usize,
+    ) -> usize
+        requires { Setting digits.old strides.old added.old self.mesh.now self.shape.now (axes_of along) (lists self.shape.now self.gathers)
+            (lists self.shape.now self.slices) words }
+        ensures { drop result digits.new ≡ step_digits self.entry.mesh.now self.entry.shape.now (axes_of along)
+            (lists self.entry.shape.now self.entry.gathers) (lists self.entry.shape.now self.entry.slices) }
+    {
+        let m = product_from(self.shape, 0);
+        read_strides(strides, self.mesh, along, m);
+        let end = self.shape_digits(digits, strides, added);
+        add_strides(strides, added);
+        mesh_digits(digits, strides, self.mesh, end, words);
+        end - 3 * self.mesh.len()
+    }
 }
 
 // A move of words in which each device reads the first member of its group along a list of axes in place of itself: the new state, of shards of the
@@ -203,19 +165,21 @@ pub fn move_first(
     let mut digits = [0usize; ROOM];
     let mut strides = [0usize; types::Axis::MOST];
     let mut added = [0usize; types::Axis::MOST];
-    move_with(
-        old,
-        new,
-        &mut digits,
-        &mut strides[0..n],
-        &mut added[0..n],
+    let step = Move {
         mesh,
         shape,
-        along,
         gathers,
         slices,
+    };
+    let first = step.make_digits(
+        &mut digits,
+        &mut strides[..n],
+        &mut added[..n],
+        along,
         words,
     );
+    let all = product_from(mesh, 0) * words;
+    copy_digits(&mut new[..all], old, &digits[first..]);
 }
 
 // All-slice, all-gather, all-to-all: the same, where each device reads its own shard.

@@ -2,8 +2,7 @@
 -- Assumes nothing.
 use Prim.Native.Nat.{ℕ}
 use mathlib.Core.Path.{◌≡◌, refl, sym, ap, ◌∙◌, subst}
-use mathlib.Core.Bool.{not}
-use mathlib.Core.List.{List, [], ◌∷◌}
+use mathlib.Core.List.{List}
 use native.Mathlib.Omega.{arith}
 use lib.ListN.{length}
 use lib.Dec.{eqb}
@@ -17,17 +16,14 @@ use Rattle.rules.specs.PlanFile.{steps_offset, judge_start, one_meaning, Front, 
 use Rattle.types.specs.declared.Mesh.{Mesh}
 use Rattle.types.specs.declared.Sharding as code
 use Rattle.types.specs.declared.Table.{Table}
-use Rattle.laws.proofs.Judging.{never, accept-inj, need-inv, then-inv, then-assoc, bind_inv}
+use Rattle.laws.proofs.Judging.{accept-inj, need-inv, then-inv, then-assoc, bind_inv}
 use Rattle.laws.proofs.Accepted.{Within, MeshAndTableFacts, mesh-and-table-facts}
-use Rattle.reader.specs.Reading.{numbers_of, header_of, order_in, Counted}
+use Rattle.reader.specs.Reading.{numbers_of, header_of, order_in, shape_of, Counted}
 use Rattle.reader.specs.declared.Header.{Header}
 use Rattle.reader.specs.declared.Shape.{Shape}
-use Rattle.reader.proofs.Answers.{so-refused}
 use Rattle.reader.proofs.Heading.{Headed, headed}
 use Rattle.reader.proofs.Ordering.{order-found}
-use Rattle.reader.proofs.Shaping.{no-counted}
-use Rattle.opening.specs.Opening.{judge_opening, open_read, NoOpening, Opens, Opened}
-use Rattle.opening.specs.declared.Opening.{Opening}
+use Rattle.opening.specs.Opening.{judge_opening}
 
 -- an accepted mesh and an accepted table have their places
 pub places : {devices : ℕ} {mesh : Mesh} {table : Table} → Counted devices mesh table → Within (mesh_of mesh) (sizes_of table) → WithinPlaces mesh table
@@ -36,11 +32,6 @@ places c a = record {
   rank = omega (arith, c.rank_is, a.rank_few);
   sized = record { least = a.sizes_pos; most = a.sizes_few };
 }
-
--- a list of edition 2 by its count
-pub some-counted : (edition : ℕ) (L : List ℕ) → edition ≡ 2 → not (eqb (length L) 0) ≡ one_meaning edition L
-some-counted edition [] e = rw e refl
-some-counted edition (a ∷ L) e = rw (e, ne_eqb (length (a ∷ L)) 0 (λ p. omega (arith, p))) refl
 
 -- ---- what stands before the steps
 
@@ -126,36 +117,23 @@ module _ (file : List ℕ) where
           pub front-is : judge_opening h.edition r.value.mesh r.value.sizes s.value ≡ accept tt → judge_front file ≡ accept front
           front-is z = after-sharding ∙ simp (eq-eqb h.steps_at s.next v, z)
 
--- ---- what the code asks, and tells
+-- ---- what the code asks
 
--- a file that is refused so far
-pub open-refused : {file : List ℕ} {r : Opening} {a k : ℕ} → open_read file r ≡ refuse a k → NoOpening r → judge_front file ≡ refuse a k
-    → Opened file r
-open-refused {r} e h q = record {
-  reads = e ∙ sym q;
-  counted = no-counted h.shape;
-  steps_are = λ f w. absurd (never (sym q ∙ w));
-  beside = so-refused r.next h;
-}
-
-module _ {file : List ℕ} {header : Header} {shape : Shape} {at : ℕ} (o : Opens file header shape at) where
-  sizes-facts : MeshAndTableFacts header.axes header.rank file (record {
-    value = record { mesh = mesh_of shape.mesh; order = order_in file shape.mesh.n shape.devices; sizes = sizes_of shape.table };
-    next = at;
-  })
-  sizes-facts = mesh-and-table-facts (carries_order header.edition) header.axes header.rank file _ o.shape_is
-
-  axes_are : shape.mesh.n ≡ header.axes
-  axes_are = o.counted.n_is ∙ sizes-facts.axes_many
+module _ (file : List ℕ) {header : Header} (e : header_of file ≡ accept header) {shape : Shape} {at : ℕ}
+    (q : mesh_and_table_at (carries_order header.edition) header.axes header.rank file ≡ accept (record { value = shape_of file shape; next = at }))
+    (counted : Counted shape.devices shape.mesh shape.table) where
+  sizes-facts : MeshAndTableFacts header.axes header.rank file (record { value = shape_of file shape; next = at })
+  sizes-facts = mesh-and-table-facts (carries_order header.edition) header.axes header.rank file _ q
 
   rank-are : shape.table.rank ≡ header.rank
-  rank-are = o.counted.rank_is ∙ sizes-facts.rank_many
+  rank-are = counted.rank_is ∙ sizes-facts.rank_many
 
   pub within-places : WithinPlaces shape.mesh shape.table
   within-places =
-      let h : Headed file header = headed file header o.header_is in
+      let h : Headed file header = headed file header e in
+      let n : shape.mesh.n ≡ header.axes = counted.n_is ∙ sizes-facts.axes_many in
       record {
-        axes = omega (arith, axes_are, h.axes_are, h.facts.axes_few);
+        axes = omega (arith, n, h.axes_are, h.facts.axes_few);
         rank = omega (arith, rank-are, h.rank_is, h.facts.rank_few);
         sized = record { least = sizes-facts.mesh.each_pos; most = sizes-facts.mesh.each_few };
       }
@@ -163,4 +141,4 @@ module _ {file : List ℕ} {header : Header} {shape : Shape} {at : ℕ} (o : Ope
   -- the sharding that was read has as many lists as the table has dimensions
   pub of-rank : {j : Judged (Read Sharding)} (s : code.Sharding) {end : ℕ} → j ≡ accept (record { value = sharding_of header.rank s; next = end })
       → j ≡ accept (record { value = sharding_of shape.table.rank s; next = end })
-  of-rank {j} s {end} e = subst (λ (n : ℕ). j ≡ accept (record { value = sharding_of n s; next = end })) (sym rank-are) e
+  of-rank {j} s {end} w = subst (λ (n : ℕ). j ≡ accept (record { value = sharding_of n s; next = end })) (sym rank-are) w

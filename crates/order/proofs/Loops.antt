@@ -1,8 +1,14 @@
--- The loops along an order, turn by turn. What is asked of the whole list is what is asked of the rest of it (`Finding`, `Plain`, `Marked`); then
--- the places written so far (`Inverted`), numbers looked up (`looked-up`), one shard word by word (`shard-words`). Assumes nothing.
-use Prim.Native.Nat.{ℕ, ◌+◌, ◌-◌, ◌*◌, ◌/◌, ◌%◌, ◌<◌, ◌≤◌}
+-- What goes along an order: the first place of a device (`found-first`), the plain order (`same-plain`), the test turn by turn, for which what is asked of
+-- the whole list is what is asked of the rest of it (`Marked`), the places written so far (`Inverted`), numbers looked up (`looked-up`), one shard word by
+-- word (`shard-words`). Assumes nothing.
+use Rattle.std.specs.Prelude.{◌≢◌, ◌↔◌, Option, Some, None, MatchOption, EachIndex, IsTrue}
+use Rattle.std.specs.Option.{unwrap_or}
+use Rattle.std.proofs.lemmas.Bool.{cases_Bool}
+use Rattle.std.proofs.lemmas.Grind.{same_number_lists}
+use Prim.Native.Nat.{ℕ, zero, suc, ◌+◌, ◌-◌, ◌*◌, ◌/◌, ◌%◌, ◌<◌, ◌≤◌}
 use mathlib.Core.Path.{◌≡◌, refl, sym, ap, ap₂, ◌∙◌, subst}
 use mathlib.Core.Bool.{Bool, true, false, not, ◌&&◌, ◌||◌}
+use mathlib.Core.Logic.{inl, inr}
 use mathlib.Core.List.{List, [], ◌∷◌, map}
 use native.Mathlib.Numerals.{add-one}
 use native.Mathlib.Decide.{ℕ_discrete}
@@ -12,11 +18,12 @@ use lib.ListN.{length, get_or, set, take, drop, length-set, drop_of_length-le}
 use lib.Seq.{drop-cons, get_or-set_same, get_or-set_other}
 use lib.Dec.{T, eqb, ltb}
 use lib.Arith.{digits_div, digits_mod}
-use Rattle.rules.specs.Lists.{tab, pick, mem}
+use Rattle.rules.specs.Lists.{tab, mem}
 use Rattle.rules.specs.Mesh.{plain_order, place_in, Rearrangement}
 use Rattle.rules.specs.PlanFile.{all_below, fresh, same, rearranges, order_allowed}
 use Rattle.laws.proofs.Lists.{length-tab, get_or-tab, map-tab, tab-cong}
 use Rattle.laws.proofs.Fronts.{whole-tab, part-tab, part_cut}
+use Rattle.laws.proofs.Judging.{same-eq}
 use Rattle.laws.proofs.Orders.{rearranged, place-below, listed_at}
 use Rattle.order.specs.Order.{places_of}
 
@@ -24,50 +31,41 @@ use Rattle.order.specs.Order.{places_of}
 next-at : (l : List ℕ) (i : ℕ) → i < length l → drop i l ≡ get_or l i 0 ∷ drop (i + 1) l
 next-at l i h = drop-cons l i 0 h ∙ ap (λ (k : ℕ). get_or l i 0 ∷ drop k l) (sym (add-one i))
 
--- ---- the place of a device
+-- ---- the place of a device: the first that has it
 
-pub record Finding (d : ℕ) (l : List ℕ) (i : ℕ) : Type 0 where
-  pub rest : place_in d l ≡ i + place_in d (drop i l)
+first-place : (d : ℕ) (l : List ℕ) (i : ℕ) → i ≤ length l → ((k : ℕ) → k < i → get_or l k 0 ≢ d) → (i < length l → get_or l i 0 ≡ d) → i ≡ place_in d l
+first-place d [] i h before at = omega arith
+first-place d (e ∷ l) zero h before at = sym (rw (eq-eqb d e (sym (at (omega arith)))) refl)
+first-place d (e ∷ l) (suc i) h before at =
+    let turn : place_in d (e ∷ l) ≡ place_in d l + 1 = rw (ne_eqb d e (λ q. before 0 (omega arith) (sym q))) refl in
+    omega (arith, turn, first-place d l i (omega arith) (λ k g. before (suc k) (omega arith)) (λ g. at (omega arith)))
 
-module _ {d : ℕ} {l : List ℕ} {i : ℕ} (g : Finding d l i) where
-  module _ (h : i < length l) where
-    find-turn : place_in d l ≡ i + pick (eqb d (get_or l i 0)) 0 (place_in d (drop (i + 1) l) + 1)
-    find-turn = g.rest ∙ ap (λ (k : List ℕ). i + place_in d k) (next-at l i h)
-
-    pub found : get_or l i 0 ≡ d → i ≡ place_in d l
-    found e = sym (find-turn ∙ rw (eq-eqb d (get_or l i 0) (sym e)) (omega arith))
-
-    pub find-on : ¬ (get_or l i 0 ≡ d) → Finding d l (i + 1)
-    find-on n = record { rest = find-turn ∙ rw (ne_eqb d (get_or l i 0) (λ e. n (sym e))) (omega arith) }
-
-  pub not_found : length l ≤ i → i ≡ place_in d l
-  not_found h = sym (g.rest ∙ ap (λ (k : List ℕ). i + place_in d k) (drop_of_length-le l {i = i} h) ∙ omega arith)
+pub found-first : (d : ℕ) (l : List ℕ) (r : Option ℕ)
+    → MatchOption r (EachIndex l (λ k. get_or l k 0 ≢ d)) (λ i. (i < length l) × (get_or l i 0 ≡ d) × ((k : ℕ) → k < i → get_or l k 0 ≢ d))
+    → unwrap_or r (length l) ≡ place_in d l
+found-first d l None h = first-place d l (length l) (omega arith) h (λ g. absurd (omega arith))
+found-first d l (Some i) h = first-place d l i (omega (arith, h.0)) h.2 (λ g. h.1)
 
 -- ---- the plain order
 
-pub record Plain (l : List ℕ) (i : ℕ) : Type 0 where
-  pub rest : same l (plain_order (length l)) ≡ same (drop i l) (drop i (plain_order (length l)))
+same_self : (l : List ℕ) → same l l ≡ true
+unfolding same
+same_self [] = refl
+same_self (a ∷ l) = rw (eq-eqb a a refl) (same_self l)
 
-module _ {l : List ℕ} {i : ℕ} (g : Plain l i) where
-  module _ (h : i < length l) where
-    plain_turn : same l (plain_order (length l)) ≡ eqb (get_or l i 0) i && same (drop (i + 1) l) (drop (i + 1) (plain_order (length l)))
-    unfolding same
-    plain_turn =
-        let n : ℕ = length l in
-        g.rest ∙ ap₂ same (next-at l i h) (next-at (plain_order n) i (omega (arith, length-tab n (λ d. d))))
-        ∙ ap (λ (d : ℕ). eqb (get_or l i 0) d && same (drop (i + 1) l) (drop (i + 1) (plain_order n))) (get_or-tab n i (λ d. d) 0 h)
+module _ (l : List ℕ) where
+  abbrev plain : List ℕ
+  plain = plain_order (length l)
 
-    pub not_plain : ¬ (get_or l i 0 ≡ i) → same l (plain_order (length l)) ≡ false
-    not_plain n = plain_turn ∙ rw (ne_eqb (get_or l i 0) i n) refl
+  each_plain : same l plain ≡ true → EachIndex l (λ k. get_or l k 0 ≡ k)
+  each_plain e k h = ap (λ (m : List ℕ). get_or m k 0) (same-eq l plain (subst T (sym e) tt)) ∙ get_or-tab (length l) k (λ d. d) 0 h
 
-    pub plain-on : get_or l i 0 ≡ i → Plain l (i + 1)
-    plain-on e = record { rest = plain_turn ∙ rw (eq-eqb (get_or l i 0) i e) refl }
-
-  pub all_plain : length l ≤ i → same l (plain_order (length l)) ≡ true
-  unfolding same
-  all_plain h =
+  pub same-plain : (b : Bool) → (IsTrue b ↔ EachIndex l (λ k. get_or l k 0 ≡ k)) → b ≡ same l plain
+  same-plain true h =
       let n : ℕ = length l in
-      g.rest ∙ ap₂ same (drop_of_length-le l {i = i} h) (drop_of_length-le (plain_order n) {i = i} (omega (arith, length-tab n (λ d. d))))
+      let e : l ≡ plain = same_number_lists l plain (sym (length-tab n (λ d. d))) (λ k g. h.0 refl k g ∙ sym (get_or-tab n k (λ d. d) 0 g)) in
+      sym (ap (same l) (sym e) ∙ same_self l)
+  same-plain false h = elim (cases_Bool (same l plain)) [ inl e ↦ (let q : IsTrue false = h.1 (each_plain e) in cc) | inr e ↦ sym e ]
 
 -- ---- the test
 

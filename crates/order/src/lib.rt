@@ -20,9 +20,8 @@ pub fn rearranges(order: &[u16], n: usize) -> bool
         return false;
     }
     let mut seen = [false; Device::MOST];
-    let mut i: usize = 0;
-    while i < order.len() {
-        let device = order[i] as usize;
+    for number in order {
+        let device = *number as usize;
         if n <= device {
             return false;
         }
@@ -30,7 +29,6 @@ pub fn rearranges(order: &[u16], n: usize) -> bool
             return false;
         }
         seen[device] = true;
-        i += 1;
     }
     true
 }
@@ -39,14 +37,10 @@ pub fn rearranges(order: &[u16], n: usize) -> bool
 pub fn is_plain(order: &[u16]) -> bool
     ensures { result ≡ same order.now (plain_order (length order.now)) }
 {
-    let mut i: usize = 0;
-    while i < order.len() {
-        if order[i] as usize != i {
-            return false;
-        }
-        i += 1;
-    }
-    true
+    order
+        .iter()
+        .enumerate()
+        .all(|(place, number)| *number as usize == place)
 }
 
 // "a rearrangement of 0 to D-1 other than the plain one"
@@ -54,24 +48,17 @@ pub fn order_allowed(order: &[u16], n: usize) -> bool
     requires { n ≤ most_devices }
     ensures { result ≡ order_allowed n order.now }
 {
-    if !rearranges(order, n) {
-        return false;
-    }
-    !is_plain(order)
+    rearranges(order, n) && !is_plain(order)
 }
 
 // The place of device d, the number of places where it has none.
 pub fn place_in(order: &[u16], d: usize) -> usize
     ensures { result ≡ place_in d order.now }
 {
-    let mut place: usize = 0;
-    while place < order.len() {
-        if order[place] as usize == d {
-            return place;
-        }
-        place += 1;
-    }
-    place
+    order
+        .iter()
+        .position(|number| *number as usize == d)
+        .unwrap_or(order.len())
 }
 
 // The place of every device.
@@ -79,11 +66,8 @@ pub fn invert(order: &[u16], places: &mut [u16])
     requires { Rearrangement (length places.old) order.now }
     ensures { places.new ≡ places_of order.now }
 {
-    let mut i: usize = 0;
-    while i < order.len() {
-        let device = order[i] as usize;
-        places[device] = i as u16;
-        i += 1;
+    for (i, number) in order.iter().enumerate() {
+        places[*number as usize] = i as u16;
     }
 }
 
@@ -92,23 +76,19 @@ pub fn look_up(numbers: &mut [u16], order: &[u16])
     requires { EachBelow (length order.now) numbers.old }
     ensures { numbers.new ≡ map (λ p. get_or order.now p 0) numbers.old }
 {
-    let mut i: usize = 0;
-    while i < numbers.len() {
-        let place = numbers[i] as usize;
-        numbers[i] = order[place];
-        i += 1;
+    for number in numbers {
+        *number = order[*number as usize];
     }
 }
 
 // The words of from.
+// Stays: (b) copy_from_slice takes up to a seventh longer for shards of one to eight words, zip a third longer for four.
 fn copy_shard(to: &mut [u32], from: &[u32])
     requires { length to.old ≡ length from.now }
     ensures { to.new ≡ from.now }
 {
-    let mut t: usize = 0;
-    while t < to.len() {
-        to[t] = from[t];
-        t += 1;
+    for (t, word) in from.iter().enumerate() {
+        to[t] = *word;
     }
 }
 
@@ -118,13 +98,9 @@ pub fn place_shards(to: &mut [u32], from: &[u32], order: &[u16], m: usize)
     ensures { to.new ≡ words_by_place 0 order.now m from.now
         ++ drop (length order.now * m) to.old }
 {
-    let mut i: usize = 0;
-    while i < order.len() {
+    for (i, number) in order.iter().enumerate() {
         let first = i * m;
-        let end = first + m;
-        let at = order[i] as usize * m;
-        let stop = at + m;
-        copy_shard(&mut to[first..end], &from[at..stop]);
-        i += 1;
+        let at = *number as usize * m;
+        copy_shard(&mut to[first..first + m], &from[at..at + m]);
     }
 }

@@ -1,9 +1,8 @@
 -- The bytes of a unit that may be a step, tried by its reader: refused (`tried-stops`) or read (`tried-on`). Assumes nothing.
-use Prim.Native.Nat.{ℕ, ◌-◌, ◌≤◌}
+use Prim.Native.Nat.{ℕ, ◌-◌}
 use mathlib.Core.Path.{◌≡◌, sym, ap, ap₂}
 use mathlib.Core.List.{List, [], ◌∷◌}
-use lib.ListN.{length}
-use lib.Seq.{length-take-le}
+use lib.ListN.{length, length-map}
 use lib.Dec.{eqb}
 use Rattle.rules.specs.Lists.{pick}
 use Rattle.rules.specs.Limits.{most_depth}
@@ -15,7 +14,7 @@ use Rattle.types.specs.declared.Table.{Table}
 use Rattle.units.specs.Units as units
 use Rattle.pieces.specs.declared.Frames.{Frames}
 use Rattle.pieces.specs.declared.Standing.{Standing}
-use Rattle.pieces.specs.Held.{frame_of, frames_of, Goes}
+use Rattle.pieces.specs.Held.{frame_of, open_of, frames_of, Goes}
 
 module _ {A : Type 0} (j : Judged A) (more : units.Waiting) (then : A → Judged units.Phase) where
   pub tried-stops : {a b : ℕ} → j ≡ refuse a b → pick (eqb a 7) more (record { unit = []; phase = units.stopped a b }) ≡ units.tried j more then
@@ -29,8 +28,6 @@ pub read_by : {mesh : Mesh} {table : Table} {total : ℕ} {q : Standing} (k : �
     → step_at (length (mesh_of mesh)) (length (sizes_of table)) k unit 0 ≡ step_at mesh.n table.rank k unit 0
 read_by k unit g = ap₂ (λ (n r : ℕ). step_at n r k unit 0) g.n_is g.rank_is
 
--- as many repeats are open as the depth says
-pub deep-as : (rank : ℕ) (fs : Frames) → fs.depth ≤ most_depth → units.depth_in (frames_of rank fs) ≡ most_depth - fs.depth
-deep-as rank fs l =
-    ap (λ (n : ℕ). most_depth - n)
-    (length-take-le fs.depth (frame_of rank fs.first ∷ frame_of rank fs.second ∷ frame_of rank fs.third ∷ frame_of rank fs.fourth ∷ []) l)
+-- as many repeats may be opened as places are empty
+pub deep-as : (rank : ℕ) (fs : Frames) → units.depth_in (frames_of rank fs) ≡ most_depth - length (open_of fs)
+deep-as rank fs = ap (λ (n : ℕ). most_depth - n) (length-map (open_of fs) (frame_of rank))

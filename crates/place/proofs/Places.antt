@@ -1,4 +1,5 @@
 -- The placement is a state and a device, by its place: refusals and answer, and that a device's blocks begin within the table. Assumes nothing.
+use Rattle.std.specs.Prelude.{Ok, Err}
 use Prim.Native.Nat.{ℕ, zero, suc, ◌+◌, ◌*◌, ◌≤◌, ◌<◌}
 use mathlib.Core.Path.{◌≡◌, refl, sym, ap, ◌∙◌, subst}
 use mathlib.Core.Bool.{Bool, true, false}
@@ -25,8 +26,7 @@ use Rattle.laws.proofs.Shapes.{Cut, uncut, cut}
 use Rattle.laws.proofs.Sizes.{cut-divisible}
 use Rattle.laws.proofs.Accepted.{AcceptedPlan, accepted, state-inv}
 use Rattle.laws.proofs.Room.{state}
-use Rattle.reader.specs.Reading.{next_refusal, order_of, order_in}
-use Rattle.reader.specs.declared.Next.TheVariants as next
+use Rattle.reader.specs.Reading.{order_of, order_in}
 use Rattle.mesh.specs.Fitting.{IsPlace}
 use Rattle.plan.specs.Parts.{state_at, state_answer, StateTells, Shaped}
 use Rattle.plan.specs.declared.State as code
@@ -96,18 +96,17 @@ within file k d a e l =
     )
 
 -- D is within its limit
-pub devices_few : (file : List ℕ) (k : ℕ) (r : code.State) {at : ℕ} → StateTells file (state_at file k) r → Shaped r → r.next ≡ next.At at → r.devices ≤ most_devices
-devices_few file k r e s h =
-    let i = state-inv file k (state_answer file r) (state-on file k r e h) in
+pub devices_few : (file : List ℕ) (k : ℕ) (r : code.State) → StateTells file (state_at file k) (Ok r) → Shaped r → r.devices ≤ most_devices
+devices_few file k r e s =
+    let i = state-inv file k (state_answer file r) (state-on file k r e) in
     let g : AcceptedPlan i.0 = accepted file i.0 i.1 in
     let l : devices (mesh_of r.mesh) ≤ most_devices = subst (λ (z : StateAnswer). devices z.mesh ≤ most_devices) i.2 g.within.devices_few in
     omega (arith, s.counted.devices_are, l)
 
-pub placing : (file : List ℕ) (k d : ℕ) (r : code.State) {at : ℕ} → StateTells file (state_at file k) r → Shaped r → r.next ≡ next.At at
-    → d < r.devices → {q : ℕ} → q ≡ place_in d (order_in file r.mesh.n r.devices) → Placing (mesh_of r.mesh) r.sharding.dims r.shard q
+pub placing : (file : List ℕ) (k d : ℕ) (r : code.State) → StateTells file (state_at file k) (Ok r) → Shaped r → d < r.devices → {q : ℕ} → q ≡ place_in d (order_in file r.mesh.n r.devices) → Placing (mesh_of r.mesh) r.sharding.dims r.shard q
 unfolding Within
-placing file k d r e s h l {q} o =
-    let w = within file k d (state_answer file r) (state-on file k r e h) (subst (λ (n : ℕ). d < n) s.counted.devices_are l) in
+placing file k d r e s l {q} o =
+    let w = within file k d (state_answer file r) (state-on file k r e) (subst (λ (n : ℕ). d < n) s.counted.devices_are l) in
     let mesh = mesh_of r.mesh in
     let Few : ℕ → Type 0 = λ n. (j : ℕ) → position mesh (get_or (take n (dims_of r.sharding.dims)) j []) (coords mesh q) * get_or (sizes_of r.shard) j 0 < most_words in
     let v = subst (Within (state_answer file r)) (sym o) w in
@@ -115,15 +114,15 @@ placing file k d r e s h l {q} o =
 
 -- ---- the placement of a device in a state
 
-module _ (file : List ℕ) (k d : ℕ) (r : code.State) (e : StateTells file (state_at file k) r) where
-  pub place-stops : {x t : Refusal} → r.next ≡ next.Refused x → t ≡ next_refusal r.next → place_of file k d ≡ refused_with t
+module _ (file : List ℕ) (k d : ℕ) where
+  pub place-stops : (x : Refusal) → StateTells file (state_at file k) (Err x) → place_of file k d ≡ refused_with x
   unfolding place_of
-  place-stops h q = rw (state-stopped file k r e h q) refl
+  place-stops x e = rw (state-stopped file k x e) refl
 
-  module _ (s : Shaped r) {at : ℕ} (h : r.next ≡ next.At at) where
+  module _ (r : code.State) (e : StateTells file (state_at file k) (Ok r)) (s : Shaped r) where
     pub no-device : r.devices ≤ d → place_of file k d ≡ refuse 32 0
     unfolding place_of
-    no-device l = rw (state-on file k r e h) (simp (le-ltb d (devices (mesh_of r.mesh)) (subst (λ (n : ℕ). n ≤ d) s.counted.devices_are l)))
+    no-device l = rw (state-on file k r e) (simp (le-ltb d (devices (mesh_of r.mesh)) (subst (λ (n : ℕ). n ≤ d) s.counted.devices_are l)))
 
     pub place_found : d < r.devices → {q : ℕ} → q ≡ place_in d (order_in file r.mesh.n r.devices) → place_of file k d ≡ accept (record {
       rank = r.shard.rank;
@@ -140,7 +139,7 @@ module _ (file : List ℕ) (k d : ℕ) (r : code.State) (e : StateTells file (st
           sharding = sharding_of r.table.rank r.sharding;
           shard = sizes_of r.shard;
           first = indexes r.table.rank;
-        }) = rw o (rw (state-on file k r e h) (simp (lt-ltb d (devices mesh) (subst (λ (n : ℕ). d < n) s.counted.devices_are l)))) in
+        }) = rw o (rw (state-on file k r e) (simp (lt-ltb d (devices mesh) (subst (λ (n : ℕ). d < n) s.counted.devices_are l)))) in
         answer
         ∙ (λ i. accept (record {
           rank = sym (s.rank_is ∙ s.counted.rank_is) i;

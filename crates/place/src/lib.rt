@@ -15,9 +15,9 @@ ghost use Rattle.place.specs.Placing.{Placing};
 use dims::{lists_within, no_lists, sizes_within};
 use mesh::position_of;
 use order::place_in;
-use plan::{State, state_after};
-use reader::{Next, carries_order, read_order};
-use types::{Device, Dim, DimLists, PlaceOutcome, Placed, PlanFile, Reason, Refusal, Table};
+use plan::state_after;
+use reader::{carries_order, read_order};
+use types::{Device, Dim, DimLists, Placed, PlanFile, Reason, Refusal, Table};
 
 // "its first index there is block number times shard size"
 fn first_index(block: usize, size: u16) -> u16
@@ -34,14 +34,11 @@ pub fn first_indexes(mesh: &[u16], dims: DimLists, shard: Table, place: usize) -
     ensures { (result.rank ≡ shard.rank) × (sizes_of result ≡ first_indexes mesh.now (take shard.rank (dims_of dims))
         (sizes_of shard) (coords mesh.now place)) }
 {
-    let rank = shard.rank;
     let mut first = shard;
-    let mut d: usize = 0;
-    while d < rank {
+    for d in 0..shard.rank {
         let list = dims.at(Dim(d as u8));
         let size = shard.sizes[d];
         first.sizes[d] = first_index(position_of(mesh, list, place), size);
-        d += 1;
     }
     first
 }
@@ -64,10 +61,9 @@ fn place_of(file: &[u8], n: usize, devices: usize, device: Device) -> usize
 fn refused(refusal: Refusal) -> Placed
     ensures { result ≡ placed_of (refused_with refusal) }
 {
-    let sharding = no_lists();
     Placed {
-        outcome: PlaceOutcome::Refused(refusal),
-        sharding,
+        outcome: Err(refusal),
+        sharding: no_lists(),
         shard: [0; Dim::MOST],
         first: [0; Dim::MOST],
     }
@@ -77,14 +73,12 @@ fn refused(refusal: Refusal) -> Placed
 pub fn place(file: &[u8], state: u16, device: Device) -> Placed
     ensures { PlacePromise file.now state device.0 result }
 {
-    let found = state_after(file, state as usize);
-    let next = found.next;
-    let Next::At(_) = next else {
-        return refused(next.refusal());
+    let found = match state_after(file, state as usize) {
+        Ok(found) => found,
+        Err(refusal) => return refused(refusal),
     };
     if found.devices <= device.0 as usize {
-        let reason = Reason::NoSuchDevice;
-        return refused(Refusal { reason, step: 0 });
+        return refused(Refusal::outside(Reason::NoSuchDevice));
     }
     let n = found.mesh.n;
     let mesh = found.mesh.sizes;
@@ -96,7 +90,7 @@ pub fn place(file: &[u8], state: u16, device: Device) -> Placed
     let shard = sizes_within(sizes);
     let first = sizes_within(indexes);
     Placed {
-        outcome: PlaceOutcome::Found(sizes.rank),
+        outcome: Ok(sizes.rank),
         sharding,
         shard,
         first,

@@ -1,16 +1,16 @@
 -- Laws of the placement for a list of devices: the room that is asked for, the numbers at the front of the list that are below D, and the first indexes, as
 -- many for each device (`parts_at`), which are those of the single call (`firsts-placed`), or its refusal (`firsts-refused`). Assumes nothing.
+use Rattle.std.specs.Prelude.{Option, Some, None, MatchOption, EachIndex}
 use Prim.Native.Nat.{ℕ, zero, suc, ◌+◌, ◌*◌, ◌/◌, ◌≤◌, ◌<◌}
 use mathlib.Core.Path.{◌≡◌, refl, sym, ap, ◌∙◌}
 use mathlib.Core.Bool.{Bool, true, false}
 use mathlib.Core.List.{List, [], ◌∷◌, ◌++◌, map, append_assoc, append-nil}
 use native.Mathlib.Omega.{arith}
-use native.Mathlib.Nat.{le-div_iff_mul-le, div-lt_iff_lt-mul, suc-mul, zero-mul, zero-add}
-use native.Mathlib.Numerals.{add-one}
+use native.Mathlib.Nat.{le-div_iff_mul-le, div-lt_iff_lt-mul, suc-mul, zero-mul}
 use borrow.Author.Tests.{leb-true, leb-false, ltb-true, ltb-false, le-leb, lt-leb, lt-ltb, le-ltb}
 use lib.ListN.{length, get_or, take, drop, length-append}
 use lib.Dec.{leb, ltb}
-use lib.Seq.{drop-cons, drop-length, take_at, drop_at, drop-drop}
+use lib.Seq.{take_at, drop_at, drop-drop}
 use Rattle.rules.specs.Lists.{tab, flat, pick}
 use Rattle.rules.specs.Refusals.{accept, refuse}
 use Rattle.rules.specs.Calls.{PlaceAnswer, place_of}
@@ -36,30 +36,23 @@ room-test n rank room h = go (leb n (room / rank)) refl
 
 -- ---- the numbers at the front that are below a limit
 
-module _ (most : ℕ) (l : List ℕ) where
-  -- the first i of them are
-  pub record Led (i : ℕ) : Type 0 where
-    pub few : i ≤ length l
-    pub is : leading most l ≡ i + leading most (drop i l)
+-- they are as many as stand before the first that is not
+first-past : (most : ℕ) (l : List ℕ) (i : ℕ) → i < length l → most ≤ get_or l i 0 → ((k : ℕ) → k < i → get_or l k 0 < most) → i ≡ leading most l
+first-past most [] i h at before = absurd (omega arith)
+first-past most (d ∷ ds) zero h at before = rw (le-ltb d most at) refl
+first-past most (d ∷ ds) (suc i) h at before =
+    let turn : leading most (d ∷ ds) ≡ suc (leading most ds) = rw (lt-ltb d most (before 0 (omega arith))) refl in
+    omega (arith, turn, first-past most ds i (omega arith) at (λ k g. before (suc k) (omega arith)))
 
-  pub led-start : Led 0
-  led-start = record { few = omega arith; is = sym (zero-add (leading most l)) }
+all-below : (most : ℕ) (l : List ℕ) → ((k : ℕ) → k < length l → get_or l k 0 < most) → leading most l ≡ length l
+all-below most [] h = refl
+all-below most (d ∷ ds) h = rw (lt-ltb d most (h 0 (omega arith))) (ap suc (all-below most ds (λ k g. h (suc k) (omega arith))))
 
-  pub led_on : {i : ℕ} → Led i → i < length l → get_or l i 0 < most → Led (i + 1)
-  led_on {i} g h b = record {
-    few = omega arith;
-    is = g.is ∙ ap (λ (ds : List ℕ). i + leading most ds) (drop-cons l i 0 h)
-        ∙ rw (lt-ltb (get_or l i 0) most b, add-one) (omega arith);
-  }
-
-  pub led-stop : {i : ℕ} → Led i → i < length l → most ≤ get_or l i 0 → leading most l ≡ i
-  led-stop {i} g h b =
-      g.is ∙ ap (λ (ds : List ℕ). i + leading most ds) (drop-cons l i 0 h) ∙ rw (le-ltb (get_or l i 0) most b) (omega arith)
-
-  pub led-end : {i : ℕ} → Led i → length l ≤ i → leading most l ≡ i
-  led-end {i} g h =
-      let e : i ≡ length l = omega (arith, g.few) in
-      g.is ∙ ap (λ (k : ℕ). k + leading most (drop k l)) e ∙ ap (λ (ds : List ℕ). length l + leading most ds) (drop-length l) ∙ omega (arith, e)
+pub found-past : (most : ℕ) (l : List ℕ) (r : Option ℕ)
+    → MatchOption r (EachIndex l (λ k. get_or l k 0 < most)) (λ i. (i < length l) × (most ≤ get_or l i 0) × ((k : ℕ) → k < i → get_or l k 0 < most))
+    → MatchOption r (leading most l ≡ length l) (λ i. (i ≡ leading most l) × (i < length l))
+found-past most l None h = all-below most l h
+found-past most l (Some i) h = (first-past most l i h.0 h.1 h.2, h.0)
 
 -- below the limit are those before, and the one at that place is not
 pub led-below : (most : ℕ) (l : List ℕ) (i : ℕ) → i < leading most l → get_or l i 0 < most

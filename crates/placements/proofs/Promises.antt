@@ -1,5 +1,6 @@
 -- What the call answers and leaves is its promise: where the file or the state is refused, the room is short, a device is not there, and where all devices are
 -- placed. Assumes nothing.
+use Rattle.std.specs.Prelude.{Result, Ok, Err}
 use Prim.Native.Nat.{ℕ, ◌*◌, ◌≤◌, ◌<◌}
 use mathlib.Core.Path.{◌≡◌, refl, sym, ap, ◌∙◌, subst}
 use mathlib.Core.Bool.{Bool, true, false}
@@ -21,17 +22,11 @@ use Rattle.types.proofs.Refusals.{refusal-told}
 use Rattle.types.proofs.Answers.{place-listed}
 use Rattle.placements.specs.PlaceAll.{firsts_of, place_all_of, placed_before, place_all_leaves, firsts_out, placed_all_of, placed_all_with, place_beside, PlaceAllPromise}
 use Rattle.placements.specs.Placing.{refused_at, leading}
-use Rattle.placements.specs.declared.PlaceAllOutcome.{PlaceAllOutcome}
-use Rattle.placements.specs.declared.PlaceAllOutcome.TheVariants as outcome
 use Rattle.placements.proofs.Firsts.{led-below, led-past, Even, parts-length, parts_at, firsts-placed, firsts-refused, placed-leading}
 
 -- a refused outcome is none of devices placed
-not-placed : {r : Refusal} → outcome.Refused r ≡ outcome.Placed → ⊥
-not-placed e = subst IsRefused e tt
-  where
-    IsRefused : PlaceAllOutcome → Type 0
-    IsRefused (outcome.Refused r) = Unit {0}
-    IsRefused outcome.Placed = ⊥
+not-placed : {r : Refusal} → ◌≡◌ {A = Result (Unit {0}) Refusal} (Err r) (Ok tt) → ⊥
+not-placed e = cc
 
 -- refusals are the same whatever would be accepted
 abbrev number_in : {A : Type 0} → Judged A → ℕ
@@ -65,10 +60,10 @@ accepted-not e = subst Accepts e tt
 module _ (file : List ℕ) (state : ℕ) (devices out : List ℕ) where
   -- the answer beside a refusal
   answered : (n k place : ℕ) → place_all_of file state devices out ≡ refuse n k → pick (eqb n 32) (placed_before file state devices) 0 ≡ place
-      → placed_all_of file state devices out ≡ record { outcome = outcome.Refused (refusal_of n k); place = place }
+      → placed_all_of file state devices out ≡ record { outcome = Err (refusal_of n k); place = place }
   answered n k place e h =
       ap (λ (j : Judged (List ℕ)). placed_all_with j (place_beside j (placed_before file state devices))) e
-      ∙ ap (λ (p : ℕ). record { outcome = outcome.Refused (refusal_of n k); place = p }) h
+      ∙ ap (λ (p : ℕ). record { outcome = Err (refusal_of n k); place = p }) h
 
   -- after a refusal all entries are as they were
   stays : {outAfter : List ℕ} → outAfter ≡ place_all_leaves file state devices out
@@ -92,14 +87,14 @@ module _ (file : List ℕ) (state : ℕ) (devices out : List ℕ) where
     none_before [] = refl
     none_before (d ∷ ds) = rw (one-stopped d) refl
 
-    pub stopped : PlaceAllPromise file state devices out (record { outcome = outcome.Refused t; place = 0 }) out
+    pub stopped : PlaceAllPromise file state devices out (record { outcome = Err t; place = 0 }) out
     unfolding place_all_leaves
     stopped =
         let leaves : out ≡ place_all_leaves file state devices out = sym (ap (λ (j : Judged (List ℕ)). firsts_out j out) all-stopped) in
         record {
           answers = sym (answered (number_of t.reason) t.step 0 all-stopped
               (ap (λ (p : ℕ). pick (eqb (number_of t.reason) 32) p 0) (none_before devices) ∙ pick_same (eqb (number_of t.reason) 32) 0)
-              ∙ (λ i. record { outcome = outcome.Refused (refusal-told t i); place = 0 }));
+              ∙ (λ i. record { outcome = Err (refusal-told t i); place = 0 }));
           leaves = leaves;
           one_by_one = λ p. absurd (not-placed p);
           first_refused = λ w. (one-stopped (get_or devices 0 0) ∙ same-refusal (sym all-stopped ∙ w), λ i h. absurd (omega arith));
@@ -176,7 +171,7 @@ module _ (file : List ℕ) (state : ℕ) (devices out : List ℕ) where
             all_firsts
             ∙ firsts-placed file state F devices (λ i h. (_, place-among (get_or devices i 0) (there i h).0, (there i h).1))
 
-        pub placed : PlaceAllPromise file state devices out (record { outcome = outcome.Placed; place = 0 })
+        pub placed : PlaceAllPromise file state devices out (record { outcome = Ok tt; place = 0 })
             (flat (map F devices) ++ drop (length devices * length s.sizes) out)
         unfolding place_all_leaves
         placed =

@@ -1,13 +1,12 @@
 -- Document 02, Ask 1: "a call with a lent list of device numbers that fills a lent list of first indexes, as many per device as the rank." What it answers,
 -- and leaves in that list, on any input; each placement is that of the single call (`place_of`). Assumes nothing.
-use Rattle.std.specs.Prelude.{ℕ, suc, ◌*◌, ◌<◌, ◌≡◌, List, [], ◌∷◌, ◌++◌, length, get_or, take, drop, leb, eqb}
+use Rattle.std.specs.Prelude.{ℕ, suc, ◌*◌, ◌<◌, ◌≡◌, List, [], ◌∷◌, ◌++◌, length, get_or, take, drop, leb, eqb, Ok, Err}
 use Rattle.rules.specs.Lists.{pick}
 use Rattle.rules.specs.Refusals.{Judged, accept, refuse, ◌>>=◌, ◌>>◌, need}
 use Rattle.types.specs.Answers.{refusal_of}
 use Rattle.rules.specs.PlanFile.{state_of}
 use Rattle.rules.specs.Calls.{PlaceAnswer, place_of}
 use Rattle.placements.specs.declared.PlacedAll.{PlacedAll}
-use Rattle.placements.specs.declared.PlaceAllOutcome.TheVariants as outcome
 
 -- "Its answers equal the single call's, one by one, repeats of a device included.": the first indexes of each device in turn, or the first refusal
 unfoldable pub firsts_of : (file : List ℕ) → (state : ℕ) → (devices : List ℕ) → Judged (List ℕ)
@@ -54,8 +53,8 @@ place_all_leaves file state devices out = firsts_out (place_all_of file state de
 
 -- the answer of the code
 abbrev pub placed_all_with : Judged (List ℕ) → (place : ℕ) → PlacedAll
-placed_all_with (accept firsts) place = record { outcome = outcome.Placed; place = place }
-placed_all_with (refuse number step) place = record { outcome = outcome.Refused (refusal_of number step); place = place }
+placed_all_with (accept firsts) place = record { outcome = Ok tt; place = place }
+placed_all_with (refuse number step) place = record { outcome = Err (refusal_of number step); place = place }
 
 abbrev pub placed_all_of : (file : List ℕ) → (state : ℕ) → (devices out : List ℕ) → PlacedAll
 placed_all_of file state devices out =
@@ -66,7 +65,7 @@ placed_all_of file state devices out =
 pub record PlaceAllPromise (file : List ℕ) (state : ℕ) (devices out : List ℕ) (r : PlacedAll) (outAfter : List ℕ) : Type 0 where
   pub answers : r ≡ placed_all_of file state devices out
   pub leaves : outAfter ≡ place_all_leaves file state devices out
-  pub one_by_one : r.outcome ≡ outcome.Placed → (i : ℕ) → i < length devices
+  pub one_by_one : r.outcome ≡ Ok tt → (i : ℕ) → i < length devices
       → (a : PlaceAnswer) × (place_of file state (get_or devices i 0) ≡ accept a) × (take a.rank (drop (i * a.rank) outAfter) ≡ a.first)
   pub first_refused : place_all_of file state devices out ≡ refuse 32 0
       → (place_of file state (get_or devices r.place 0) ≡ refuse 32 0)

@@ -1,5 +1,5 @@
 -- What the parts of the placement for a list of devices ask for and leave. Assumes nothing.
-use Rattle.std.specs.Prelude.{ℕ, suc, ◌*◌, ◌≤◌, ◌<◌, ◌≡◌, List, [], ◌∷◌, length, get_or, take, ltb}
+use Rattle.std.specs.Prelude.{ℕ, suc, ◌*◌, ◌≤◌, ◌<◌, ◌≡◌, List, [], ◌∷◌, length, get_or, take, ltb, Err}
 use Rattle.rules.specs.Lists.{pick}
 use Rattle.rules.specs.Mesh.{coords}
 use Rattle.rules.specs.Sharding.{first_indexes}
@@ -9,10 +9,9 @@ use Rattle.types.specs.declared.Table.{Table}
 use Rattle.types.specs.declared.Reason.{Reason}
 use Rattle.place.specs.Placing.{Placing}
 use Rattle.placements.specs.declared.PlacedAll.{PlacedAll}
-use Rattle.placements.specs.declared.PlaceAllOutcome.TheVariants as outcome
 
 abbrev pub refused_at : Reason → (place : ℕ) → PlacedAll
-refused_at reason place = record { outcome = outcome.Refused (record { reason = reason; step = 0 }); place = place }
+refused_at reason place = record { outcome = Err (record { reason = reason; step = 0 }); place = place }
 
 -- how many numbers at the front of a list are below a limit
 abbrev pub leading : ℕ → List ℕ → ℕ

@@ -1,11 +1,10 @@
 -- Worked placements of lists of devices, as a table in the form of the ledger: what the call answers, beside it the place, and what the lent list holds after.
 -- Assumes nothing.
-use Rattle.std.specs.Prelude.{ℕ, ◌≡◌, List, [], ◌∷◌, ◌++◌, length}
+use Rattle.std.specs.Prelude.{ℕ, ◌≡◌, List, [], ◌∷◌, ◌++◌, length, Ok, Err}
 use Rattle.types.specs.Answers.{refusal_of}
 use Rattle.rules.specs.Ledger.{file_in, w1, w4, nines}
 use Rattle.placements.specs.PlaceAll.{place_all_leaves, placed_all_of}
 use Rattle.placements.specs.declared.PlacedAll.{PlacedAll}
-use Rattle.placements.specs.declared.PlaceAllOutcome.TheVariants as outcome
 
 -- what is given, then what is answered and left
 pub record Case : Type 0 where
@@ -26,7 +25,7 @@ places file state devices firsts room = record {
   state = state;
   devices = devices;
   out = nines room ++ nines 2;
-  answer = record { outcome = outcome.Placed; place = 0 };
+  answer = record { outcome = Ok tt; place = 0 };
   left = firsts ++ nines 2;
 }
 
@@ -36,7 +35,7 @@ exactly file state devices firsts = record {
   state = state;
   devices = devices;
   out = nines (length firsts);
-  answer = record { outcome = outcome.Placed; place = 0 };
+  answer = record { outcome = Ok tt; place = 0 };
   left = firsts;
 }
 
@@ -46,7 +45,7 @@ refuses file state devices room number step place = record {
   state = state;
   devices = devices;
   out = nines room;
-  answer = record { outcome = outcome.Refused (refusal_of number step); place = place };
+  answer = record { outcome = Err (refusal_of number step); place = place };
   left = nines room;
 }
 

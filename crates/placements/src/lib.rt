@@ -2,11 +2,10 @@
 // What it answers is defined in specs/PlaceAll.antt; specs/Placing.antt has what the parts ask for and leave.
 #![tactic(auto)]
 
-ghost use Rattle.std.specs.Prelude.{◌≡◌, ◌++◌, map, ◌*◌, ◌≤◌, length, get_or, drop, leb};
+ghost use Rattle.std.specs.Prelude.{◌≡◌, ◌++◌, map, ◌*◌, ◌≤◌, ◌<◌, length, get_or, drop, leb, MatchOption};
 ghost use Rattle.rules.specs.Lists.{flat};
 ghost use Rattle.rules.specs.Limits.{most_axes, most_devices, most_dims};
 ghost use Rattle.rules.specs.Mesh.{plain_order, Rearrangement};
-ghost use Rattle.types.specs.Types.{dims_of, sizes_of};
 ghost use Rattle.reader.specs.Reading.{order_in};
 ghost use Rattle.order.specs.Order.{places_of};
 ghost use Rattle.placements.specs.PlaceAll.{PlaceAllPromise};
@@ -15,19 +14,13 @@ ghost use Rattle.placements.specs.Placing.{refused_at, leading, firsts_at, Placi
 use order::invert;
 use place::first_indexes;
 use plan::state_after;
-use reader::{Next, carries_order, read_order};
+use reader::{carries_order, read_order};
 use types::{Device, DimLists, PlanFile, Reason, Refusal, Table};
-
-#[derive(Clone, Copy)]
-pub enum PlaceAllOutcome {
-    Placed,
-    Refused(Refusal),
-}
 
 // Beside refusal 32 the place in the list, from 0, of the first device that is refused; beside every other outcome 0.
 #[derive(Clone, Copy)]
 pub struct PlacedAll {
-    pub outcome: PlaceAllOutcome,
+    pub outcome: Result<(), Refusal>,
     pub place: usize,
 }
 
@@ -36,7 +29,7 @@ fn refused(reason: Reason, place: usize) -> PlacedAll
     ensures { result ≡ refused_at reason place }
 {
     PlacedAll {
-        outcome: PlaceAllOutcome::Refused(Refusal { reason, step: 0 }),
+        outcome: Err(Refusal::outside(reason)),
         place,
     }
 }
@@ -49,18 +42,11 @@ fn has_room(devices: usize, rank: usize, room: usize) -> bool
     devices <= room / rank
 }
 
-// How many device numbers at the front of the list are below D.
-fn count_leading(devices: &[u16], most: usize) -> usize
-    ensures { result ≡ leading most devices.now }
+// The place in the list of the first device number that is not below D.
+fn first_missing(devices: &[u16], most: usize) -> Option<usize>
+    ensures { MatchOption result (leading most devices.now ≡ length devices.now) (λ i. (i ≡ leading most devices.now) × (i < length devices.now)) }
 {
-    let mut i: usize = 0;
-    while i < devices.len() {
-        if most <= devices[i] as usize {
-            return i;
-        }
-        i += 1;
-    }
-    i
+    devices.iter().position(|device| most <= *device as usize)
 }
 
 // In plain order the place of each device is its number.
@@ -68,10 +54,8 @@ fn number_places(places: &mut [u16])
     requires { length places.old ≤ most_devices }
     ensures { places.new ≡ plain_order (length places.old) }
 {
-    let mut i: usize = 0;
-    while i < places.len() {
-        places[i] = i as u16;
-        i += 1;
+    for (i, place) in places.iter_mut().enumerate() {
+        *place = i as u16;
     }
 }
 
@@ -90,18 +74,6 @@ fn find_places(file: &[u8], n: usize, places: &mut [u16])
     invert(&order[0..devices], places);
 }
 
-// The first indexes of one device, an entry for each dimension.
-fn put_indexes(out: &mut [u16], first: Table)
-    requires { (length out.old ≡ first.rank) × (first.rank ≤ most_dims) }
-    ensures { out.new ≡ sizes_of first }
-{
-    let mut d: usize = 0;
-    while d < out.len() {
-        out[d] = first.sizes[d];
-        d += 1;
-    }
-}
-
 // The first indexes of each device of the list, by its place; what stands behind them stays.
 fn put_firsts<'a>(
     mesh: &'a [u16],
@@ -116,14 +88,11 @@ fn put_firsts<'a>(
         ++ drop (length devices.now * shard.rank) out.old }
 {
     let rank = shard.rank;
-    let mut i: usize = 0;
-    while i < devices.len() {
-        let device = devices[i] as usize;
-        let first = first_indexes(mesh, dims, shard, places[device] as usize);
+    for (i, device) in devices.iter().enumerate() {
+        let place = places[*device as usize] as usize;
+        let first = first_indexes(mesh, dims, shard, place);
         let from = i * rank;
-        let end = from + rank;
-        put_indexes(&mut out[from..end], first);
-        i += 1;
+        out[from..from + rank].copy_from_slice(&first.sizes[..rank]);
     }
 }
 
@@ -131,22 +100,21 @@ fn put_firsts<'a>(
 pub fn place_all(file: &[u8], state: u16, devices: &[u16], out: &mut [u16]) -> PlacedAll
     ensures { PlaceAllPromise file.now state devices.now out.old result out.new }
 {
-    let found = state_after(file, state as usize);
-    let next = found.next;
-    let Next::At(_) = next else {
-        let refusal = next.refusal();
-        return PlacedAll {
-            outcome: PlaceAllOutcome::Refused(refusal),
-            place: 0,
-        };
+    let found = match state_after(file, state as usize) {
+        Ok(found) => found,
+        Err(refusal) => {
+            return PlacedAll {
+                outcome: Err(refusal),
+                place: 0,
+            };
+        }
     };
     let shard = found.shard;
     if !has_room(devices.len(), shard.rank, out.len()) {
         return refused(Reason::OutputTooShort, 0);
     }
-    let leading = count_leading(devices, found.devices);
-    if leading < devices.len() {
-        return refused(Reason::NoSuchDevice, leading);
+    if let Some(place) = first_missing(devices, found.devices) {
+        return refused(Reason::NoSuchDevice, place);
     }
     let n = found.mesh.n;
     let mesh = found.mesh.sizes;
@@ -163,7 +131,7 @@ pub fn place_all(file: &[u8], state: u16, devices: &[u16], out: &mut [u16]) -> P
         out,
     );
     PlacedAll {
-        outcome: PlaceAllOutcome::Placed,
+        outcome: Ok(()),
         place: 0,
     }
 }

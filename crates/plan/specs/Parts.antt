@@ -1,7 +1,7 @@
 -- What the parts of the check (src/lib.rt) ask for and answer, in the rules' own judgements: so many outermost steps in turn, the whole file, a state. A
 -- mesh is told by its n sizes, a table by the sizes up to its rank, a sharding by the lists up to the rank, a list by the axes up to its count; the
 -- places past these are free, and nothing reads them. Assumes nothing.
-use Rattle.std.specs.Prelude.{ℕ, ◌*◌, ◌≤◌, ◌≡◌, List, [], length, take}
+use Rattle.std.specs.Prelude.{ℕ, ◌*◌, ◌≤◌, ◌≡◌, List, length, take, Result, Ok, Err, IfOk}
 use Rattle.rules.specs.Mesh.{devices as devices_of, plain_order}
 use Rattle.rules.specs.Sharding.{Sharding, shard_sizes}
 use Rattle.rules.specs.Limits.{most_axes, most_devices, most_words, most_dims, most_steps, least_bytes, most_bytes, every_kind}
@@ -13,10 +13,13 @@ use Rattle.rules.specs.Calls.{CheckAnswer}
 use Rattle.types.specs.declared.Mesh.{Mesh}
 use Rattle.types.specs.declared.Sharding as code
 use Rattle.types.specs.declared.Table.{Table}
-use Rattle.reader.specs.Reading.{reading, Tells, order_in, no_lists, Counted}
+use Rattle.types.specs.Answers.{judged_as}
+use Rattle.types.specs.declared.Refusal.{Refusal}
+use Rattle.reader.specs.Reading.{order_in, Counted}
 use Rattle.laws.proofs.Accepted.{Within}
 use Rattle.judge.specs.Step.{Sharded}
 use Rattle.plan.specs.declared.Walk.{Walk}
+use Rattle.plan.specs.declared.Keeping.{Keeping}
 use Rattle.plan.specs.declared.Whole.{Whole}
 use Rattle.plan.specs.declared.State.{State}
 
@@ -65,13 +68,11 @@ walk_at mesh sizes state count file at s = do
     next = ts.next;
   })
 
-abbrev pub walk_read : ℕ → Walk → Judged (Read Walked)
-walk_read rank r = reading r.next (record {
-  sharding = sharding_of rank r.sharding;
-  kept = sharding_of rank r.kept;
-  most = r.most;
-  moved = r.moved;
-})
+abbrev pub walk_read : ℕ → Walk → Read Walked
+walk_read rank r = record {
+  value = record { sharding = sharding_of rank r.sharding; kept = sharding_of rank r.kept; most = r.most; moved = r.moved };
+  next = r.at;
+}
 
 -- ---- the whole file
 
@@ -103,10 +104,6 @@ whole_of file = do
   p ← judge file
   accept (record { value = plan_answer p; next = f.next })
 
--- beside a refusal: no axes, no dimensions, no steps
-abbrev pub no_plan : Plan
-no_plan = record { mesh = []; order = plain_order 1; sizes = []; start = no_lists 0; records = []; steps = []; runs = [] }
-
 abbrev pub whole_answer : Whole → WholeAnswer
 whole_answer w = record {
   mesh = mesh_of w.mesh;
@@ -118,16 +115,29 @@ whole_answer w = record {
   last = sharding_of w.table.rank w.last;
 }
 
-pub record WholeTells (j : Judged (Read WholeAnswer)) (w : Whole) : Type 0 where
-  pub tells : Tells (plan_answer no_plan) j w.next (whole_answer w)
-  pub counted : Counted w.devices w.mesh w.table
+abbrev pub whole_read : Whole → Read WholeAnswer
+whole_read w = record { value = whole_answer w; next = w.at }
+
+-- an answer tells a judgement; what is accepted has as many sizes as it says
+pub record WholeTells (j : Judged (Read WholeAnswer)) (r : Result Whole Refusal) : Type 0 where
+  pub tells : judged_as whole_read r ≡ j
+  pub counted : IfOk r (λ w. Counted w.devices w.mesh w.table)
 
 -- the sharding that the plan announces after so many outermost steps
 abbrev pub Keeps : List ℕ → ℕ → ℕ → code.Sharding → Type 0
 Keeps file state rank kept = (p : Plan) → judge file ≡ accept p → announced p (steps_run p state) ≡ sharding_of rank kept
 
--- w holds the plan p, whose steps begin at `at`: what the code asks of it
-pub record HoldsPlan (file : List ℕ) (at : ℕ) (w : Whole) (p : Plan) : Type 0 where
+-- of a file that was judged with a sharding kept on the way
+abbrev pub whole_kept : Result Keeping Refusal → Result Whole Refusal
+whole_kept (Ok k) = Ok k.whole
+whole_kept (Err x) = Err x
+
+pub record KeepingTells (file : List ℕ) (state : ℕ) (r : Result Keeping Refusal) : Type 0 where
+  pub whole : WholeTells (whole_of file) (whole_kept r)
+  pub keeps : IfOk r (λ k. Keeps file state k.whole.table.rank k.kept)
+
+-- w holds the plan p: what the code asks of it
+pub record HoldsPlan (file : List ℕ) (w : Whole) (p : Plan) : Type 0 where
   pub mesh_is : p.mesh ≡ mesh_of w.mesh
   pub order_is : p.order ≡ order_in file w.mesh.n w.devices
   pub sizes_are : p.sizes ≡ sizes_of w.table
@@ -138,12 +148,12 @@ pub record HoldsPlan (file : List ℕ) (at : ℕ) (w : Whole) (p : Plan) : Type 
   pub room_is : room p ≡ w.devices * w.most
   pub moved_is : words_moved p ≡ w.moved
   pub last_is : announced p (length p.steps) ≡ sharding_of w.table.rank w.last
-  pub opens : judge_front file ≡ accept (record { mesh = p.mesh; order = p.order; sizes = p.sizes; start = p.start; next = at })
+  pub opens : judge_front file ≡ accept (record { mesh = p.mesh; order = p.order; sizes = p.sizes; start = p.start; next = w.at })
   pub ready : Sharded w.mesh w.table w.start
-  pub begins : outermost_at every_kind p.mesh p.sizes file 0 w.steps 1 at p.start
+  pub begins : outermost_at every_kind p.mesh p.sizes file 0 w.steps 1 w.at p.start
       ≡ accept (record { records = p.records; steps = p.steps; runs = p.runs; next = length file })
-  pub behind : least_bytes ≤ at
-  pub inside : at ≤ length file
+  pub behind : least_bytes ≤ w.at
+  pub inside : w.at ≤ length file
   pub short : length file ≤ most_bytes
 
 -- what the check answers of it, where its numbers are within their limits
@@ -182,14 +192,13 @@ state_answer file r = record {
   shard = sizes_of r.shard;
 }
 
--- beside a refusal: no axes, so one device, no dimensions
-abbrev pub no_state : List ℕ → StateAnswer
-no_state file = record { mesh = []; order = order_in file 0 1; sizes = []; sharding = no_lists 0; shard = [] }
+abbrev pub state_read : List ℕ → State → Read StateAnswer
+state_read file r = record { value = state_answer file r; next = r.at }
 
-abbrev pub StateTells : List ℕ → Judged (Read StateAnswer) → State → Type 0
-StateTells file j r = Tells (no_state file) j r.next (state_answer file r)
+abbrev pub StateTells : List ℕ → Judged (Read StateAnswer) → Result State Refusal → Type 0
+StateTells file j r = judged_as (state_read file) r ≡ j
 
--- the counts of a state, refused or not
+-- the counts of a state
 pub record Shaped (r : State) : Type 0 where
   pub counted : Counted r.devices r.mesh r.table
   pub rank_is : r.shard.rank ≡ r.table.rank

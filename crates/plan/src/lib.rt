@@ -2,43 +2,29 @@
 // Order and numbers are those of rules/specs/PlanFile.antt; specs/Parts.antt says what the parts answer.
 #![tactic(auto)]
 
-ghost use Rattle.std.specs.Prelude.{◌≡◌, List, ℕ, ◌≤◌, ◌<◌};
+ghost use Rattle.std.specs.Prelude.{◌≡◌, ◌≤◌, ◌<◌, IfOk};
 ghost use Rattle.rules.specs.Refusals.{accept};
-ghost use Rattle.types.specs.Answers.{refused_with, checked_of};
+ghost use Rattle.types.specs.Answers.{refused_with, judged_as, checked_of};
 ghost use Rattle.types.specs.Types.{sharding_of, mesh_of, sizes_of};
 ghost use Rattle.types.specs.Promises.{CheckPromise};
 ghost use Rattle.plan.specs.Parts.{Begins, walk_at, walk_read};
-ghost use Rattle.plan.specs.Parts.{whole_of, WholeTells, Keeps, Bounded, answer_of, state_at, StateTells, Shaped};
+ghost use Rattle.plan.specs.Parts.{whole_of, WholeTells, KeepingTells, Bounded, answer_of, state_at, StateTells, Shaped};
 
 use blocks::judge_item;
 use dims::{lists_within, no_lists, shard_of, sizes_within, words};
 use opening::{Opening, open};
-use reader::{Next, Shape};
 use taking::{Extent, shard_words};
-use types::{CheckOutcome, Checked, Dim, Mesh, Reason, Refusal, Sharding, Step, Table, Totals};
+use types::{Checked, Dim, Mesh, Reason, Refusal, Sharding, Step, Table, Totals};
 
-// The sharding after some outermost steps, the one that was kept on the way, the most words that a shard had, and where the next byte is.
+// The sharding after some outermost steps, the one that was kept on the way, the most words that a shard had, the words moved between devices, and where
+// the next byte is.
 #[derive(Clone, Copy)]
 struct Walk {
-    next: Next,
+    at: usize,
     most: usize,
     moved: u64,
     sharding: Sharding,
     kept: Sharding,
-}
-
-impl Walk {
-    fn refused(refusal: Refusal, sharding: Sharding) -> Walk
-        ensures { (rank : ℕ) → walk_read rank result ≡ refused_with refusal }
-    {
-        Walk {
-            next: Next::Refused(refusal),
-            most: 0,
-            moved: 0,
-            sharding,
-            kept: sharding,
-        }
-    }
 }
 
 // The sharding to keep after one step more than k: the later one until the state is passed.
@@ -48,23 +34,18 @@ fn kept_until(state: usize, k: usize, earlier: Sharding, later: Sharding) -> Sha
     if k < state { later } else { earlier }
 }
 
-// So many outermost steps in turn, from the start; the sharding after a state's steps is kept, or the last one where there are fewer.
-fn walk_steps(
-    file: &[u8],
-    at: usize,
-    count: usize,
-    state: usize,
-    devices: usize,
-    mesh: Mesh,
-    table: Table,
-    start: Sharding,
-) -> Walk
-    requires { Begins file.now at count devices mesh table start }
-    ensures { walk_read table.rank result ≡ walk_at (mesh_of mesh) (sizes_of table) state count file.now at (sharding_of table.rank start) }
+// All outermost steps in turn, from the start; the sharding after a state's steps is kept, or the last one where there are fewer.
+fn walk_steps(file: &[u8], opening: Opening, state: usize) -> Result<Walk, Refusal>
+    requires { Begins file.now opening.at opening.steps opening.devices opening.mesh opening.table opening.start }
+    ensures { judged_as (walk_read opening.table.rank) result ≡ walk_at (mesh_of opening.mesh) (sizes_of opening.table) state opening.steps
+        file.now opening.at (sharding_of opening.table.rank opening.start) }
 {
+    let mesh = opening.mesh;
+    let table = opening.table;
+    let start = opening.start;
     let total = words(table);
     let extent = Extent {
-        devices,
+        devices: opening.devices,
         words: total,
     };
     let depth = Step::MOST_DEPTH;
@@ -72,44 +53,39 @@ fn walk_steps(
     let mut kept = start;
     let mut most = shard_words(total, mesh, table, start);
     let mut moved: u64 = 0;
-    let mut place = at;
+    let mut at = opening.at;
     let mut number: u16 = 1;
     let mut ran: usize = 0;
-    let mut k: usize = 0;
-    while k < count {
-        let item = judge_item(file, place, number, depth, mesh, table, extent, most, after);
-        let next = item.next;
-        let Next::At(end) = next else {
-            return Walk::refused(next.refusal(), start);
-        };
-        ran = ran + item.runs;
+    for k in 0..opening.steps {
+        let item = judge_item(file, at, number, depth, mesh, table, extent, most, after)?;
+        ran += item.runs;
         if Step::MOST_RUN < ran {
-            let reason = Reason::TooManyRun;
-            let step = number;
-            return Walk::refused(Refusal { reason, step }, start);
+            return Err(Refusal {
+                reason: Reason::TooManyRun,
+                step: number,
+            });
         }
-        place = end;
+        at = item.at;
         number = item.number;
         most = item.largest;
-        moved = moved + item.moved;
+        moved += item.moved;
         after = item.sharding;
         kept = kept_until(state, k, kept, after);
-        k += 1;
     }
-    Walk {
-        next: Next::At(place),
+    Ok(Walk {
+        at,
         most,
         moved,
         sharding: after,
         kept,
-    }
+    })
 }
 
 // A file that was judged whole: what stands before its steps, where these begin, the most words of a shard, the words moved between devices, and the last
 // sharding.
 #[derive(Clone, Copy)]
 pub struct Whole {
-    pub next: Next,
+    pub at: usize,
     pub devices: usize,
     pub steps: usize,
     pub most: usize,
@@ -127,90 +103,47 @@ struct Keeping {
     kept: Sharding,
 }
 
-impl Keeping {
-    // Refused, with the plan of no axes, no dimensions and no steps, whose shard is one word.
-    fn refused(refusal: Refusal) -> Keeping
-        ensures { WholeTells (refused_with refusal) result.whole }
-    {
-        let none = Opening::refused(refusal);
-        let mesh = none.mesh;
-        let table = none.table;
-        let start = none.start;
-        let whole = Whole {
-            next: Next::Refused(refusal),
-            devices: none.devices,
-            steps: 0,
-            most: 1,
-            moved: 0,
-            mesh,
-            table,
-            start,
-            last: start,
-        };
-        Keeping { whole, kept: start }
-    }
-}
-
 // The whole file; the sharding after a state's steps is kept.
-fn judge_keeping(file: &[u8], state: usize) -> Keeping
-    ensures whole_tells { WholeTells (whole_of file.now) result.whole }
-    ensures keeps { Keeps file.now state result.whole.table.rank result.kept }
+fn judge_keeping(file: &[u8], state: usize) -> Result<Keeping, Refusal>
+    ensures { KeepingTells file.now state result }
 {
-    let opening = open(file);
-    let next = opening.next;
-    let Next::At(at) = next else {
-        return Keeping::refused(next.refusal());
-    };
-    let devices = opening.devices;
-    let steps = opening.steps;
-    let mesh = opening.mesh;
-    let table = opening.table;
-    let start = opening.start;
-    let walk = walk_steps(file, at, steps, state, devices, mesh, table, start);
-    let end = walk.next;
-    let Next::At(place) = end else {
-        return Keeping::refused(end.refusal());
-    };
-    if place != file.len() {
-        return Keeping::refused(Refusal {
-            reason: Reason::BytesLeft,
-            step: 0,
-        });
+    let opening = open(file)?;
+    let walk = walk_steps(file, opening, state)?;
+    if walk.at != file.len() {
+        return Err(Refusal::outside(Reason::BytesLeft));
     }
-    let most = walk.most;
-    let moved = walk.moved;
-    let last = walk.sharding;
-    let kept = walk.kept;
     let whole = Whole {
-        next: Next::At(at),
-        devices,
-        steps,
-        most,
-        moved,
-        mesh,
-        table,
-        start,
-        last,
+        at: opening.at,
+        devices: opening.devices,
+        steps: opening.steps,
+        most: walk.most,
+        moved: walk.moved,
+        mesh: opening.mesh,
+        table: opening.table,
+        start: opening.start,
+        last: walk.sharding,
     };
-    Keeping { whole, kept }
+    Ok(Keeping {
+        whole,
+        kept: walk.kept,
+    })
 }
 
 // The whole file.
-pub fn judge_file(file: &[u8]) -> Whole
+pub fn judge_file(file: &[u8]) -> Result<Whole, Refusal>
     ensures { WholeTells (whole_of file.now) result }
 {
-    let keeping = judge_keeping(file, 0);
-    keeping.whole
+    let keeping = judge_keeping(file, 0)?;
+    Ok(keeping.whole)
 }
 
 // No lists and no sizes, beside a refusal.
 fn refused(refusal: Refusal) -> Checked
     ensures { result ≡ checked_of (refused_with refusal) }
 {
-    let sharding = no_lists();
     Checked {
-        outcome: CheckOutcome::Refused(refusal),
-        sharding,
+        outcome: Err(refusal),
+        sharding: no_lists(),
         shard: [0; Dim::MOST],
     }
 }
@@ -220,10 +153,9 @@ fn passed(whole: Whole) -> Checked
     requires { Bounded whole }
     ensures { result ≡ checked_of (accept (answer_of whole)) }
 {
-    let mesh = whole.mesh;
     let table = whole.table;
     let last = whole.last;
-    let shard = sizes_within(shard_of(table, last.dims, mesh));
+    let shard = sizes_within(shard_of(table, last.dims, whole.mesh));
     let sharding = lists_within(last, table.rank);
     let room = whole.devices * whole.most;
     let totals = Totals {
@@ -234,7 +166,7 @@ fn passed(whole: Whole) -> Checked
         moved: whole.moved,
     };
     Checked {
-        outcome: CheckOutcome::Passed(totals),
+        outcome: Ok(totals),
         sharding,
         shard,
     }
@@ -245,18 +177,16 @@ fn passed(whole: Whole) -> Checked
 pub fn check(file: &[u8]) -> Checked
     ensures { CheckPromise file.now result }
 {
-    let whole = judge_file(file);
-    let next = whole.next;
-    let Next::At(_) = next else {
-        return refused(next.refusal());
-    };
-    passed(whole)
+    match judge_file(file) {
+        Ok(whole) => passed(whole),
+        Err(refusal) => refused(refusal),
+    }
 }
 
-// A state of a plan that passed: mesh and table, the announced sharding and shard sizes.
+// A state of a plan that passed: where the plan's steps begin, mesh and table, the announced sharding and shard sizes.
 #[derive(Clone, Copy)]
 pub struct State {
-    pub next: Next,
+    pub at: usize,
     pub devices: usize,
     pub mesh: Mesh,
     pub table: Table,
@@ -264,50 +194,25 @@ pub struct State {
     pub shard: Table,
 }
 
-impl State {
-    // Refused, with no axes and no dimensions.
-    fn refused(refusal: Refusal) -> State
-        ensures { ((file : List ℕ) → StateTells file (refused_with refusal) result) × Shaped result }
-    {
-        let none = Shape::refused(refusal);
-        let mesh = none.mesh;
-        let table = none.table;
-        let sharding = Sharding::none();
-        State {
-            next: Next::Refused(refusal),
-            devices: none.devices,
-            mesh,
-            table,
-            sharding,
-            shard: table,
-        }
-    }
-}
-
 // What the plan announces after so many outermost steps; 34 where it has fewer.
-pub fn state_after(file: &[u8], state: usize) -> State
-    ensures { StateTells file.now (state_at file.now state) result × Shaped result }
+pub fn state_after(file: &[u8], state: usize) -> Result<State, Refusal>
+    ensures { StateTells file.now (state_at file.now state) result × IfOk result Shaped }
 {
-    let keeping = judge_keeping(file, state);
+    let keeping = judge_keeping(file, state)?;
     let whole = keeping.whole;
-    let next = whole.next;
-    let Next::At(first) = next else {
-        return State::refused(next.refusal());
-    };
     if whole.steps < state {
-        let reason = Reason::NoSuchState;
-        return State::refused(Refusal { reason, step: 0 });
+        return Err(Refusal::outside(Reason::NoSuchState));
     }
     let mesh = whole.mesh;
     let table = whole.table;
     let sharding = keeping.kept;
     let shard = shard_of(table, sharding.dims, mesh);
-    State {
-        next: Next::At(first),
+    Ok(State {
+        at: whole.at,
         devices: whole.devices,
         mesh,
         table,
         sharding,
         shard,
-    }
+    })
 }

@@ -9,8 +9,8 @@ use types::{PlanFile, Reason, Refusal};
 
 fn main(rt: HostRuntime) {
     if has_argument(&rt) {
-        let _ = rt.eprintln(
-            "plancheck reads standard input and takes no argument: plancheck < FILE",
+        let _ = eprintln!(&rt;
+            "plancheck reads standard input and takes no argument: plancheck < FILE"
         );
         return;
     }
@@ -18,13 +18,7 @@ fn main(rt: HostRuntime) {
     let mut buffer = [0u8; PlanFile::MOST];
     let n = read_full(&mut input, &mut buffer);
     if n == PlanFile::MOST && more_input(&mut input) {
-        print_refusal(
-            &rt,
-            Refusal {
-                reason: Reason::FileTooLong,
-                step: 0,
-            },
-        );
+        print_refusal(&rt, Refusal::outside(Reason::FileTooLong));
         return;
     }
     print_answer(&rt, &buffer[..n]);
@@ -33,10 +27,7 @@ fn main(rt: HostRuntime) {
 // Argument 0 is the program's own name. One that doesn't fit the buffer is there too.
 fn has_argument(rt: &impl Env) -> bool {
     let mut text = [0u8; 1];
-    match rt.arg(1, &mut text) {
-        Err(FillError::NotPresent) => false,
-        _ => true,
-    }
+    !matches!(rt.arg(1, &mut text), Err(FillError::NotPresent))
 }
 
 // One byte past a full buffer tells a longer input from one that just fits.

@@ -3,8 +3,8 @@ use Prim.Native.Nat.{ℕ, ◌≤◌}
 use mathlib.Core.Path.{◌≡◌, refl, sym, ap, ◌∙◌}
 use mathlib.Core.Bool.{Bool, true, false}
 use mathlib.Core.List.{List, [], ◌∷◌}
-use native.Mathlib.Omega.{arith}
 use lib.ListN.{length}
+use Rattle.std.specs.Prelude.{Result, Ok, Err}
 use Rattle.rules.specs.Limits.{most_axes, most_dims}
 use Rattle.rules.specs.Sharding.{Sharding}
 use Rattle.rules.specs.Refusals.{Judged, accept, refuse, ◌>>◌}
@@ -17,10 +17,6 @@ use Rattle.types.specs.declared.Refusal.{Refusal}
 use Rattle.types.specs.declared.Sharding as code
 use Rattle.laws.proofs.Judging.{then-inv, then-assoc}
 use Rattle.types.proofs.Refusals.{refusal-told}
-use Rattle.start.specs.Start.{meaning}
-use Rattle.start.specs.Start as verdicts
-use Rattle.start.specs.declared.Verdict.{Verdict}
-use Rattle.start.specs.declared.Verdict.TheVariants as verdict
 use Rattle.records.specs.Writing.{judge_counts, judge_sharding}
 use Rattle.records.specs.Forms.{sharding_given}
 use Rattle.records.specs.Records.{Records}
@@ -34,8 +30,9 @@ use Rattle.given.proofs.Whole.{axes_few, dims-few}
 use Rattle.given.proofs.Counts.{sharding-fits}
 use Rattle.records.specs.declared.Planned.{Planned}
 use Rattle.records.specs.declared.Steps.{Steps}
-use Rattle.records.specs.declared.PlanOutcome.TheVariants as outcome
-use Rattle.records.specs.PlanAnswer.{steps_from, steps_planned, planned_of}
+use Rattle.records.specs.PlanAnswer.{steps_from, step_count, steps_planned, planned_of}
+use Rattle.records.proofs.Accepting.{plan-few}
+use Rattle.planner.proofs.Three.{all-counted}
 use Rattle.planner.specs.Routes.{judge_route}
 
 -- ---- 40
@@ -54,24 +51,20 @@ pub in_reach : (s g : Sharding) {b c : Bool} → b ≡ all_in g.unreduced s.unre
 unfolding reachable
 in_reach s g e f h k = rw (sym e ∙ f, sym h ∙ k) refl
 
--- a refusal stays one, whatever follows
-halts : {j : Judged (Unit {0})} (rest : Judged (Unit {0})) {v : Verdict} {x : Refusal} → meaning v ≡ j → v ≡ verdict.Refused x → meaning v ≡ ◌>>◌ j rest
-halts {j} rest {v} {x} e f = ap meaning f ∙ ap (λ (i : Judged (Unit {0})). ◌>>◌ i rest) (ap meaning (sym f) ∙ e)
-
 -- a sharding judged for the mesh and the table of sizes that passed
-pub sharding-judged : (mesh order sizes : List ℕ) → judge_shape mesh order sizes 0 ≡ accept tt → (m : Mesh) (t : Table) (s : code.Sharding) → m ≡ mesh_from mesh → t ≡ table_from sizes
-    → (v : Verdict) → meaning v ≡ judge_sharding (mesh_of m) (sizes_of t) (sharding_given t.rank s) → meaning v ≡ judge_sharding mesh sizes (sharding_given (length sizes) s)
-sharding-judged mesh order sizes h m t s a b v e =
-    let p = mesh_is mesh (axes_few mesh order sizes 0 h) a in
-    let q = table_is sizes (dims-few mesh order sizes 0 h) b in
-    e ∙ (λ i. judge_sharding (p.0 i) (q.0 i) (sharding_given (q.1 i) s))
+pub sharding-judged : (mesh order sizes : List ℕ) → accept tt ≡ judge_shape mesh order sizes 0 → (m : Mesh) (t : Table) (s : code.Sharding) → m ≡ mesh_from mesh → t ≡ table_from sizes
+    → judge_sharding (mesh_of m) (sizes_of t) (sharding_given t.rank s) ≡ judge_sharding mesh sizes (sharding_given (length sizes) s)
+sharding-judged mesh order sizes h m t s a b =
+    let p = mesh_is mesh (axes_few mesh order sizes 0 (sym h)) a in
+    let q = table_is sizes (dims-few mesh order sizes 0 (sym h)) b in
+    λ i. judge_sharding (p.0 i) (q.0 i) (sharding_given (q.1 i) s)
 
 -- outcomes
-same-refusal : {x y : Refusal} → outcome.Refused x ≡ outcome.Refused y → x ≡ y
+same-refusal : {x y : Refusal} → ◌≡◌ {A = Result (Unit {0}) Refusal} (Err x) (Err y) → x ≡ y
 same-refusal p = cc
 
-made-refused : {x : Refusal} → outcome.Made ≡ outcome.Refused x → ⊥
-made-refused p = let z : ◌≡◌ {A = ℕ} 0 1 = cc in omega arith
+made-refused : {x : Refusal} → ◌≡◌ {A = Result (Unit {0}) Refusal} (Ok tt) (Err x) → ⊥
+made-refused p = cc
 
 -- ---- the tests in turn
 
@@ -81,18 +74,6 @@ module _ (mesh order sizes : List ℕ) (start goal : code.Sharding) where
 
   abbrev G : Sharding
   G = sharding_given (length sizes) goal
-
-  module _ {v : Verdict} {x : Refusal} where
-    pub shape-halts : meaning v ≡ judge_shape mesh order sizes 0 → v ≡ verdict.Refused x → meaning v ≡ judge_route mesh order sizes start goal
-    shape-halts e f = halts (◌>>◌ (judge_sharding mesh sizes S) (◌>>◌ (judge_sharding mesh sizes G) (reachable S G))) e f
-
-    pub start-halts : judge_shape mesh order sizes 0 ≡ accept tt → meaning v ≡ judge_sharding mesh sizes S → v ≡ verdict.Refused x
-        → meaning v ≡ judge_route mesh order sizes start goal
-    start-halts s e f = rw s (halts (◌>>◌ (judge_sharding mesh sizes G) (reachable S G)) e f)
-
-    pub goal-halts : judge_shape mesh order sizes 0 ≡ accept tt → judge_sharding mesh sizes S ≡ accept tt → meaning v ≡ judge_sharding mesh sizes G
-        → v ≡ verdict.Refused x → meaning v ≡ judge_route mesh order sizes start goal
-    goal-halts s o e f = rw (s, o) (halts (reachable S G) e f)
 
   -- a sharding that passed has no list past its places
   fits : (s : code.Sharding) → length mesh ≤ most_axes → judge_sharding mesh sizes (sharding_given (length sizes) s) ≡ accept tt
@@ -104,9 +85,9 @@ module _ (mesh order sizes : List ℕ) (start goal : code.Sharding) where
       let o = then-inv (judge_counts (length mesh) (z.unreduced ∷ z.replicated ∷ [])) _ tt d.1 in
       sharding-fits (length mesh) (length sizes) s n d.0.1 o.0.1
 
-  pub reach-decides : length mesh ≤ most_axes → judge_shape mesh order sizes 0 ≡ accept tt → judge_sharding mesh sizes S ≡ accept tt → judge_sharding mesh sizes G ≡ accept tt
-      → (v : Verdict) → meaning v ≡ reachable (sharding_of (length sizes) start) (sharding_of (length sizes) goal) → meaning v ≡ judge_route mesh order sizes start goal
-  reach-decides n s o q v e = rw (s, o, q) (e ∙ (λ i. reachable (sym (fits start n o) i) (sym (fits goal n q) i)))
+  pub reach-decides : length mesh ≤ most_axes → accept tt ≡ judge_sharding mesh sizes S → accept tt ≡ judge_sharding mesh sizes G
+      → reachable (sharding_of (length sizes) start) (sharding_of (length sizes) goal) ≡ reachable S G
+  reach-decides n o q = λ i. reachable (sym (fits start n (sym o)) i) (sym (fits goal n (sym q)) i)
 
   -- ---- the answer
 
@@ -114,37 +95,35 @@ module _ (mesh order sizes : List ℕ) (start goal : code.Sharding) where
   abbrev pub Answered : Planned → Type 0
   Answered r =
       (r ≡ planned_of (steps_planned mesh order sizes start goal))
-      × ((x : Refusal) → r.outcome ≡ outcome.Refused x → steps_planned mesh order sizes start goal ≡ refused_with x)
+      × ((x : Refusal) → r.outcome ≡ Err x → steps_planned mesh order sizes start goal ≡ refused_with x)
 
   -- the definition makes the same tests
   planned-is : steps_planned mesh order sizes start goal ≡ ◌>>◌ (judge_route mesh order sizes start goal) (accept (plan_steps S G))
   unfolding plan_of
   planned-is = simp then-assoc refl
 
-  module _ (v : Verdict) (x : Refusal) (e : meaning v ≡ judge_route mesh order sizes start goal) (f : v ≡ verdict.Refused x) where
-    plan-stops : steps_planned mesh order sizes start goal ≡ refused_with x
-    plan-stops = planned-is ∙ ap (λ (i : Judged (Unit {0})). ◌>>◌ i (accept (plan_steps S G))) (sym e ∙ ap meaning f)
-
-    pub plan-refused : {t : Refusal} → t ≡ verdicts.refusal_of v → {none : Steps} → none ≡ steps_from [] → Answered (record { outcome = outcome.Refused t; plan = none })
-    plan-refused {t} q {none} n =
-        let w : t ≡ x = q ∙ ap verdicts.refusal_of f in
-        let u : t ≡ refusal_of (number_of x.reason) x.step = w ∙ sym (refusal-told x) in (
-          (λ i. record { outcome = outcome.Refused (u i); plan = n i }) ∙ sym (ap planned_of plan-stops),
-          (λ y p. plan-stops ∙ ap (λ (z : Refusal). refused_with z) (sym w ∙ same-refusal p)),
-        )
+  pub plan-refused : (x : Refusal) → refused_with x ≡ judge_route mesh order sizes start goal → {none : Steps} → none ≡ steps_from []
+      → Answered (record { outcome = Err x; plan = none })
+  plan-refused x e {none} n =
+      let stops : steps_planned mesh order sizes start goal ≡ refused_with x =
+      planned-is ∙ ap (λ (i : Judged (Unit {0})). ◌>>◌ i (accept (plan_steps S G))) (sym e) in
+      let u : x ≡ refusal_of (number_of x.reason) x.step = sym (refusal-told x) in (
+        (λ i. record { outcome = Err (u i); plan = n i }) ∙ sym (ap planned_of stops),
+        (λ y p. stops ∙ ap (λ (z : Refusal). refused_with z) (same-refusal p)),
+      )
 
   pub route-rank : judge_route mesh order sizes start goal ≡ accept tt → length sizes ≤ most_dims
   route-rank e = dims-few mesh order sizes 0 (then-inv (judge_shape mesh order sizes 0) _ tt e).0.1
 
   pub plan-made : judge_route mesh order sizes start goal ≡ accept tt → {made : Steps}
       → made ≡ steps_from (plan_steps (sharding_of (length sizes) start) (sharding_of (length sizes) goal))
-      → Answered (record { outcome = outcome.Made; plan = made })
+      → Answered (record { outcome = Ok tt; plan = made })
   plan-made e {made} q =
       let s = then-inv (judge_shape mesh order sizes 0) _ tt e in
       let n : length mesh ≤ most_axes = axes_few mesh order sizes 0 s.0.1 in
       let o = then-inv (judge_sharding mesh sizes S) _ tt s.1 in
       let g = then-inv (judge_sharding mesh sizes G) _ tt o.1 in (
-        ap (λ (z : Steps). record { outcome = outcome.Made; plan = z }) (q ∙ (λ i. steps_from (plan_steps (sym (fits start n o.0.1) i) (sym (fits goal n g.0.1) i))))
+        ap (λ (z : Steps). record { outcome = Ok tt; plan = z }) (q ∙ (λ i. steps_from (plan_steps (sym (fits start n o.0.1) i) (sym (fits goal n g.0.1) i))))
             ∙ sym (ap planned_of (planned-is ∙ ap (λ (i : Judged (Unit {0})). ◌>>◌ i (accept (plan_steps S G))) e)),
         (λ y p. absurd (made-refused p)),
       )
@@ -160,9 +139,11 @@ plan-promise mesh order sizes m o t start goal r e = record {
       let s : Sharding = S mesh order sizes start goal in
       let g : Sharding = G mesh order sizes start goal in
       let p = planner-promise mesh order sizes m o t s g rs a in
+      let answered : r ≡ planned_of (accept (plan_steps s g)) = e.0 ∙ ap (λ (j : Judged Records). planned_of (◌>>◌ j (accept (plan_steps s g)))) a in
       record {
         steps = plan_steps s g;
-        answered = e.0 ∙ ap (λ (j : Judged Records). planned_of (◌>>◌ j (accept (plan_steps s g)))) a;
+        answered = answered;
+        counted = ap (λ (z : Planned). step_count z.plan) answered ∙ all-counted (plan_steps s g) (plan-few s g);
         all = plan-steps mesh order sizes s g rs a;
         given = plan-again mesh order sizes s g rs a;
         plan = p.0;

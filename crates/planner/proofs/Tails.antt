@@ -1,11 +1,11 @@
 -- Laws of common beginnings and of what stands behind them. Assumes nothing.
-use Prim.Native.Nat.{ℕ, suc, ◌+◌, ◌≤◌, ◌<◌}
+use Prim.Native.Nat.{ℕ, suc, ◌+◌, ◌≤◌, ◌<◌, min}
 use mathlib.Core.Path.{◌≡◌, refl, sym, ap, ap₂, ◌∙◌}
 use mathlib.Core.Logic.{◌≢◌}
 use mathlib.Core.Bool.{Bool}
 use mathlib.Core.List.{List, [], ◌∷◌, ◌++◌}
 use native.Mathlib.Omega.{arith}
-use native.Mathlib.Decide.{ℕ_discrete}
+use native.Mathlib.Decide.{ℕ_discrete, dec_lt}
 use native.Mathlib.Numerals.{add-one}
 use borrow.Author.Tests.{eq-eqb, ne_eqb}
 use lib.ListN.{length, get_or, take, drop, drop_of_length-le, length-take, length-drop}
@@ -35,6 +35,14 @@ module _ {s g : List ℕ} {i : ℕ} (c : Common s g i) where
 
   pub start-ends : length s ≤ i → i ≡ common s g
   start-ends h = sym (c.same ∙ ap (λ (l : List ℕ). i + common l (drop i g)) (drop_of_length-le s {i = i} h) ∙ omega arith)
+
+  -- where either ends
+  pub one-ends : {n : ℕ} → n ≡ min (length s) (length g) → n ≡ i → n ≡ common s g
+  one-ends {n} e h = h ∙ go (dec_lt i (length g))
+    where
+      go : Dec (i < length g) → i ≡ common s g
+      go (yes l) = start-ends (omega (arith, e, h))
+      go (no l) = goal-ends (omega arith)
 
   module _ (hs : i < length s) (hg : i < length g) {a b : ℕ} (ea : a ≡ get_or s i 0) (eb : b ≡ get_or g i 0) where
     here : common s g ≡ i + pick (eqb a b) (suc (common (drop (i + 1) s) (drop (i + 1) g))) 0

@@ -1,5 +1,5 @@
 -- Laws of at most three steps in their places. Assumes nothing.
-use Prim.Native.Nat.{ℕ, suc, ◌+◌, ◌<◌}
+use Prim.Native.Nat.{◌≤◌, ℕ, suc, ◌<◌}
 use mathlib.Core.Path.{◌≡◌, refl, sym, ap, ◌∙◌, subst}
 use mathlib.Core.Bool.{Bool, true, false, not}
 use mathlib.Core.List.{List, [], ◌∷◌, ◌++◌}
@@ -7,6 +7,7 @@ use native.Mathlib.Omega.{arith}
 use borrow.Author.Tests.{eq-eqb, ne_eqb}
 use lib.ListN.{length, set}
 use lib.Dec.{eqb}
+use Rattle.std.specs.Prelude.{Some}
 use Rattle.rules.specs.Lists.{pick, flat}
 use Rattle.rules.specs.Sharding.{Sharding}
 use Rattle.rules.specs.Collectives.{Step, all_slice, all_gather, all_reduce}
@@ -14,23 +15,39 @@ use Rattle.rules.specs.PlanFile.{some}
 use Rattle.types.specs.declared.Step as code
 use Rattle.records.specs.Planning.{to_reduce, to_gather, to_slice, if_naming, plan_steps}
 use Rattle.records.specs.declared.Steps.{Steps}
-use Rattle.records.specs.PlanAnswer.{step_record_of, steps_from}
+use Rattle.records.specs.PlanAnswer.{step_record_of, steps_from, step_count}
 
 -- one step more in the first place that is free
 pub one_more : (ts : List Step) (t : Step) → length ts < 3
-    → ◌≡◌ {A = Steps} (record { count = (steps_from ts).count + 1; steps = set (steps_from ts).steps (steps_from ts).count (step_record_of t) }) (steps_from (ts ++ t ∷ []))
+    → ◌≡◌ {A = Steps} (record { 0 = set (steps_from ts).0 (step_count (steps_from ts)) (Some (step_record_of t)) }) (steps_from (ts ++ t ∷ []))
 unfolding steps_from
 one_more [] t h = refl
 one_more (a ∷ []) t h = refl
 one_more (a ∷ b ∷ []) t h = refl
 one_more (a ∷ b ∷ c ∷ ts) t h = absurd (omega arith)
 
-pub more : (s : Steps) (x : code.Step) → s.count < 3 → (ts : List Step) (t : Step) → s ≡ steps_from ts → x ≡ step_record_of t → {b : Bool} → b ≡ true
-    → record { count = s.count + 1; steps = set s.steps s.count x } ≡ steps_from (pick b (ts ++ t ∷ []) ts)
+-- how many there are, where a place is free
+room : (ts : List Step) → step_count (steps_from ts) < 3 → length ts < 3
 unfolding steps_from
-more s x h ts t e f {b} q =
-    let l : length ts < 3 = subst (λ (z : Steps). z.count < 3) e h in
-    (λ i. record { count = (e i).count + 1; steps = set (e i).steps (e i).count (f i) }) ∙ one_more ts t l
+room [] h = omega arith
+room (a ∷ []) h = omega arith
+room (a ∷ b ∷ []) h = omega arith
+room (a ∷ b ∷ c ∷ ts) h = absurd (omega (arith, h))
+
+-- none of at most three is lost
+pub all-counted : (ts : List Step) → length ts ≤ 3 → step_count (steps_from ts) ≡ length ts
+unfolding steps_from
+all-counted [] h = refl
+all-counted (a ∷ []) h = refl
+all-counted (a ∷ b ∷ []) h = refl
+all-counted (a ∷ b ∷ c ∷ []) h = refl
+all-counted (a ∷ b ∷ c ∷ d ∷ ts) h = absurd (omega (arith, h))
+
+pub more : (s : Steps) (x : code.Step) (n : ℕ) → n ≡ step_count s → step_count s < 3 → (ts : List Step) (t : Step) → s ≡ steps_from ts → x ≡ step_record_of t
+    → {b : Bool} → b ≡ true → record { 0 = set s.0 n (Some x) } ≡ steps_from (pick b (ts ++ t ∷ []) ts)
+more s x n n-is h ts t e f {b} q =
+    let l : length ts < 3 = room ts (subst (λ (z : Steps). step_count z < 3) e h) in
+    (λ i. record { 0 = set (e i).0 ((n-is ∙ ap step_count e) i) (Some (f i)) }) ∙ one_more ts t l
     ∙ ap (λ (z : Bool). steps_from (pick z (ts ++ t ∷ []) ts)) (sym q)
 
 pub kept : (s : Steps) (ts : List Step) (t : Step) → s ≡ steps_from ts → {b : Bool} → b ≡ false → s ≡ steps_from (pick b (ts ++ t ∷ []) ts)
@@ -60,21 +77,21 @@ first_of a x = pick a ([] ++ x ∷ []) []
 abbrev pub second_of : (a b : Bool) → (x y : Step) → List Step
 second_of a b x y = pick b (first_of a x ++ y ∷ []) (first_of a x)
 
-pub none-room : {s : Steps} → s ≡ steps_from [] → s.count < 3
+pub none-room : {s : Steps} → s ≡ steps_from [] → step_count s < 3
 unfolding steps_from
-none-room e = subst (λ (z : Steps). z.count < 3) (sym e) (omega arith)
+none-room e = subst (λ (z : Steps). step_count z < 3) (sym e) (omega arith)
 
-pub first-room : (a : Bool) (x : Step) {s : Steps} → s ≡ steps_from (first_of a x) → s.count < 3
+pub first-room : (a : Bool) (x : Step) {s : Steps} → s ≡ steps_from (first_of a x) → step_count s < 3
 unfolding steps_from
-first-room true x e = subst (λ (z : Steps). z.count < 3) (sym e) (omega arith)
-first-room false x e = subst (λ (z : Steps). z.count < 3) (sym e) (omega arith)
+first-room true x e = subst (λ (z : Steps). step_count z < 3) (sym e) (omega arith)
+first-room false x e = subst (λ (z : Steps). step_count z < 3) (sym e) (omega arith)
 
-pub second-room : (a b : Bool) (x y : Step) {s : Steps} → s ≡ steps_from (second_of a b x y) → s.count < 3
+pub second-room : (a b : Bool) (x y : Step) {s : Steps} → s ≡ steps_from (second_of a b x y) → step_count s < 3
 unfolding steps_from
-second-room true true x y e = subst (λ (z : Steps). z.count < 3) (sym e) (omega arith)
-second-room true false x y e = subst (λ (z : Steps). z.count < 3) (sym e) (omega arith)
-second-room false true x y e = subst (λ (z : Steps). z.count < 3) (sym e) (omega arith)
-second-room false false x y e = subst (λ (z : Steps). z.count < 3) (sym e) (omega arith)
+second-room true true x y e = subst (λ (z : Steps). step_count z < 3) (sym e) (omega arith)
+second-room true false x y e = subst (λ (z : Steps). step_count z < 3) (sym e) (omega arith)
+second-room false true x y e = subst (λ (z : Steps). step_count z < 3) (sym e) (omega arith)
+second-room false false x y e = subst (λ (z : Steps). step_count z < 3) (sym e) (omega arith)
 
 pub three-steps : (start goal : Sharding) {a b c : Bool} {L : List ℕ} {Gs Ss : List (List ℕ)}
     → L ≡ to_reduce start goal → Gs ≡ to_gather start goal → Ss ≡ to_slice start goal → a ≡ some L → b ≡ some (flat Gs) → c ≡ some (flat Ss)

@@ -5,12 +5,11 @@
 ghost use Rattle.std.specs.Prelude.{◌≡◌, List, [], ◌∷◌, ◌++◌, ℕ, ◌≤◌, ◌<◌, length, take, drop};
 ghost use Rattle.rules.specs.Lists.{each, pick};
 ghost use Rattle.rules.specs.Limits.{most_dims};
-ghost use Rattle.rules.specs.Collectives.{all_slice, all_gather, all_reduce};
 ghost use Rattle.rules.specs.Collectives as rules;
 ghost use Rattle.types.specs.Types.{axes_of, dims_of, sharding_of};
-ghost use Rattle.start.specs.Start.{meaning};
+ghost use Rattle.types.specs.Answers.{judged};
 ghost use Rattle.records.specs.Planning.{common as common_of, rest_of_start, plan_steps, reachable};
-ghost use Rattle.records.specs.PlanAnswer.{step_record_of, steps_from};
+ghost use Rattle.records.specs.PlanAnswer.{step_record_of, steps_from, step_count};
 ghost use Rattle.records.specs.Promises.{PlanPromise};
 ghost use Rattle.planner.specs.Routes.{judge_route};
 
@@ -18,29 +17,20 @@ use axes::{all_in, without};
 use blocks::same_list;
 use dims::{dims_within, names_axis};
 use given::{judge_shape, judge_sharding, mesh_of, table_of};
-use records::{PlanOutcome, Planned, Steps};
-use start::{Verdict, refusal_of, refused};
-use types::{AxisList, Dim, DimLists, Kind, Reason, Sharding, Step};
+use records::{Planned, Steps};
+use types::{AxisList, Dim, DimLists, Reason, Refusal, Sharding, Step};
 
 // How many axes two lists have in common from their beginning on.
 fn common(start: AxisList, goal: AxisList) -> usize
     ensures { result ≡ common_of (axes_of start) (axes_of goal) }
 {
-    let count = start.len();
-    let other = goal.len();
-    let mut i: usize = 0;
-    while i < count {
-        if other <= i {
+    let count = start.len().min(goal.len());
+    for i in 0..count {
+        if start.at(i) != goal.at(i) {
             return i;
         }
-        let a = start.at(i);
-        let b = goal.at(i);
-        if a.0 != b.0 {
-            return i;
-        }
-        i += 1;
     }
-    i
+    count
 }
 
 // A list without its first axes; what stands past its end is free.
@@ -48,13 +38,9 @@ fn rest(list: AxisList, from: usize) -> AxisList
     requires { from ≤ length (axes_of list) }
     ensures { axes_of result ≡ drop from (axes_of list) }
 {
-    let count = list.len();
     let mut tail = AxisList::empty();
-    let mut i = from;
-    while i < count {
-        let axis = list.at(i);
-        tail = tail.with(axis);
-        i += 1;
+    for i in from..list.len() {
+        tail = tail.with(list.at(i));
     }
     tail
 }
@@ -66,89 +52,33 @@ fn rests(start: DimLists, goal: DimLists, rank: usize) -> DimLists
         × (drop rank (dims_of result) ≡ drop rank (dims_of start)) }
 {
     let mut next = start;
-    let mut d: usize = 0;
-    while d < rank {
+    for d in 0..rank {
         let dim = Dim(d as u8);
         let list = start.at(dim);
         let other = goal.at(dim);
         let shared = common(list, other);
         let tail = rest(list, shared);
         next = next.with(dim, tail);
-        d += 1;
     }
     next
-}
-
-// An all-reduce, every place of it fixed.
-fn reduce_of(list: AxisList) -> Step
-    ensures { result ≡ step_record_of (all_reduce (axes_of list)) }
-{
-    let none = DimLists::empty();
-    Step {
-        kind: Kind::AllReduce,
-        source: Dim(0),
-        target: Dim(0),
-        lists: dims_within(none, 0),
-        list: list.cleared(),
-    }
-}
-
-// An all-gather, and an all-slice, of a table of a rank.
-fn gather_of(lists: DimLists, rank: usize) -> Step
-    ensures { result ≡ step_record_of (all_gather (take rank (dims_of lists))) }
-{
-    let none = AxisList::empty();
-    Step {
-        kind: Kind::AllGather,
-        source: Dim(0),
-        target: Dim(0),
-        lists: dims_within(lists, rank),
-        list: none.cleared(),
-    }
-}
-
-fn slice_of(lists: DimLists, rank: usize) -> Step
-    ensures { result ≡ step_record_of (all_slice (take rank (dims_of lists))) }
-{
-    let none = AxisList::empty();
-    Step {
-        kind: Kind::AllSlice,
-        source: Dim(0),
-        target: Dim(0),
-        lists: dims_within(lists, rank),
-        list: none.cleared(),
-    }
 }
 
 // No steps.
 fn no_steps() -> Steps
     ensures { result ≡ steps_from [] }
 {
-    let lists = DimLists::empty();
-    let list = AxisList::empty();
-    let step = Step {
-        kind: Kind::Unknown,
-        source: Dim(0),
-        target: Dim(0),
-        lists: dims_within(lists, 0),
-        list: list.cleared(),
-    };
-    Steps {
-        count: 0,
-        steps: [step; 3],
-    }
+    Steps([None; 3])
 }
 
 // One step more, unless it names no axis.
 fn with_step(steps: Steps, step: Step, naming: bool) -> Steps
-    requires { steps.count < 3 }
+    requires { step_count steps < 3 }
     ensures { (ts : List rules.Step) (t : rules.Step) → steps ≡ steps_from ts → step ≡ step_record_of t → result ≡ steps_from (pick naming (ts ++ t ∷ []) ts) }
 {
     let mut next = steps;
     if naming {
-        let at = steps.count;
-        next.steps[at] = step;
-        next.count = at + 1;
+        let at = steps.count();
+        next.0[at] = Some(step);
     }
     next
 }
@@ -162,22 +92,22 @@ pub fn plan_steps(start: Sharding, goal: Sharding, rank: usize) -> Steps
     let off = rests(start.dims, goal.dims, rank);
     let on = rests(goal.dims, start.dims, rank);
     let none = no_steps();
-    let one = with_step(none, reduce_of(list), list.len() != 0);
-    let two = with_step(one, gather_of(off, rank), names_axis(off, rank));
-    with_step(two, slice_of(on, rank), names_axis(on, rank))
+    let reduce = Step::AllReduce(list.cleared());
+    let gather = Step::AllGather(dims_within(off, rank));
+    let slice = Step::AllSlice(dims_within(on, rank));
+    let one = with_step(none, reduce, list.len() != 0);
+    let two = with_step(one, gather, names_axis(off, rank));
+    with_step(two, slice, names_axis(on, rank))
 }
 
 // 40: the goal has an unreduced axis that the start lacks, or another replicated list.
-fn judge_reach(start: Sharding, goal: Sharding) -> Verdict
-    ensures { (rank : ℕ) → meaning result ≡ reachable (sharding_of rank start) (sharding_of rank goal) }
+fn judge_reach(start: Sharding, goal: Sharding) -> Result<(), Refusal>
+    ensures { (rank : ℕ) → judged result ≡ reachable (sharding_of rank start) (sharding_of rank goal) }
 {
-    if !all_in(goal.unreduced, start.unreduced) {
-        return refused(Reason::GoalOutOfReach, 0);
+    if !all_in(goal.unreduced, start.unreduced) || !same_list(start.replicated, goal.replicated) {
+        return Err(Refusal::outside(Reason::GoalOutOfReach));
     }
-    if !same_list(start.replicated, goal.replicated) {
-        return refused(Reason::GoalOutOfReach, 0);
-    }
-    Verdict::Fine
+    Ok(())
 }
 
 // All that a plan is asked for: mesh, order and table, the start, the goal, and that it can be reached.
@@ -187,27 +117,19 @@ fn judge_route<'a>(
     table: &'a [u16],
     start: Sharding,
     goal: Sharding,
-) -> Verdict
-    ensures { meaning result ≡ judge_route mesh.now order.now table.now start goal }
+) -> Result<(), Refusal>
+    ensures { judged result ≡ judge_route mesh.now order.now table.now start goal }
 {
-    let shape = judge_shape(mesh, order, table, 0);
-    let Verdict::Fine = shape else {
-        return shape;
-    };
+    judge_shape(mesh, order, table, 0)?;
     let m = mesh_of(mesh);
     let t = table_of(table);
-    let first = judge_sharding(start, m, t);
-    let Verdict::Fine = first else {
-        return first;
-    };
-    let second = judge_sharding(goal, m, t);
-    let Verdict::Fine = second else {
-        return second;
-    };
+    judge_sharding(start, m, t)?;
+    judge_sharding(goal, m, t)?;
     judge_reach(start, goal)
 }
 
 // The plan from one sharding to another.
+// Stays: (a) mesh, order, table, start and goal one by one, as ishkrela's `plan` and its promise `PlanPromise` name them.
 pub fn plan<'a>(
     mesh: &'a [u16],
     order: &'a [u16],
@@ -217,15 +139,14 @@ pub fn plan<'a>(
 ) -> Planned
     ensures { PlanPromise mesh.now order.now table.now start goal result }
 {
-    let verdict = judge_route(mesh, order, table, start, goal);
-    let Verdict::Fine = verdict else {
-        return Planned {
-            outcome: PlanOutcome::Refused(refusal_of(verdict)),
+    match judge_route(mesh, order, table, start, goal) {
+        Ok(()) => Planned {
+            outcome: Ok(()),
+            plan: plan_steps(start, goal, table.len()),
+        },
+        Err(refusal) => Planned {
+            outcome: Err(refusal),
             plan: no_steps(),
-        };
-    };
-    Planned {
-        outcome: PlanOutcome::Made,
-        plan: plan_steps(start, goal, table.len()),
+        },
     }
 }

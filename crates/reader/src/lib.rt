@@ -2,18 +2,15 @@
 // What each function answers is a definition of rules/specs/PlanFile.antt; specs/Reading.antt says what the answers stand for.
 #![tactic(auto)]
 
-ghost use Rattle.std.specs.Prelude.{◌≡◌, ◌&&◌, List, ℕ, ◌+◌, ◌*◌, ◌≤◌, ◌<◌, length, get_or, take, drop, leb};
+ghost use Rattle.std.specs.Prelude.{◌≡◌, ◌&&◌, List, ℕ, ◌+◌, ◌*◌, ◌≤◌, length, get_or, take, leb, IfOk};
 ghost use Rattle.rules.specs.Lists.{tab, product};
 ghost use Rattle.rules.specs.Limits.{most_axes, most_devices, most_dims, most_words, most_bytes, latest_edition};
-ghost use Rattle.rules.specs.Refusals.{accept, refuse};
-ghost use Rattle.types.specs.Answers.{number_of, refused_with};
-ghost use Rattle.rules.specs.PlanFile.{u16_at, edition, sizes_at, carries_order, order_at, mesh_and_table_at, list_read_at, lists_at, carries_replicated, replicated_at, sharding_at};
-ghost use Rattle.rules.specs.PlanFile.{kind_of, lists_of, step_at};
-ghost use Rattle.types.specs.Types.{sizes_of};
-ghost use Rattle.rules.specs.PlanFile.{AllReduce, AllToAll};
-ghost use Rattle.types.specs.Types.{kind_meaning, kind_from};
-ghost use Rattle.reader.specs.Reading.{byte_at, next_refusal, numbers_of, header_of, header_judged, header_refusal};
-ghost use Rattle.reader.specs.Reading.{reading, SizesTell, order_of, mesh_at, NoShape, shape_read, ShapeTells, list_read, lists_read, ShardingTells, StepTells, PerDim};
+ghost use Rattle.rules.specs.Refusals.{accept};
+ghost use Rattle.rules.specs.PlanFile.{u16_at, edition, judge_sizes, sizes_at, carries_order, order_at, mesh_and_table_at, list_read_at, lists_at, carries_replicated, replicated_at, sharding_at};
+ghost use Rattle.rules.specs.PlanFile.{AllToAll, lists_of, step_at};
+ghost use Rattle.types.specs.Answers.{number_of, judged, judged_as};
+ghost use Rattle.types.specs.Types.{axes_of, dims_of, sizes_of, sharding_of, step_of};
+ghost use Rattle.reader.specs.Reading.{reading, numbers_of, header_of, first_sizes, order_of, mesh_at, ShapeTells};
 
 use order::order_allowed;
 use types::{
@@ -21,68 +18,36 @@ use types::{
     Table,
 };
 
-// A byte of a file, or none past its end.
+// A value that was read, and where the next byte is.
 #[derive(Clone, Copy)]
-enum Byte {
-    Is(u8),
-    PastEnd,
+pub struct Read<T> {
+    pub value: T,
+    pub next: usize,
 }
 
-// The byte at a position.
-fn byte_at(file: &[u8], at: usize) -> Byte
-    ensures { result ≡ byte_at file.now at }
-{
-    if at < file.len() {
-        Byte::Is(file[at])
-    } else {
-        Byte::PastEnd
-    }
-}
-
-// The byte at a position as a number, 0 past the end.
-fn number_at(file: &[u8], at: usize) -> usize
-    ensures { (result ≡ get_or file.now at 0) × (result < 256) }
-{
-    if at < file.len() {
-        file[at] as usize
-    } else {
-        0
+impl<T> Read<T> {
+    // Another value that is made of it, with the same next byte.
+    fn map<U, F: FnOnce(T) -> U>(self, f: F) -> Read<U>
+        requires { F.pre f self.value }
+        ensures post { F.post f self.value result.value }
+        ensures next { result.next ≡ self.next }
+    {
+        Read {
+            value: f(self.value),
+            next: self.next,
+        }
     }
 }
 
 // The 16-bit number at a position, little-endian; bytes past the end count as 0.
-fn u16_at(file: &[u8], at: usize) -> usize
-    ensures { (result ≡ u16_at file.now at) × (result < 65536) }
+fn u16_at(file: &[u8], at: usize) -> u16
+    ensures { result ≡ u16_at file.now at }
 {
-    if at < file.len() {
-        let low = number_at(file, at);
-        let high = number_at(file, at + 1);
-        low + high * 256
-    } else {
-        0
-    }
-}
-
-// Where the next byte is, or why reading stopped.
-#[derive(Clone, Copy)]
-pub enum Next {
-    At(usize),
-    Refused(Refusal),
-}
-
-impl Next {
-    // The refusal of a reading that stopped.
-    pub fn refusal(self) -> Refusal
-        ensures { result ≡ next_refusal self }
-    {
-        match self {
-            Next::At(_) => Refusal {
-                reason: Reason::SectionPastEnd,
-                step: 0,
-            },
-            Next::Refused(r) => r,
-        }
-    }
+    let Some(low) = file.get(at) else {
+        return 0;
+    };
+    let high = file.get(at + 1).copied().unwrap_or(0);
+    u16::from_le_bytes([*low, high])
 }
 
 // The numbers of a header: the edition, the counts, and where the sections begin. The last, the file's length, is only tested.
@@ -123,55 +88,19 @@ impl Header {
     }
 }
 
-// The header, or the refusal.
-#[derive(Clone, Copy)]
-pub enum HeaderRead {
-    Is(Header),
-    Refused(Refusal),
-}
-
-impl HeaderRead {
-    // Refused, outside the steps.
-    fn refused_for(reason: Reason) -> HeaderRead
-        ensures { header_judged result ≡ refuse (number_of reason) 0 }
-    {
-        HeaderRead::Refused(Refusal { reason, step: 0 })
-    }
-
-    // The refusal of a header that was refused.
-    pub fn refusal(self) -> Refusal
-        ensures { result ≡ header_refusal self }
-    {
-        match self {
-            HeaderRead::Is(_) => Refusal {
-                reason: Reason::CountOutsideLimits,
-                step: 0,
-            },
-            HeaderRead::Refused(r) => r,
-        }
-    }
-}
-
-// Whether a number is from 1 to the most.
-fn in_limits(number: usize, most: usize) -> bool
-    ensures { result ≡ leb 1 number && leb number most }
-{
-    1 <= number && number <= most
-}
-
 // The numbers of a header, none of them judged.
 fn numbers_of(file: &[u8]) -> Header
     ensures { result ≡ numbers_of file.now }
 {
     Header {
-        edition: u16_at(file, 0),
-        axes: u16_at(file, 2),
-        rank: u16_at(file, 4),
-        steps: u16_at(file, 6),
-        mesh_at: u16_at(file, 8),
-        table_at: u16_at(file, 10),
-        sharding_at: u16_at(file, 12),
-        steps_at: u16_at(file, 14),
+        edition: u16_at(file, 0) as usize,
+        axes: u16_at(file, 2) as usize,
+        rank: u16_at(file, 4) as usize,
+        steps: u16_at(file, 6) as usize,
+        mesh_at: u16_at(file, 8) as usize,
+        table_at: u16_at(file, 10) as usize,
+        sharding_at: u16_at(file, 12) as usize,
+        steps_at: u16_at(file, 14) as usize,
     }
 }
 
@@ -179,71 +108,76 @@ fn numbers_of(file: &[u8]) -> Header
 pub fn carries_order(file: &[u8]) -> bool
     ensures { result ≡ carries_order (edition file.now) }
 {
-    let header = numbers_of(file);
-    header.carries_order()
+    numbers_of(file).carries_order()
 }
 
 // "Order: 1, 2, 3, 4, 5."
-pub fn read_header(file: &[u8]) -> HeaderRead
-    ensures { header_judged result ≡ header_of file.now }
+pub fn read_header(file: &[u8]) -> Result<Header, Refusal>
+    ensures { judged result ≡ header_of file.now }
 {
     if file.len() < PlanFile::LEAST {
-        return HeaderRead::refused_for(Reason::FileTooShort);
+        return Err(Refusal::outside(Reason::FileTooShort));
     }
     if PlanFile::MOST < file.len() {
-        return HeaderRead::refused_for(Reason::FileTooLong);
+        return Err(Refusal::outside(Reason::FileTooLong));
     }
     let header = numbers_of(file);
-    if !in_limits(header.edition, Header::LATEST_EDITION) {
-        return HeaderRead::refused_for(Reason::UnknownEdition);
+    if !(1..=Header::LATEST_EDITION).contains(&header.edition) {
+        return Err(Refusal::outside(Reason::UnknownEdition));
     }
-    if u16_at(file, 16) != file.len() {
-        return HeaderRead::refused_for(Reason::WrongLength);
+    if u16_at(file, 16) as usize != file.len() {
+        return Err(Refusal::outside(Reason::WrongLength));
     }
-    if !in_limits(header.axes, Axis::MOST) {
-        return HeaderRead::refused_for(Reason::CountOutsideLimits);
+    if !(1..=Axis::MOST).contains(&header.axes) {
+        return Err(Refusal::outside(Reason::CountOutsideLimits));
     }
-    if !in_limits(header.rank, Dim::MOST) {
-        return HeaderRead::refused_for(Reason::CountOutsideLimits);
+    if !(1..=Dim::MOST).contains(&header.rank) {
+        return Err(Refusal::outside(Reason::CountOutsideLimits));
     }
     if Step::MOST < header.steps {
-        return HeaderRead::refused_for(Reason::CountOutsideLimits);
+        return Err(Refusal::outside(Reason::CountOutsideLimits));
     }
-    HeaderRead::Is(header)
+    Ok(header)
 }
 
-// Sizes that were read, their product, and where the next byte is.
-#[derive(Clone, Copy)]
-struct SizesRead {
-    pub next: Next,
-    pub product: usize,
-    pub sizes: [u16; Axis::MOST],
+// The 16-bit numbers that stand from a position on: device numbers, or sizes.
+pub fn read_order(file: &[u8], at: usize, numbers: &mut [u16])
+    requires { (at ≤ most_bytes) × (length numbers.old ≤ most_devices) }
+    ensures { numbers.new ≡ tab (length numbers.old) (λ i. u16_at file.now (at + 2 * i)) }
+{
+    for (i, number) in numbers.iter_mut().enumerate() {
+        *number = u16_at(file, at + 2 * i);
+    }
 }
 
-impl SizesRead {
-    // Refused, with sizes of 1.
-    fn refused(refusal: Refusal) -> SizesRead
-        ensures { (count : ℕ) → count ≤ most_axes
-            → SizesTell count (refused_with refusal) result × (result.product ≡ product (take count result.sizes)) }
-    {
-        SizesRead {
-            next: Next::Refused(refusal),
-            product: 1,
-            sizes: [1; Axis::MOST],
+// "each size in turn (zero, then running product)": the product.
+pub fn judge_sizes(sizes: &[u16], most: usize, zero: Reason, over: Reason) -> Result<usize, Refusal>
+    requires { most ≤ most_words }
+    ensures judges { judged_as (λ (p : ℕ). tt) result ≡ judge_sizes most (number_of zero) (number_of over) 1 sizes.now }
+    ensures multiplies { IfOk result (λ p. p ≡ product sizes.now) }
+{
+    let mut product: usize = 1;
+    for size in sizes {
+        if *size == 0 {
+            return Err(Refusal::outside(zero));
+        }
+        product *= *size as usize;
+        if most < product {
+            return Err(Refusal::outside(over));
         }
     }
+    Ok(product)
+}
 
-    // Refused, outside the steps.
-    fn refused_for(reason: Reason) -> SizesRead
-        ensures { (count : ℕ) → count ≤ most_axes
-            → SizesTell count (refuse (number_of reason) 0) result × (result.product ≡ product (take count result.sizes)) }
-    {
-        SizesRead::refused(Refusal { reason, step: 0 })
-    }
+// Sizes that were read, and their product.
+#[derive(Clone, Copy)]
+struct Sizes<const N: usize> {
+    pub product: usize,
+    pub sizes: [u16; N],
 }
 
 // A section of sizes: "its offset (6) .. 7 if they don't fit, then each size in turn (zero, then running product)".
-fn read_sizes(
+fn read_sizes<const N: usize>(
     file: &[u8],
     at: usize,
     offset: usize,
@@ -251,81 +185,50 @@ fn read_sizes(
     most: usize,
     zero: Reason,
     over: Reason,
-) -> SizesRead
-    requires { (at ≤ length file.now) × (count ≤ most_axes) × (most ≤ most_words) }
-    ensures sizes_tell { SizesTell count (sizes_at most (number_of zero) (number_of over) count offset file.now at) result }
-    ensures product_value { result.product ≡ product (take count result.sizes) }
+) -> Result<Read<Sizes<N>>, Refusal>
+    requires { (at ≤ length file.now) × (length file.now ≤ most_bytes) × (count ≤ N) × (count ≤ most_axes) × (most ≤ most_words) }
+    ensures reads { reading (first_sizes count) result ≡ sizes_at most (number_of zero) (number_of over) count offset file.now at }
+    ensures multiplies { IfOk result (λ r. r.value.product ≡ product (first_sizes count r.value)) }
 {
     if offset != at {
-        return SizesRead::refused_for(Reason::WrongOffset);
+        return Err(Refusal::outside(Reason::WrongOffset));
     }
     if file.len() - at < 2 * count {
-        return SizesRead::refused_for(Reason::SectionPastEnd);
+        return Err(Refusal::outside(Reason::SectionPastEnd));
     }
-    let mut sizes = [1u16; Axis::MOST];
-    let mut product: usize = 1;
-    let mut i: usize = 0;
-    while i < count {
-        let size = u16_at(file, at + 2 * i);
-        if size == 0 {
-            return SizesRead::refused_for(zero);
-        }
-        product = product * size;
-        if most < product {
-            return SizesRead::refused_for(over);
-        }
-        sizes[i] = size as u16;
-        i += 1;
-    }
-    SizesRead {
-        next: Next::At(at + 2 * count),
-        product,
-        sizes,
-    }
-}
-
-// The device numbers that stand from a position on.
-pub fn read_order(file: &[u8], at: usize, numbers: &mut [u16])
-    requires { (at ≤ most_bytes) × (length numbers.old ≤ most_devices) }
-    ensures { numbers.new ≡ tab (length numbers.old) (λ i. u16_at file.now (at + 2 * i)) }
-{
-    let mut i: usize = 0;
-    while i < numbers.len() {
-        numbers[i] = u16_at(file, at + 2 * i) as u16;
-        i += 1;
-    }
+    let mut sizes = [1u16; N];
+    read_order(file, at, &mut sizes[..count]);
+    let product = judge_sizes(&sizes[..count], most, zero, over)?;
+    Ok(Read {
+        value: Sizes { product, sizes },
+        next: at + 2 * count,
+    })
 }
 
 // The order of the devices, where the file carries one: 7 if its bytes don't fit, then 19. It is judged and left; who needs it reads it again.
-fn judge_order(file: &[u8], at: usize, devices: usize, carried: bool) -> Next
+fn judge_order(file: &[u8], at: usize, devices: usize, carried: bool) -> Result<usize, Refusal>
     requires { (at ≤ length file.now) × (length file.now ≤ most_bytes) × (devices ≤ most_devices) }
-    ensures { reading result (order_of carried devices file.now at) ≡ order_at carried devices file.now at }
+    ensures { judged_as (λ next. record { value = order_of carried devices file.now at; next = next }) result ≡ order_at carried devices file.now at }
 {
     if !carried {
-        return Next::At(at);
+        return Ok(at);
     }
     if file.len() - at < 2 * devices {
-        return Next::Refused(Refusal {
-            reason: Reason::SectionPastEnd,
-            step: 0,
-        });
+        return Err(Refusal::outside(Reason::SectionPastEnd));
     }
     let mut order = [0u16; Device::MOST];
-    read_order(file, at, &mut order[0..devices]);
-    if !order_allowed(&order[0..devices], devices) {
-        return Next::Refused(Refusal {
-            reason: Reason::WrongOrder,
-            step: 0,
-        });
+    read_order(file, at, &mut order[..devices]);
+    if !order_allowed(&order[..devices], devices) {
+        return Err(Refusal::outside(Reason::WrongOrder));
     }
-    Next::At(at + 2 * devices)
+    Ok(at + 2 * devices)
 }
 
 // The mesh section: its sizes, and the order of the devices.
-fn read_mesh(file: &[u8], header: Header) -> SizesRead
+fn read_mesh(file: &[u8], header: Header) -> Result<Read<Sizes<{ Axis::MOST }>>, Refusal>
     requires { header_of file.now ≡ accept header }
-    ensures sizes_tell { SizesTell header.axes (mesh_at (carries_order header.edition) header.axes header.mesh_at file.now) result }
-    ensures product_value { result.product ≡ product (take header.axes result.sizes) }
+    ensures reads { reading (first_sizes header.axes) result ≡ mesh_at (carries_order header.edition) header.axes header.mesh_at file.now }
+    ensures multiplies { IfOk result (λ r. r.value.product ≡ product (first_sizes header.axes r.value)) }
 {
     let read = read_sizes(
         file,
@@ -335,443 +238,209 @@ fn read_mesh(file: &[u8], header: Header) -> SizesRead
         Device::MOST,
         Reason::MeshSizeZero,
         Reason::TooManyDevices,
-    );
-    let next = read.next;
-    let Next::At(place) = next else {
-        return SizesRead::refused(next.refusal());
-    };
-    let product = read.product;
-    let last = judge_order(file, place, product, header.carries_order());
-    let Next::At(end) = last else {
-        return SizesRead::refused(last.refusal());
-    };
-    let sizes = read.sizes;
-    SizesRead {
-        next: Next::At(end),
-        product,
-        sizes,
-    }
+    )?;
+    let value = read.value;
+    let next = judge_order(file, read.next, value.product, header.carries_order())?;
+    Ok(Read { value, next })
 }
 
-// The sizes of mesh and table, and where the next byte is.
+// The sizes of mesh and table, and how many devices there are.
 #[derive(Clone, Copy)]
 pub struct Shape {
-    pub next: Next,
     pub devices: usize,
     pub mesh: Mesh,
     pub table: Table,
 }
 
-impl Shape {
-    // Refused, with no axes and no dimensions.
-    pub fn refused(refusal: Refusal) -> Shape
-        ensures { ((file : List ℕ) → shape_read file result ≡ refused_with refusal) × NoShape result.devices result.mesh result.table }
-    {
-        let sizes = [1; Axis::MOST];
-        let mesh = Mesh { n: 0, sizes };
-        let table = Table {
-            rank: 0,
-            sizes: [1; Dim::MOST],
-        };
-        Shape {
-            next: Next::Refused(refusal),
-            devices: 1,
-            mesh,
-            table,
-        }
-    }
-}
-
-// A table of the first sizes.
-fn table_of(rank: usize, sizes: [u16; Axis::MOST]) -> Table
-    requires { rank ≤ most_dims }
-    ensures { (result.rank ≡ rank) × (sizes_of result ≡ take rank sizes) }
-{
-    Table {
-        rank,
-        sizes: [sizes[0], sizes[1], sizes[2], sizes[3]],
-    }
-}
-
 // The mesh and the tensor sections.
-pub fn read_shape(file: &[u8], header: Header) -> Shape
+pub fn read_shape(file: &[u8], header: Header) -> Result<Read<Shape>, Refusal>
     requires { header_of file.now ≡ accept header }
     ensures { ShapeTells file.now
         (mesh_and_table_at (carries_order header.edition) header.axes header.rank file.now) result }
 {
-    let n = header.axes;
-    let rank = header.rank;
-    let first = read_mesh(file, header);
-    let next = first.next;
-    let Next::At(place) = next else {
-        return Shape::refused(next.refusal());
-    };
+    let first = read_mesh(file, header)?;
     let second = read_sizes(
         file,
-        place,
+        first.next,
         header.table_at,
-        rank,
+        header.rank,
         Table::MOST,
         Reason::TensorSizeZero,
         Reason::TooManyWords,
-    );
-    let last = second.next;
-    let Next::At(end) = last else {
-        return Shape::refused(last.refusal());
+    )?;
+    let sizes = first.value.sizes;
+    let mesh = Mesh {
+        n: header.axes,
+        sizes,
     };
-    let sizes = first.sizes;
-    let tensor = second.sizes;
-    let table = table_of(rank, tensor);
-    Shape {
-        next: Next::At(end),
-        devices: first.product,
-        mesh: Mesh { n, sizes },
-        table,
-    }
+    let sizes = second.value.sizes;
+    let table = Table {
+        rank: header.rank,
+        sizes,
+    };
+    Ok(Read {
+        value: Shape {
+            devices: first.value.product,
+            mesh,
+            table,
+        },
+        next: second.next,
+    })
 }
 
-// A list that was read, and where the next byte is.
-#[derive(Clone, Copy)]
-struct ListRead {
-    pub next: Next,
-    pub list: AxisList,
-}
-
-impl ListRead {
-    // Refused, outside the steps.
-    fn refused_for(reason: Reason) -> ListRead
-        ensures { list_read result ≡ refuse (number_of reason) 0 }
-    {
-        let list = AxisList::empty();
-        ListRead {
-            next: Next::Refused(Refusal { reason, step: 0 }),
-            list,
-        }
-    }
-}
-
-// The axis in one of a list's places, axis 0 past the list: its `count` axes stand in the file from `first` on.
-fn axis_in(file: &[u8], first: usize, count: usize, i: usize) -> Axis
-    requires { first + count ≤ length file.now }
-    ensures { result.0 ≡ get_or (take count (drop first file.now)) i 0 }
+// The axis in one of a list's places, axis 0 past the list.
+fn axis_in(axes: &[u8], i: usize) -> Axis
+    ensures { result.0 ≡ get_or axes.now i 0 }
 {
-    if i < count {
-        Axis(file[first + i])
-    } else {
-        Axis(0)
-    }
+    Axis(axes.get(i).copied().unwrap_or(0))
 }
 
 // "A list is a count byte and that many axis bytes."
 // The axes are put in place all at once: a list stored byte by byte and then handed on as a whole makes the processor wait.
-fn read_list(file: &[u8], at: usize, n: usize) -> ListRead
+fn read_list(file: &[u8], at: usize, n: usize) -> Result<Read<AxisList>, Refusal>
     requires { n ≤ most_axes }
-    ensures { list_read result ≡ list_read_at n file.now at }
+    ensures { reading axes_of result ≡ list_read_at n file.now at }
 {
-    let counted = byte_at(file, at);
-    let Byte::Is(byte) = counted else {
-        return ListRead::refused_for(Reason::SectionPastEnd);
+    let Some(byte) = file.get(at) else {
+        return Err(Refusal::outside(Reason::SectionPastEnd));
     };
-    let count = byte as usize;
+    let count = *byte as usize;
     if n < count {
-        return ListRead::refused_for(Reason::ListTooLong);
+        return Err(Refusal::outside(Reason::ListTooLong));
     }
     let first = at + 1;
     if file.len() - first < count {
-        return ListRead::refused_for(Reason::SectionPastEnd);
+        return Err(Refusal::outside(Reason::SectionPastEnd));
     }
+    let next = first + count;
+    let named = &file[first..next];
     let axes = [
-        axis_in(file, first, count, 0),
-        axis_in(file, first, count, 1),
-        axis_in(file, first, count, 2),
-        axis_in(file, first, count, 3),
-        axis_in(file, first, count, 4),
-        axis_in(file, first, count, 5),
+        axis_in(named, 0),
+        axis_in(named, 1),
+        axis_in(named, 2),
+        axis_in(named, 3),
+        axis_in(named, 4),
+        axis_in(named, 5),
     ];
-    ListRead {
-        next: Next::At(first + count),
-        list: AxisList {
-            count: count as u16,
-            axes,
-        },
-    }
-}
-
-// Lists that were read, one for each dimension, and where the next byte is.
-#[derive(Clone, Copy)]
-struct ListsRead {
-    pub next: Next,
-    pub lists: DimLists,
-}
-
-impl ListsRead {
-    // Refused, with no lists.
-    fn refused(refusal: Refusal) -> ListsRead
-        ensures { (rank : ℕ) → lists_read rank result ≡ refused_with refusal }
-    {
-        let lists = DimLists::empty();
-        ListsRead {
-            next: Next::Refused(refusal),
-            lists,
-        }
-    }
+    let value = AxisList {
+        count: count as u16,
+        axes,
+    };
+    Ok(Read { value, next })
 }
 
 // One list for each dimension.
-fn read_lists(file: &[u8], at: usize, n: usize, rank: usize) -> ListsRead
+fn read_lists(file: &[u8], at: usize, n: usize, rank: usize) -> Result<Read<DimLists>, Refusal>
     requires { (n ≤ most_axes) × (rank ≤ most_dims) }
-    ensures { lists_read rank result ≡ lists_at n rank file.now at }
+    ensures { reading (λ l. take rank (dims_of l)) result ≡ lists_at n rank file.now at }
 {
-    let mut lists = DimLists::empty();
-    let mut place = at;
-    let mut d: usize = 0;
-    while d < rank {
-        let one = read_list(file, place, n);
-        let next = one.next;
-        let Next::At(end) = next else {
-            return ListsRead::refused(next.refusal());
-        };
-        let list = one.list;
-        lists.0[d] = list;
-        place = end;
-        d += 1;
+    let mut lists = [AxisList::empty(); Dim::MOST];
+    let mut next = at;
+    for list in &mut lists[..rank] {
+        let read = read_list(file, next, n)?;
+        *list = read.value;
+        next = read.next;
     }
-    ListsRead {
-        next: Next::At(place),
-        lists,
-    }
+    Ok(Read {
+        value: DimLists(lists),
+        next,
+    })
 }
 
 // The axes that must stay replicated, where the file carries them: "Edition 1 reads as an empty list."
-fn read_replicated(file: &[u8], at: usize, n: usize, carried: bool) -> ListRead
+fn read_replicated(
+    file: &[u8],
+    at: usize,
+    n: usize,
+    carried: bool,
+) -> Result<Read<AxisList>, Refusal>
     requires { n ≤ most_axes }
-    ensures { list_read result ≡ replicated_at carried n file.now at }
+    ensures { reading axes_of result ≡ replicated_at carried n file.now at }
 {
     if carried {
         return read_list(file, at, n);
     }
-    let list = AxisList::empty();
-    ListRead {
-        next: Next::At(at),
-        list,
-    }
-}
-
-// A sharding that was read, and where the next byte is.
-#[derive(Clone, Copy)]
-pub struct ShardingRead {
-    pub next: Next,
-    pub sharding: Sharding,
-}
-
-impl ShardingRead {
-    // Refused, with no lists.
-    fn refused(refusal: Refusal) -> ShardingRead
-        ensures { (rank : ℕ) → rank ≤ most_dims → ShardingTells rank (refused_with refusal) result }
-    {
-        let sharding = Sharding::none();
-        ShardingRead {
-            next: Next::Refused(refusal),
-            sharding,
-        }
-    }
+    Ok(Read {
+        value: AxisList::empty(),
+        next: at,
+    })
 }
 
 // "The sharding is one list per dimension, then the unreduced list.", then the list of the axes that must stay replicated.
-pub fn read_sharding(file: &[u8], at: usize, header: Header) -> ShardingRead
+pub fn read_sharding(file: &[u8], at: usize, header: Header) -> Result<Read<Sharding>, Refusal>
     requires { (header.axes ≤ most_axes) × (header.rank ≤ most_dims) }
-    ensures { ShardingTells header.rank (sharding_at (carries_replicated header.edition) header.axes header.rank header.sharding_at
-        file.now at) result }
+    ensures { reading (sharding_of header.rank) result ≡ sharding_at (carries_replicated header.edition) header.axes header.rank header.sharding_at
+        file.now at }
 {
     if header.sharding_at != at {
-        return ShardingRead::refused(Refusal {
-            reason: Reason::WrongOffset,
-            step: 0,
-        });
+        return Err(Refusal::outside(Reason::WrongOffset));
     }
-    let n = header.axes;
-    let first = read_lists(file, at, n, header.rank);
-    let next = first.next;
-    let Next::At(place) = next else {
-        return ShardingRead::refused(next.refusal());
-    };
-    let dims = first.lists;
-    let second = read_list(file, place, n);
-    let after = second.next;
-    let Next::At(behind) = after else {
-        return ShardingRead::refused(after.refusal());
-    };
-    let unreduced = second.list;
-    let third = read_replicated(file, behind, n, header.carries_replicated());
-    let last = third.next;
-    let Next::At(end) = last else {
-        return ShardingRead::refused(last.refusal());
-    };
-    let replicated = third.list;
-    ShardingRead {
-        next: Next::At(end),
-        sharding: Sharding {
-            dims,
-            unreduced,
-            replicated,
+    let dims = read_lists(file, at, header.axes, header.rank)?;
+    let unreduced = read_list(file, dims.next, header.axes)?;
+    let replicated = read_replicated(
+        file,
+        unreduced.next,
+        header.axes,
+        header.carries_replicated(),
+    )?;
+    Ok(Read {
+        value: Sharding {
+            dims: dims.value,
+            unreduced: unreduced.value,
+            replicated: replicated.value,
         },
-    }
-}
-
-// A step that was read, and where the next byte is.
-#[derive(Clone, Copy)]
-pub struct StepRead {
-    pub next: Next,
-    pub step: Step,
-}
-
-impl StepRead {
-    // Refused, with no step.
-    fn refused(refusal: Refusal) -> StepRead
-        ensures { (rank : ℕ) → StepTells rank (refused_with refusal) result }
-    {
-        let lists = DimLists::empty();
-        let list = AxisList::empty();
-        StepRead {
-            next: Next::Refused(refusal),
-            step: Step {
-                kind: Kind::Unknown,
-                source: Dim(0),
-                target: Dim(0),
-                lists,
-                list,
-            },
-        }
-    }
-}
-
-// "1 all-slice, 2 all-gather .., 3 all-reduce .., 4 all-to-all"; 5 is a reduce-scatter.
-pub fn kind_of(byte: u8) -> Kind
-    ensures { result ≡ kind_from (kind_of byte) }
-{
-    if byte == 1 {
-        Kind::AllSlice
-    } else if byte == 2 {
-        Kind::AllGather
-    } else if byte == 3 {
-        Kind::AllReduce
-    } else if byte == 4 {
-        Kind::AllToAll
-    } else if byte == 5 {
-        Kind::ReduceScatter
-    } else {
-        Kind::Unknown
-    }
-}
-
-// An all-slice, all-gather or reduce-scatter after its kind byte: one list per dimension.
-fn read_per_dim(file: &[u8], at: usize, n: usize, rank: usize, kind: Kind) -> StepRead
-    requires { (n ≤ most_axes) × (rank ≤ most_dims) × PerDim kind }
-    ensures { (k : ℕ) → StepTells rank (lists_of n rank k file.now at (kind_meaning kind)) result }
-{
-    let read = read_lists(file, at, n, rank);
-    let next = read.next;
-    let Next::At(end) = next else {
-        return StepRead::refused(next.refusal());
-    };
-    let lists = read.lists;
-    let list = AxisList::empty();
-    StepRead {
-        next: Next::At(end),
-        step: Step {
-            kind,
-            source: Dim(0),
-            target: Dim(0),
-            lists,
-            list,
-        },
-    }
-}
-
-// An all-reduce after its kind byte: one list.
-fn read_all_reduce(file: &[u8], at: usize, n: usize) -> StepRead
-    requires { n ≤ most_axes }
-    ensures { (rank k : ℕ) → StepTells rank (lists_of n rank k file.now at AllReduce) result }
-{
-    let read = read_list(file, at, n);
-    let next = read.next;
-    let Next::At(end) = next else {
-        return StepRead::refused(next.refusal());
-    };
-    let list = read.list;
-    let lists = DimLists::empty();
-    StepRead {
-        next: Next::At(end),
-        step: Step {
-            kind: Kind::AllReduce,
-            source: Dim(0),
-            target: Dim(0),
-            lists,
-            list,
-        },
-    }
+        next: replicated.next,
+    })
 }
 
 // An all-to-all after its kind byte: "source byte, target byte, one list".
-fn read_all_to_all(file: &[u8], at: usize, n: usize) -> StepRead
+fn read_all_to_all(file: &[u8], at: usize, n: usize) -> Result<Read<Step>, Refusal>
     requires { n ≤ most_axes }
-    ensures { (rank k : ℕ) → StepTells rank (lists_of n rank k file.now at AllToAll) result }
+    ensures { (rank k : ℕ) → reading (step_of rank) result ≡ lists_of n rank k file.now at AllToAll }
 {
-    let first = byte_at(file, at);
-    let Byte::Is(source) = first else {
-        return StepRead::refused(Refusal {
-            reason: Reason::SectionPastEnd,
-            step: 0,
-        });
+    let Some(source) = file.get(at) else {
+        return Err(Refusal::outside(Reason::SectionPastEnd));
     };
-    let second = byte_at(file, at + 1);
-    let Byte::Is(target) = second else {
-        return StepRead::refused(Refusal {
-            reason: Reason::SectionPastEnd,
-            step: 0,
-        });
+    let Some(target) = file.get(at + 1) else {
+        return Err(Refusal::outside(Reason::SectionPastEnd));
     };
-    let read = read_list(file, at + 2, n);
-    let next = read.next;
-    let Next::At(end) = next else {
-        return StepRead::refused(next.refusal());
-    };
-    let list = read.list;
-    let lists = DimLists::empty();
-    StepRead {
-        next: Next::At(end),
-        step: Step {
-            kind: Kind::AllToAll,
-            source: Dim(source),
-            target: Dim(target),
-            lists,
-            list,
+    let list = read_list(file, at + 2, n)?;
+    Ok(Read {
+        value: Step::AllToAll {
+            source: Dim(*source),
+            target: Dim(*target),
+            list: list.value,
         },
-    }
+        next: list.next,
+    })
 }
 
 // Step k: "A step is a kind byte and its lists"; "A kind or count byte is judged when read."
-pub fn read_step(file: &[u8], at: usize, n: usize, rank: usize, k: u16) -> StepRead
+pub fn read_step(
+    file: &[u8],
+    at: usize,
+    n: usize,
+    rank: usize,
+    k: u16,
+) -> Result<Read<Step>, Refusal>
     requires { (n ≤ most_axes) × (rank ≤ most_dims) }
-    ensures { StepTells rank (step_at n rank k file.now at) result }
+    ensures { reading (step_of rank) result ≡ step_at n rank k file.now at }
 {
-    let first = byte_at(file, at);
-    let Byte::Is(byte) = first else {
-        return StepRead::refused(Refusal {
-            reason: Reason::SectionPastEnd,
-            step: 0,
-        });
+    let Some(byte) = file.get(at) else {
+        return Err(Refusal::outside(Reason::SectionPastEnd));
     };
-    let kind = kind_of(byte);
-    match kind {
-        Kind::AllSlice => read_per_dim(file, at + 1, n, rank, kind),
-        Kind::AllGather => read_per_dim(file, at + 1, n, rank, kind),
-        Kind::AllReduce => read_all_reduce(file, at + 1, n),
-        Kind::AllToAll => read_all_to_all(file, at + 1, n),
-        Kind::ReduceScatter => read_per_dim(file, at + 1, n, rank, kind),
-        Kind::Unknown => StepRead::refused(Refusal {
+    let Ok(kind) = Kind::try_from(*byte) else {
+        return Err(Refusal {
             reason: Reason::UnknownKind,
             step: k,
-        }),
+        });
+    };
+    let at = at + 1;
+    match kind {
+        Kind::AllSlice => Ok(read_lists(file, at, n, rank)?.map(Step::AllSlice)),
+        Kind::AllGather => Ok(read_lists(file, at, n, rank)?.map(Step::AllGather)),
+        Kind::AllReduce => Ok(read_list(file, at, n)?.map(Step::AllReduce)),
+        Kind::AllToAll => read_all_to_all(file, at, n),
+        Kind::ReduceScatter => Ok(read_lists(file, at, n, rank)?.map(Step::ReduceScatter)),
     }
 }

@@ -7,6 +7,7 @@ ghost use Rattle.types.specs.Answers.{number_of};
 use types::Reason;
 
 // The refusal number.
+// Stays: (a) From<Reason> for u8 may be implemented beside Reason alone, in types, and must-fail/another_number.edit is of this crate.
 pub fn number_of(reason: Reason) -> u8
     ensures { result ≡ number_of reason }
 {

@@ -8,13 +8,18 @@ use lib.ListN.{length, get_or, drop, length-append, length-map}
 use lib.Seq.{drop-nil, drop-append-add, get_or-drop, ext_get_or}
 use lib.Arith.{digits_div}
 use lib.Dec.{eqb, lit<}
-use Rattle.rules.specs.Lists.{tab, flat, In}
+use Rattle.std.specs.Prelude.{Some, Result, Ok, Err}
+use Rattle.rules.specs.Lists.{pick, tab, flat, In}
 use Rattle.rules.specs.Sharding.{Sharding, varying, IsSharding}
 use Rattle.rules.specs.Refusals.{accept}
 use Rattle.rules.specs.Limits.{most_axes, most_dims, every_kind}
 use Rattle.rules.specs.Collectives.{all_slice, all_gather, all_reduce, all_to_all, reduce_scatter}
-use Rattle.rules.specs.PlanFile.{Record, plain, repeat, step_count, outermost_at, judge_front, Plan, judge, judge_by}
-use Rattle.types.specs.Types.{list_from, lists_from, sharding_from}
+use Rattle.rules.specs.PlanFile.{kind_of, Record, plain, repeat, step_count, outermost_at, judge_front, Plan, judge, judge_by}
+use Rattle.types.specs.Types.{kind_from, list_from, lists_from, sharding_from}
+use Rattle.types.specs.declared.Kind.{Kind}
+use Rattle.types.specs.declared.Kind.TheVariants.{AllSlice, AllGather, AllReduce, AllToAll, ReduceScatter}
+use Rattle.types.specs.declared.Reason.{Reason}
+use Rattle.types.specs.declared.Step.TheVariants as step
 use Rattle.laws.proofs.Lists.{length-tab, get_or-tab, in_left, in_right, at-flat, distinct-split, distinct-at, few-distinct}
 use Rattle.laws.proofs.Judging.{accept-inj, need-inv, bind_inv}
 use Rattle.laws.proofs.Accepted.{AcceptedPlan, accepted, front-accepted}
@@ -27,6 +32,10 @@ use Rattle.records.specs.Forms.{
   record_bytes,
   axis_at,
   list_record,
+  lists_record,
+  step_of_kind,
+  step_if_kind,
+  given_kind,
   given_at,
   record_count,
   steps_given,
@@ -96,13 +105,28 @@ module _ (bytes : List ℕ) (at : ℕ) where
         ∷ [];
   }
 
+  lists-from : lists_record bytes at ≡ lists_record (drop at bytes) 0
+  lists-from = λ z. record { 0 = list-from 0 z ∷ list-from 1 z ∷ list-from 2 z ∷ list-from 3 z ∷ [] }
+
+  kind-from : (kind : Kind) → step_of_kind kind bytes at ≡ step_of_kind kind (drop at bytes) 0
+  kind-from AllSlice = ap step.AllSlice lists-from
+  kind-from AllGather = ap step.AllGather lists-from
+  kind-from AllReduce = ap step.AllReduce (list-from 4)
+  kind-from AllToAll =
+      λ z. step.AllToAll (record { 0 = byte-from 1 (at + 1) refl z }) (record { 0 = byte-from 2 (at + 2) refl z }) (list-from 4 z)
+  kind-from ReduceScatter = ap step.ReduceScatter lists-from
+
+  step-from : (kind : Result Kind Reason) → step_if_kind kind bytes at ≡ step_if_kind kind (drop at bytes) 0
+  step-from (Ok kind) = ap Some (kind-from kind)
+  step-from (Err reason) = refl
+
   record-from : (rank : ℕ) → given_at rank bytes at ≡ given_at rank (drop at bytes) 0
   unfolding given_at
   record-from rank =
       let first : get_or bytes at 0 ≡ get_or (drop at bytes) 0 0 = byte-from 0 at (omega arith) in
       let second : get_or bytes (at + 1) 0 ≡ get_or (drop at bytes) 1 0 = byte-from 1 (at + 1) refl in
       let third : get_or bytes (at + 2) 0 ≡ get_or (drop at bytes) 2 0 = byte-from 2 (at + 2) refl in
-      rw (first, second, third, list-from 0, list-from 1, list-from 2, list-from 3, list-from 4) refl
+      λ z. pick (eqb (first z) 9) (known (repeat (second z) (third z))) (given_kind rank (step-from (kind_from (kind_of (first z))) z))
 
 module _ (rank : ℕ) (few : rank ≤ most_dims) where
   record-again : (g : Record) (rest : List ℕ) → Ranked rank (known g) → ShortGiven (known g) → given_at rank (record_of g ++ rest) 0 ≡ known g

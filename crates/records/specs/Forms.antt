@@ -1,10 +1,11 @@
 -- Document 02, Ask 2: what the arguments of the writer's call stand for. A list counts as many axes as its count says, also where it has fewer places, so
 -- that 8 is given for it; step records are bytes. Assumes nothing.
-use Rattle.std.specs.Prelude.{ℕ, ◌+◌, ◌*◌, ◌/◌, List, [], ◌∷◌, ◌++◌, map, length, get_or, take, replicate, leb, eqb}
+use Rattle.std.specs.Prelude.{ℕ, ◌+◌, ◌*◌, ◌/◌, List, [], ◌∷◌, ◌++◌, map, length, get_or, take, replicate, leb, eqb, Option, Some, None, Result, Ok, Err}
 use Rattle.rules.specs.Lists.{tab, pick, flat}
 use Rattle.rules.specs.Limits.{most_axes}
 use Rattle.rules.specs.Sharding.{Sharding}
 use Rattle.rules.specs.Collectives.{all_slice, all_gather, all_reduce, all_to_all, reduce_scatter}
+use Rattle.rules.specs.Collectives as rules
 use Rattle.rules.specs.PlanFile.{kind_of, Record, plain, repeat}
 use Rattle.types.specs.Types.{axes_of, four_places, kind_from}
 use Rattle.types.specs.declared.Axis.{Axis}
@@ -12,8 +13,10 @@ use Rattle.types.specs.declared.AxisList.{AxisList}
 use Rattle.types.specs.declared.DimLists.{DimLists}
 use Rattle.types.specs.declared.Sharding as code
 use Rattle.types.specs.declared.Kind.{Kind}
-use Rattle.types.specs.declared.Kind.TheVariants.{AllSlice, AllGather, AllReduce, AllToAll, ReduceScatter, Unknown}
+use Rattle.types.specs.declared.Kind.TheVariants.{AllSlice, AllGather, AllReduce, AllToAll, ReduceScatter}
+use Rattle.types.specs.declared.Reason.{Reason}
 use Rattle.types.specs.declared.Step.{Step}
+use Rattle.types.specs.declared.Step.TheVariants as step
 use Rattle.records.specs.Records.{Given, known, unknown, Records}
 
 -- ---- lists and shardings
@@ -46,28 +49,42 @@ places_at bytes at =
 abbrev pub list_record : List ℕ → (at list : ℕ) → AxisList
 list_record bytes at j = record { count = get_or bytes (at + 3 + j) 0; axes = places_at bytes (at + 8 + 6 * j) }
 
-abbrev pub step_record : List ℕ → ℕ → Step
-step_record bytes at = record {
-  kind = kind_from (kind_of (get_or bytes at 0));
-  source = record { 0 = get_or bytes (at + 1) 0 };
-  target = record { 0 = get_or bytes (at + 2) 0 };
-  lists = record { 0 = list_record bytes at 0 ∷ list_record bytes at 1 ∷ list_record bytes at 2 ∷ list_record bytes at 3 ∷ [] };
-  list = list_record bytes at 4;
-}
+abbrev pub lists_record : List ℕ → (at : ℕ) → DimLists
+lists_record bytes at = record { 0 = list_record bytes at 0 ∷ list_record bytes at 1 ∷ list_record bytes at 2 ∷ list_record bytes at 3 ∷ [] }
 
-abbrev pub given_kind : Kind → (rank : ℕ) → Step → Given
-given_kind AllSlice rank t = known (plain (all_slice (dims_given rank t.lists)))
-given_kind AllGather rank t = known (plain (all_gather (dims_given rank t.lists)))
-given_kind AllReduce rank t = known (plain (all_reduce (list_given t.list)))
-given_kind AllToAll rank t = known (plain (all_to_all t.source.0 t.target.0 (list_given t.list)))
-given_kind ReduceScatter rank t = known (plain (reduce_scatter (dims_given rank t.lists)))
-given_kind Unknown rank t = unknown
+-- a step of a kind, with what the record has for it
+abbrev pub step_of_kind : Kind → List ℕ → (at : ℕ) → Step
+step_of_kind AllSlice bytes at = step.AllSlice (lists_record bytes at)
+step_of_kind AllGather bytes at = step.AllGather (lists_record bytes at)
+step_of_kind AllReduce bytes at = step.AllReduce (list_record bytes at 4)
+step_of_kind AllToAll bytes at =
+    step.AllToAll (record { 0 = get_or bytes (at + 1) 0 }) (record { 0 = get_or bytes (at + 2) 0 }) (list_record bytes at 4)
+step_of_kind ReduceScatter bytes at = step.ReduceScatter (lists_record bytes at)
+
+-- none of a kind that there is not
+abbrev pub step_if_kind : Result Kind Reason → List ℕ → (at : ℕ) → Option Step
+step_if_kind (Ok kind) bytes at = Some (step_of_kind kind bytes at)
+step_if_kind (Err reason) bytes at = None
+
+abbrev pub step_record : List ℕ → ℕ → Option Step
+step_record bytes at = step_if_kind (kind_from (kind_of (get_or bytes at 0))) bytes at
+
+abbrev pub step_given : (rank : ℕ) → Step → rules.Step
+step_given rank (step.AllSlice lists) = all_slice (dims_given rank lists)
+step_given rank (step.AllGather lists) = all_gather (dims_given rank lists)
+step_given rank (step.AllReduce list) = all_reduce (list_given list)
+step_given rank (step.AllToAll source target list) = all_to_all source.0 target.0 (list_given list)
+step_given rank (step.ReduceScatter lists) = reduce_scatter (dims_given rank lists)
+
+abbrev pub given_kind : (rank : ℕ) → Option Step → Given
+given_kind rank (Some t) = known (plain (step_given rank t))
+given_kind rank None = unknown
 
 unfoldable pub given_at : (rank : ℕ) → List ℕ → ℕ → Given
 unfolding dims_given
 given_at rank bytes at =
     pick (eqb (get_or bytes at 0) 9) (known (repeat (get_or bytes (at + 1) 0) (get_or bytes (at + 2) 0)))
-    (given_kind (kind_from (kind_of (get_or bytes at 0))) rank (step_record bytes at))
+    (given_kind rank (step_record bytes at))
 
 -- as many records as there are whole ones; bytes after the last of them count for nothing
 abbrev pub record_count : List ℕ → ℕ

@@ -1,9 +1,9 @@
 -- The promises of the calls on records: what each answers and leaves, on any input, as the `ensures` of its function and of the library's. `mesh`, `order` and
 -- `sizes` of the writer and the planner, and the file that is read, are lent with `&`, so no call can change them. Assumes nothing.
-use Rattle.std.specs.Prelude.{ℕ, ◌≡◌, List, map, length, take, drop}
+use Rattle.std.specs.Prelude.{ℕ, ◌≡◌, List, map, length, take, drop, Result, Err}
 use Rattle.rules.specs.Collectives.{Step}
-use Rattle.rules.specs.Refusals.{Judged, accept, refuse}
-use Rattle.types.specs.Answers.{refused_with}
+use Rattle.rules.specs.Refusals.{accept, refuse}
+use Rattle.types.specs.Answers.{judged, refused_with}
 use Rattle.rules.specs.PlanFile.{plain, Plan, judge}
 use Rattle.types.specs.declared.Refusal.{Refusal}
 use Rattle.types.specs.declared.Sharding as code
@@ -12,27 +12,20 @@ use Rattle.records.specs.Writing.{write_of, write_leaves}
 use Rattle.records.specs.Forms.{sharding_given, records_given, records_bytes}
 use Rattle.records.specs.Reading.{ReadAnswer, read_of, read_leaves_order, read_leaves_steps, opened_of}
 use Rattle.records.specs.Planning.{plan_of, Reaches}
-use Rattle.records.specs.PlanAnswer.{steps_planned, planned_of}
-use Rattle.records.specs.declared.WriteOutcome.{WriteOutcome}
-use Rattle.records.specs.declared.WriteOutcome.TheVariants as write
+use Rattle.records.specs.PlanAnswer.{steps_planned, planned_of, step_count}
 use Rattle.records.specs.declared.Opened.{Opened}
 use Rattle.records.specs.declared.Planned.{Planned}
-use Rattle.records.specs.declared.PlanOutcome.TheVariants as plan
 
 -- ---- the writer
 
-abbrev pub write_meaning : WriteOutcome → Judged ℕ
-write_meaning (write.Written n) = accept n
-write_meaning (write.Refused r) = refused_with r
-
 -- Its answer and what it leaves are the definition's, of the records that its arguments stand for. "Bytes after the file stay." After a refusal "nothing is
 -- written". "What is written reads back as the same records"
-pub record WritePromise (mesh order sizes : List ℕ) (start : code.Sharding) (steps out : List ℕ) (r : WriteOutcome) (outAfter : List ℕ) : Type 0 where
-  pub answers : write_meaning r ≡ write_of (records_given mesh order sizes start steps) out
+pub record WritePromise (mesh order sizes : List ℕ) (start : code.Sharding) (steps out : List ℕ) (r : Result ℕ Refusal) (outAfter : List ℕ) : Type 0 where
+  pub answers : judged r ≡ write_of (records_given mesh order sizes start steps) out
   pub leaves : outAfter ≡ write_leaves (records_given mesh order sizes start steps) out
-  pub stay : (n : ℕ) → write_meaning r ≡ accept n → drop n outAfter ≡ drop n out
-  pub refused : (n k : ℕ) → write_meaning r ≡ refuse n k → outAfter ≡ out
-  pub reads_back : (n : ℕ) → write_meaning r ≡ accept n
+  pub stay : (n : ℕ) → judged r ≡ accept n → drop n outAfter ≡ drop n out
+  pub refused : (n k : ℕ) → judged r ≡ refuse n k → outAfter ≡ out
+  pub reads_back : (n : ℕ) → judged r ≡ accept n
       → (p : Plan) × (judge (take n outAfter) ≡ accept p) × (records_of p ≡ records_given mesh order sizes start steps)
 
 -- ---- the reading call
@@ -63,6 +56,7 @@ pub record ReadPromise (file order steps : List ℕ) (r : Opened) (orderAfter st
 pub record PlanMade (mesh order sizes : List ℕ) (start goal : code.Sharding) (r : Planned) (rs : Records) : Type 0 where
   pub steps : List Step
   pub answered : r ≡ planned_of (accept steps)
+  pub counted : step_count r.plan ≡ length steps
   pub all : rs.steps ≡ map known (map plain steps)
   pub given : records_given mesh order sizes start (records_bytes (map plain steps)) ≡ rs
   pub plan : Plan
@@ -71,6 +65,6 @@ pub record PlanMade (mesh order sizes : List ℕ) (start goal : code.Sharding) (
 -- Its answer is the definition's, in every place, and so is a refusal's number.
 pub record PlanPromise (mesh order sizes : List ℕ) (start goal : code.Sharding) (r : Planned) : Type 0 where
   pub answers : r ≡ planned_of (steps_planned mesh order sizes start goal)
-  pub refused : (x : Refusal) → r.outcome ≡ plan.Refused x → steps_planned mesh order sizes start goal ≡ refused_with x
+  pub refused : (x : Refusal) → r.outcome ≡ Err x → steps_planned mesh order sizes start goal ≡ refused_with x
   pub reaches : (rs : Records) → plan_of mesh order sizes (sharding_given (length sizes) start) (sharding_given (length sizes) goal) ≡ accept rs
       → PlanMade mesh order sizes start goal r rs

@@ -1,6 +1,6 @@
 -- Beyond document 02, Ask 2: the way back. The records of an accepted file, which the writer takes again: what the reading call answers, and leaves in the
 -- two lists that are lent to it. Assumes nothing.
-use Rattle.std.specs.Prelude.{ℕ, ◌*◌, List, [], ◌++◌, length, drop, leb}
+use Rattle.std.specs.Prelude.{ℕ, ◌*◌, List, [], ◌++◌, length, drop, leb, Ok, Err}
 use Rattle.rules.specs.Sharding.{Sharding}
 use Rattle.rules.specs.Refusals.{Judged, accept, refuse, ◌>>=◌, ◌>>◌, need}
 use Rattle.types.specs.Answers.{refusal_of}
@@ -9,7 +9,6 @@ use Rattle.types.specs.Types.{four_places, sharding_from, no_lists}
 use Rattle.records.specs.Records.{records_of}
 use Rattle.records.specs.Forms.{record_bytes, records_bytes, six_places}
 use Rattle.records.specs.declared.Opened.{Opened}
-use Rattle.records.specs.declared.ReadOutcome.TheVariants as outcome
 
 -- mesh, table and start; how many device numbers (none of a plan in plain order) and how many bytes of step records are written
 pub record ReadAnswer : Type 0 where
@@ -62,13 +61,13 @@ read_leaves_steps file order steps = steps_out (read_of file order steps) (judge
 -- the answer of the code, every place of it
 abbrev pub opened_of : Judged ReadAnswer → Opened
 opened_of (accept a) = record {
-  outcome = outcome.Opened (record { n = length a.mesh; rank = length a.sizes; order = a.order; steps = a.steps });
+  outcome = Ok (record { n = length a.mesh; rank = length a.sizes; order = a.order; steps = a.steps });
   mesh = six_places a.mesh;
   table = four_places 0 a.sizes;
   start = sharding_from a.start;
 }
 opened_of (refuse n k) = record {
-  outcome = outcome.Refused (refusal_of n k);
+  outcome = Err (refusal_of n k);
   mesh = six_places [];
   table = four_places 0 [];
   start = sharding_from no_lists;

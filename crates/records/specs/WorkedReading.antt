@@ -1,5 +1,5 @@
 -- Worked calls of the reading call: every place of its answer, and what the two lent lists hold after it. Assumes nothing.
-use Rattle.std.specs.Prelude.{ℕ, ◌≡◌, List, [], ◌∷◌, ◌++◌, map, take, replicate}
+use Rattle.std.specs.Prelude.{ℕ, ◌≡◌, List, [], ◌∷◌, ◌++◌, map, take, replicate, Ok, Err}
 use Rattle.rules.specs.Ledger.{w1, nines}
 use Rattle.types.specs.declared.AxisList.{AxisList}
 use Rattle.types.specs.declared.Sharding as code
@@ -7,7 +7,6 @@ use Rattle.types.specs.declared.Reason.{Reason}
 use Rattle.types.specs.declared.Reason.TheVariants.{FileTooShort, NotTail, OutputTooShort}
 use Rattle.records.specs.Reading.{read_of, read_leaves_order, read_leaves_steps, opened_of}
 use Rattle.records.specs.declared.Opened.{Opened}
-use Rattle.records.specs.declared.ReadOutcome.TheVariants as outcome
 
 -- ---- cases
 
@@ -55,7 +54,7 @@ start_of d0 d1 d2 d3 unreduced replicated = record {
 -- how many mesh and table sizes, device numbers and bytes of step records; the six and the four places of the sizes
 abbrev pub opened : (n rank order steps : ℕ) → (mesh table : List ℕ) → code.Sharding → Opened
 opened n rank order steps mesh table start = record {
-  outcome = outcome.Opened (record { n = n; rank = rank; order = order; steps = steps });
+  outcome = Ok (record { n = n; rank = rank; order = order; steps = steps });
   mesh = mesh;
   table = table;
   start = start;
@@ -65,7 +64,7 @@ opened n rank order steps mesh table start = record {
 abbrev pub refused : (file order steps : List ℕ) → Reason → (step : ℕ) → Case
 refused file order steps reason step = read file order steps (record {
   answer = record {
-    outcome = outcome.Refused (record { reason = reason; step = step });
+    outcome = Err (record { reason = reason; step = step });
     mesh = zeros 6;
     table = zeros 4;
     start = start_of none none none none none none;

@@ -8,29 +8,13 @@ use native.Mathlib.Omega.{arith}
 use Rattle.rules.specs.Lists.{pick, in_turn}
 use Rattle.rules.specs.Spread.{add_words}
 use Rattle.rules.specs.Collectives.{Step, all_slice, all_gather, all_reduce, all_to_all, reduce_scatter, Shards, stepped, Stands, with_shards}
-use Rattle.types.specs.Types.{of_kind, step_of}
-use Rattle.types.specs.declared.Kind.{Kind}
-use Rattle.types.specs.declared.Kind.TheVariants.{AllSlice, AllGather, AllReduce, AllToAll, ReduceScatter, Unknown}
-use Rattle.types.specs.declared.Step as code
 use Rattle.laws.proofs.Lists.{in-turn-append}
 use Rattle.laws.proofs.Stands.{with-stands}
 use Rattle.step.specs.Stepping.{in_place, spent_shards}
-use Rattle.rounds.specs.Rounds.{stands_after, Memory, put_in, stays_in, spent_in, memory_after, Leaves}
-
--- the code's steps that are done in place are the rules' steps that are
-stays-in : (rank : ℕ) (t : code.Step) → in_place t.kind ≡ stays_in (step_of rank t)
-stays-in rank t = go t.kind
-  where
-    go : (k : Kind) → in_place k ≡ stays_in (of_kind k rank t)
-    go AllSlice = refl
-    go AllGather = refl
-    go AllReduce = refl
-    go AllToAll = refl
-    go ReduceScatter = refl
-    go Unknown = refl
+use Rattle.rounds.specs.Rounds.{stands_after, Memory, put_in, spent_in, memory_after, Leaves}
 
 -- a step that is done in place spends nothing besides
-stays-spends : (mesh : List ℕ) (t : Step) → stays_in t ≡ true → (v : Shards ℕ) (l : List ℕ) → spent_shards add_words mesh t v l ≡ l
+stays-spends : (mesh : List ℕ) (t : Step) → in_place t ≡ true → (v : Shards ℕ) (l : List ℕ) → spent_shards add_words mesh t v l ≡ l
 stays-spends mesh (all_slice Ss) e v l = refl
 stays-spends mesh (all_gather Gs) e v l = refl
 stays-spends mesh (all_reduce L) e v l = refl
@@ -42,7 +26,7 @@ module _ (mesh : List ℕ) where
   run ts v = in_turn (stepped add_words mesh) ts v
 
   -- of two buffers, the one in which the next shards are put, and the other one, of which t has spent what it spends
-  put-in : (b in_work : Bool) (t : Step) → b ≡ stays_in t → (u v : Shards ℕ) (work spare work' spare' : List ℕ)
+  put-in : (b in_work : Bool) (t : Step) → b ≡ in_place t → (u v : Shards ℕ) (work spare work' spare' : List ℕ)
       → pick b (pick in_work work' spare') (pick in_work spare' work') ≡ with_shards mesh u (pick b (pick in_work work spare) (pick in_work spare work))
       → pick b (pick in_work spare' work') (pick in_work work' spare')
       ≡ pick b (pick in_work spare work) (spent_shards add_words mesh t v (pick in_work work spare))
@@ -55,18 +39,16 @@ module _ (mesh : List ℕ) where
   put-in false true t s u v work spare work' spare' p q = λ i. record { shards = u; in_work = false; work = q i; spare = p i }
   put-in false false t s u v work spare work' spare' p q = λ i. record { shards = u; in_work = true; work = p i; spare = q i }
 
-  pub step-leaves : (rank : ℕ) (t : code.Step) (in_work : Bool) (v : Shards ℕ) (work spare work' spare' : List ℕ)
-      → pick (in_place t.kind) (pick in_work work' spare') (pick in_work spare' work')
-      ≡ with_shards mesh (stepped add_words mesh (step_of rank t) v) (pick (in_place t.kind) (pick in_work work spare) (pick in_work spare work))
-      → pick (in_place t.kind) (pick in_work spare' work') (pick in_work work' spare')
-      ≡ pick (in_place t.kind) (pick in_work spare work) (spent_shards add_words mesh (step_of rank t) v (pick in_work work spare))
-      → record { shards = stepped add_words mesh (step_of rank t) v; in_work = stands_after t.kind in_work; work = work'; spare = spare' }
-      ≡ memory_after mesh (step_of rank t) (record { shards = v; in_work = in_work; work = work; spare = spare })
+  pub step-leaves : (t : Step) (in_work : Bool) (v : Shards ℕ) (work spare work' spare' : List ℕ)
+      → pick (in_place t) (pick in_work work' spare') (pick in_work spare' work')
+      ≡ with_shards mesh (stepped add_words mesh t v) (pick (in_place t) (pick in_work work spare) (pick in_work spare work))
+      → pick (in_place t) (pick in_work spare' work') (pick in_work work' spare')
+      ≡ pick (in_place t) (pick in_work spare work) (spent_shards add_words mesh t v (pick in_work work spare))
+      → record { shards = stepped add_words mesh t v; in_work = stands_after t in_work; work = work'; spare = spare' }
+      ≡ memory_after mesh t (record { shards = v; in_work = in_work; work = work; spare = spare })
   unfolding memory_after
-  step-leaves rank t in_work v work spare work' spare' p q =
-      put-in (in_place t.kind) in_work (step_of rank t) (stays-in rank t) (stepped add_words mesh (step_of rank t) v) v work spare work' spare' p q
-      ∙ ap (λ (b : Bool). put_in mesh (stepped add_words mesh (step_of rank t) v) (pick b in_work (not in_work))
-      (spent_in mesh (step_of rank t) (record { shards = v; in_work = in_work; work = work; spare = spare }))) (stays-in rank t)
+  step-leaves t in_work v work spare work' spare' p q =
+      put-in (in_place t) in_work t refl (stepped add_words mesh t v) v work spare work' spare' p q
 
   -- shards stand in the buffer that is named
   abbrev Standing : Memory → Type 0
@@ -79,7 +61,7 @@ module _ (mesh : List ℕ) where
   turns-stand : (ts : List Step) (m : Memory) → Standing m → Standing (in_turn (memory_after mesh) ts m)
   unfolding memory_after
   turns-stand [] m h = h
-  turns-stand (t ∷ ts) m h = turns-stand ts (memory_after mesh t m) (put-stands (stepped add_words mesh t m.shards) (pick (stays_in t) m.in_work (not m.in_work)) (spent_in mesh t m))
+  turns-stand (t ∷ ts) m h = turns-stand ts (memory_after mesh t m) (put-stands (stepped add_words mesh t m.shards) (stands_after t m.in_work) (spent_in mesh t m))
 
   module _ {shape : List ℕ} (ts : List Step) (in_work : Bool) (work spare : List ℕ) {in-work' : Bool} {work' spare' : List ℕ}
       (l : Leaves mesh shape ts in_work work spare in-work' work' spare') where

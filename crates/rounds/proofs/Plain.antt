@@ -16,14 +16,16 @@ use Rattle.rules.specs.PlanFile.{Read, step_at, judge_step, plain, StepsRead, pl
 use Rattle.laws.specs.Demands.{largest_on}
 use Rattle.types.specs.Types.{sharding_of, step_of, mesh_of, sizes_of}
 use Rattle.types.specs.declared.Mesh.{Mesh}
-use Rattle.types.specs.declared.Refusal.{Refusal}
 use Rattle.types.specs.declared.Table.{Table}
-use Rattle.laws.proofs.Judging.{never, accept-inj, bind_inv}
+use Rattle.laws.proofs.Judging.{accept-inj, bind_inv}
 use Rattle.laws.proofs.Steps.{facts}
 use Rattle.laws.proofs.Bytes.{Takes, plain-takes}
-use Rattle.reader.specs.declared.Next.TheVariants as next
-use Rattle.reader.proofs.Answers.{read-on, read-stopped}
-use Rattle.taking.specs.Taking.{StepTaken, take_step}
+use Rattle.std.specs.Prelude.{Result, Err}
+use Rattle.types.specs.declared.Refusal.{Refusal}
+use Rattle.laws.proofs.Judging.{never}
+use Rattle.reader.specs.Reading.{reading}
+use Rattle.reader.specs.declared.Read as code-read
+use Rattle.taking.specs.Taking.{StepTaken, take_step, taken_of}
 use Rattle.taking.specs.declared.Taken.{Taken}
 use Rattle.taking.proofs.Takes.{step-taken}
 use Rattle.step.proofs.Shards.{stepping}
@@ -92,23 +94,27 @@ module _ {file : List ℕ} {mesh : Mesh} {table : Table} {p : Progress} (work sp
             (less-room (mesh_of mesh) new (pick-long p.in_work spare work g.spare_room g.work_room));
       }
 
-  module _ {r : Taken} (work' spare' : List ℕ) (t : Turned file p.at p.number mesh table p.sharding (pick p.in_work work spare)
-      (pick p.in_work spare work) (pick p.in_work work' spare') (pick p.in_work spare' work') r) where
-    pub plain-read : {x : Refusal} → r.next ≡ next.Refused x → ⊥
-    plain-read q = never (sym (read-stopped _ t.taken q refl) ∙ was.taken)
+  -- read again, the step is not refused
+  pub plain-read : {r : Result (code-read.Read Taken) Refusal}
+      → reading (taken_of table.rank) r ≡ take_step (mesh_of mesh) (sizes_of table) p.number file p.at (sharding_of table.rank p.sharding)
+      → {x : Refusal} → r ≡ Err x → ⊥
+  plain-read e q = never (sym (ap (reading (taken_of table.rank)) q) ∙ e ∙ was.taken)
 
-    pub plain-ran : {end : ℕ} {b : Bool} → r.next ≡ next.At end → b ≡ stands_after r.step.kind p.in_work
-        → HasRun (plain_at (mesh_of mesh) (sizes_of table) file) mesh table p work spare work' spare' (record { at = end; number = p.number + 1; in_work = b; sharding = r.sharding })
-    plain-ran {end} {b} n q w e =
-        let is : taken_as was.step was.end ≡ record { value = record { step = step_of table.rank r.step; sharding = sharding_of table.rank r.sharding }; next = end } =
-        accept-inj (sym was.taken ∙ read-on _ t.taken n) in
+  module _ {r : code-read.Read Taken} (work' spare' : List ℕ) (t : Turned file p.at p.number mesh table p.sharding (pick p.in_work work spare)
+      (pick p.in_work spare work) (pick p.in_work work' spare') (pick p.in_work spare' work') r) where
+    pub plain-ran : {b : Bool} → b ≡ stands_after (step_of table.rank r.value.step) p.in_work
+        → HasRun (plain_at (mesh_of mesh) (sizes_of table) file) mesh table p work spare work' spare'
+        (record { at = r.next; number = p.number + 1; in_work = b; sharding = r.value.sharding })
+    plain-ran {b} q w e =
+        let is : taken_as was.step was.end ≡ record { value = taken_of table.rank r.value; next = r.next } = accept-inj (sym was.taken ∙ sym t.taken) in
         let same : read_steps_as was.step was.end ≡ w = was.read_is ∙ accept-inj (sym g.accepted ∙ e) in
-        subst (λ (w : StepsRead). HasTaken w mesh table p work spare work' spare' (record { at = end; number = p.number + 1; in_work = b; sharding = r.sharding })) same (record {
+        let end : Progress = record { at = r.next; number = p.number + 1; in_work = b; sharding = r.value.sharding } in
+        subst (λ (w : StepsRead). HasTaken w mesh table p work spare work' spare' end) same (record {
           at_is = sym (ap (λ (x : Read StepTaken). x.next) is);
           number_is = refl;
           sharding_is = sym (ap (λ (x : Read StepTaken). x.value.sharding) is);
           leaves = subst (λ (x : Step). Leaves (mesh_of mesh) (shape_of mesh table p.sharding) (x ∷ []) p.in_work work spare b work' spare')
               (sym (ap (λ (x : Read StepTaken). x.value.step) is)) (λ v f st.
-              ap (λ (c : Bool). record { shards = stepped add_words (mesh_of mesh) (step_of table.rank r.step) v; in_work = c; work = work'; spare = spare' }) q
-              ∙ step-leaves (mesh_of mesh) table.rank r.step p.in_work v work spare work' spare' (t.leaves v f st) (t.keeps v f st));
+              ap (λ (c : Bool). record { shards = stepped add_words (mesh_of mesh) (step_of table.rank r.value.step) v; in_work = c; work = work'; spare = spare' }) q
+              ∙ step-leaves (mesh_of mesh) (step_of table.rank r.value.step) p.in_work v work spare work' spare' (t.leaves v f st) (t.keeps v f st));
         })

@@ -1,22 +1,23 @@
 -- What the parts (src/lib.rt) ask for and leave, of no plan: one step by itself; and whatever was accepted from a sharding on, a plain step, a repeat,
 -- or so many steps in turn, with both buffers whole. Assumes nothing.
-use Rattle.std.specs.Prelude.{ℕ, ◌+◌, ◌*◌, ◌≤◌, ◌<◌, ◌≡◌, Bool, true, false, not, List, length, take}
+use Rattle.std.specs.Prelude.{ℕ, ◌+◌, ◌*◌, ◌≤◌, ◌<◌, ◌≡◌, Bool, not, List, length, take, Ok}
 use Rattle.rules.specs.Lists.{pick, in_turn, product}
 use Rattle.rules.specs.Mesh.{devices, OnMesh}
 use Rattle.rules.specs.Sharding.{Sharding, shard_sizes}
 use Rattle.rules.specs.Spread.{add_words}
-use Rattle.rules.specs.Collectives.{Step, all_slice, all_gather, all_reduce, all_to_all, reduce_scatter, Shards, stepped, Stands, with_shards}
+use Rattle.rules.specs.Collectives.{Step, Shards, stepped, Stands, with_shards}
 use Rattle.rules.specs.Limits.{most_dims, most_words, most_bytes, every_kind}
 use Rattle.rules.specs.Refusals.{Judged, accept}
 use Rattle.rules.specs.PlanFile.{Read, StepsRead, JudgesStep, steps_at, repeat_at, item_at}
 use Rattle.laws.specs.Demands.{largest_on}
 use Rattle.types.specs.Types.{dims_of, sharding_of, step_of, mesh_of, sizes_of}
-use Rattle.types.specs.declared.Kind.{Kind}
 use Rattle.types.specs.declared.Sharding as code
 use Rattle.types.specs.declared.Table.{Table}
 use Rattle.types.specs.declared.Mesh.{Mesh}
 use Rattle.judge.specs.Step.{Sharded}
-use Rattle.taking.specs.Taking.{StepTaken, take_step, taken_read}
+use Rattle.reader.specs.Reading.{reading}
+use Rattle.reader.specs.declared.Read as code-read
+use Rattle.taking.specs.Taking.{StepTaken, take_step, taken_of}
 use Rattle.taking.specs.declared.Taken.{Taken}
 use Rattle.step.specs.Stepping.{Stepping, in_place, spent_shards}
 use Rattle.rounds.specs.declared.Progress.{Progress}
@@ -38,18 +39,18 @@ pub record Turning (file : List ℕ) (at k : ℕ) (mesh : Mesh) (table : Table) 
 
 -- what the step leaves, from the state in here: of any shards of that sharding's shape that stood there, those after the step, in here where it is done
 -- in place, else in there, with the words behind them as they were; and in the other buffer what the step has spent of it
-pub record Turned (file : List ℕ) (at k : ℕ) (mesh : Mesh) (table : Table) (s : code.Sharding) (here there here' there' : List ℕ) (r : Taken) : Type 0 where
-  pub taken : taken_read table.rank r ≡ take_step (mesh_of mesh) (sizes_of table) k file at (sharding_of table.rank s)
+pub record Turned (file : List ℕ) (at k : ℕ) (mesh : Mesh) (table : Table) (s : code.Sharding) (here there here' there' : List ℕ) (r : code-read.Read Taken) : Type 0 where
+  pub taken : reading (taken_of table.rank) (Ok r) ≡ take_step (mesh_of mesh) (sizes_of table) k file at (sharding_of table.rank s)
   pub leaves : (v : Shards ℕ) → v.shape ≡ shape_of mesh table s → Stands (mesh_of mesh) v here
-      → pick (in_place r.step.kind) here' there'
-      ≡ with_shards (mesh_of mesh) (stepped add_words (mesh_of mesh) (step_of table.rank r.step) v) (pick (in_place r.step.kind) here there)
+      → pick (in_place (step_of table.rank r.value.step)) here' there'
+      ≡ with_shards (mesh_of mesh) (stepped add_words (mesh_of mesh) (step_of table.rank r.value.step) v) (pick (in_place (step_of table.rank r.value.step)) here there)
   pub keeps : (v : Shards ℕ) → v.shape ≡ shape_of mesh table s → Stands (mesh_of mesh) v here
-      → pick (in_place r.step.kind) there' here'
-      ≡ pick (in_place r.step.kind) there (spent_shards add_words (mesh_of mesh) (step_of table.rank r.step) v here)
+      → pick (in_place (step_of table.rank r.value.step)) there' here'
+      ≡ pick (in_place (step_of table.rank r.value.step)) there (spent_shards add_words (mesh_of mesh) (step_of table.rank r.value.step) v here)
 
 -- whether the state stands in work after a step: one that is not done in place leaves it in the other buffer
-abbrev pub stands_after : Kind → Bool → Bool
-stands_after kind in_work = pick (in_place kind) in_work (not in_work)
+abbrev pub stands_after : Step → Bool → Bool
+stands_after t in_work = pick (in_place t) in_work (not in_work)
 
 -- ---- the memory of a run
 
@@ -69,14 +70,6 @@ put_in mesh v in_work m = record {
   spare = pick in_work m.spare (with_shards mesh v m.spare);
 }
 
--- whether the state stays in its buffer, of a step of the rules
-abbrev pub stays_in : Step → Bool
-stays_in (all_slice Ss) = false
-stays_in (all_gather Gs) = false
-stays_in (all_reduce L) = true
-stays_in (all_to_all source target L) = false
-stays_in (reduce_scatter Ss) = false
-
 -- what a step spends of the buffer in which the shards stood
 abbrev pub spent_in : (mesh : List ℕ) → Step → Memory → Memory
 spent_in mesh t m = record {
@@ -88,7 +81,7 @@ spent_in mesh t m = record {
 
 -- one step on it
 unfoldable pub memory_after : (mesh : List ℕ) → Step → Memory → Memory
-memory_after mesh t m = put_in mesh (stepped add_words mesh t m.shards) (pick (stays_in t) m.in_work (not m.in_work)) (spent_in mesh t m)
+memory_after mesh t m = put_in mesh (stepped add_words mesh t m.shards) (stands_after t m.in_work) (spent_in mesh t m)
 
 -- What steps leave of two buffers, of any shards of a shape that stood in the one that is named; the words that it holds are such shards (`held-stands`,
 -- laws/proofs/Stands). So every word of both buffers is fixed, and in which of them the shards after the steps stand.

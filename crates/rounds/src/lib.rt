@@ -3,19 +3,19 @@
 // rules/specs/PlanFile.antt.
 #![tactic(auto)]
 
-ghost use Rattle.std.specs.Prelude.{◌≡◌, length};
+ghost use Rattle.std.specs.Prelude.{◌≡◌, ℕ, length};
 ghost use Rattle.rules.specs.Lists.{pick};
-ghost use Rattle.types.specs.Types.{mesh_of, sizes_of};
+ghost use Rattle.types.specs.Types.{mesh_of, sizes_of, step_of};
 ghost use Rattle.rules.specs.Limits.{every_kind};
 ghost use Rattle.rules.specs.PlanFile.{steps_at, plain_at, item_at};
 ghost use Rattle.rounds.specs.Rounds.{Turning, Turned, stands_after, block_at, CanRun, HasRun};
 
 use blocks::is_repeat;
 use dims::{shard_of, words};
-use reader::Next;
+use reader::Read;
 use step::{in_place, step_from};
 use taking::{Taken, take_step};
-use types::{Kind, Mesh, Sharding, Table};
+use types::{Mesh, Sharding, Step, Table};
 
 // Where a run is: the place of the next kind byte and its number, whether the state stands at the front of work (else at that of spare), and its
 // sharding.
@@ -38,27 +38,25 @@ fn do_step(
     sharding: Sharding,
     here: &mut [u32],
     there: &mut [u32],
-) -> Taken
+) -> Read<Taken>
     requires { Turning file.now at k mesh table sharding (length here.old) (length there.old) }
     ensures { Turned file.now at k mesh table sharding here.old there.old here.new there.new result }
 {
-    let taken = take_step(file, at, k, mesh, table, sharding);
+    let read = take_step(file, at, k, mesh, table, sharding).unwrap();
+    let taken = read.value;
     let before = shard_of(table, sharding.dims, mesh);
-    let after = taken.sharding;
-    let size = words(shard_of(table, after.dims, mesh));
-    let n = mesh.n;
-    let axes = mesh.sizes;
-    let rank = before.rank;
-    let shape = before.sizes;
-    step_from(here, there, &axes[..n], &shape[..rank], taken.step, size);
-    taken
+    let size = words(shard_of(table, taken.sharding.dims, mesh));
+    let axes = &mesh.sizes[..mesh.n];
+    let shape = &before.sizes[..before.rank];
+    step_from(here, there, axes, shape, taken.step, size);
+    read
 }
 
 // Whether the state stands in work after a step: one that moves words leaves it in the other buffer.
-fn stands_after(kind: Kind, in_work: bool) -> bool
-    ensures { result ≡ stands_after kind in_work }
+fn stands_after(step: Step, in_work: bool) -> bool
+    ensures { (rank : ℕ) → result ≡ stands_after (step_of rank step) in_work }
 {
-    if in_place(kind) { in_work } else { !in_work }
+    if in_place(step) { in_work } else { !in_work }
 }
 
 // Step k between the two buffers: from the one in which the state stands.
@@ -72,7 +70,7 @@ fn do_turn(
     in_work: bool,
     work: &mut [u32],
     spare: &mut [u32],
-) -> Taken
+) -> Read<Taken>
     requires { Turning file.now at k mesh table sharding (length (pick in_work work.old spare.old)) (length (pick in_work spare.old work.old)) }
     ensures { Turned file.now at k mesh table sharding
         (pick in_work work.old spare.old) (pick in_work spare.old work.old)
@@ -98,7 +96,7 @@ fn run_plain(
     ensures { HasRun (plain_at (mesh_of mesh) (sizes_of table) file.now) mesh table from
         work.old spare.old work.new spare.new result }
 {
-    let taken = do_turn(
+    let read = do_turn(
         file,
         from.at,
         from.number,
@@ -109,20 +107,12 @@ fn run_plain(
         work,
         spare,
     );
-    let next = taken.next;
-    let Next::At(at) = next else {
-        return from;
-    };
-    let step = taken.step;
-    let kind = step.kind;
-    let number = from.number + 1;
-    let in_work = stands_after(kind, from.in_work);
-    let sharding = taken.sharding;
+    let taken = read.value;
     Progress {
-        at,
-        number,
-        in_work,
-        sharding,
+        at: read.next,
+        number: from.number + 1,
+        in_work: stands_after(taken.step, from.in_work),
+        sharding: taken.sharding,
     }
 }
 
@@ -147,8 +137,7 @@ fn run_block(
     let rounds = file[at + 1] as usize;
     let inner = file[at + 2] as usize;
     let mut here = from;
-    let mut i: usize = 0;
-    while i < rounds {
+    for i in 0..rounds {
         let first = Progress {
             at: at + 3,
             number: from.number + 1,
@@ -156,7 +145,6 @@ fn run_block(
             sharding,
         };
         here = run_row(file, mesh, table, inner, depth, first, work, spare);
-        i += 1;
     }
     here
 }
@@ -201,10 +189,8 @@ pub fn run_row(
         work.old spare.old work.new spare.new result }
 {
     let mut here = from;
-    let mut done: usize = 0;
-    while done < count {
+    for done in 0..count {
         here = run_item(file, mesh, table, depth, here, work, spare);
-        done += 1;
     }
     here
 }

@@ -31,10 +31,10 @@ use Rattle.rounds.specs.Rounds.{shape_of}
 use Rattle.run.specs.Runs.{Runs, RunsOrdered, StartStands, StepsTaken, LastNumbered, BeginsWithLast}
 
 -- buffers of the same lengths, and the two for each other
-pub as_long : {file : List ℕ} {at : ℕ} {w : Whole} {works spares work spare : ℕ} → Runs file at w works spares → work ≡ works → spare ≡ spares → Runs file at w work spare
+pub as_long : {file : List ℕ} {w : Whole} {works spares work spare : ℕ} → Runs file w works spares → work ≡ works → spare ≡ spares → Runs file w work spare
 as_long h e f = record { plan = h.plan; judged = h.judged; holds = h.holds; work_room = rw e h.work_room; spare_room = rw f h.spare_room }
 
-pub swapped : {file : List ℕ} {at : ℕ} {w : Whole} {works spares : ℕ} → RunsOrdered file at w works spares → RunsOrdered file at w spares works
+pub swapped : {file : List ℕ} {w : Whole} {works spares : ℕ} → RunsOrdered file w works spares → RunsOrdered file w spares works
 swapped h = record {
   runs = record { plan = h.runs.plan; judged = h.runs.judged; holds = h.runs.holds; work_room = h.runs.spare_room; spare_room = h.runs.work_room };
   carried = h.carried;
@@ -59,7 +59,7 @@ last-stands : (file before after : List ℕ) (p : Plan) (given : List ℕ) → j
 last-stands file before after p given e t h =
     subst (λ (v : Shards ℕ). Stands p.mesh v after) (last-shards p given) (t p e (shards_after p given 0) (start-shape p given) h)
 
-module _ {file : List ℕ} {at : ℕ} {w : Whole} {p : Plan} (e : judge file ≡ accept p) (g : HoldsPlan file at w p) where
+module _ {file : List ℕ} {w : Whole} {p : Plan} (e : judge file ≡ accept p) (g : HoldsPlan file w p) where
   -- the order that the code reads, where the file carries one; else the plain one
   pub order-read : carries_order (edition file) ≡ true → p.order ≡ order_read file w
   order-read c = g.order_is ∙ ap (λ (b : Bool). order_of b w.devices file (18 + 2 * w.mesh.n)) c
@@ -87,13 +87,13 @@ module _ {file : List ℕ} {at : ℕ} {w : Whole} {p : Plan} (e : judge file ≡
 
 -- ---- the plain order
 
-module _ {file : List ℕ} {at : ℕ} {w : Whole} (given after : List ℕ) {works spares : ℕ} (long : works ≡ length given) (h : Runs file at w works spares)
+module _ {file : List ℕ} {w : Whole} (given after : List ℕ) {works spares : ℕ} (long : works ≡ length given) (h : Runs file w works spares)
     (c : carries_order (edition file) ≡ false) where
   pub begins-plain : StepsTaken file given after → BeginsWithLast file given after
   unfolding last_state shards_after
   begins-plain t p e =
       let q : h.plan ≡ p = accept-inj (sym h.judged ∙ e) in
-      let g : HoldsPlan file at w p = subst (HoldsPlan file at w) q h.holds in
+      let g : HoldsPlan file w p = subst (HoldsPlan file w) q h.holds in
       let o : p.order ≡ plain_order (devices p.mesh) = order-plain e g c in
       let l : devices p.mesh * product (announced_shape p 0) ≤ length given =
       omega (arith, fits-first e g, long, subst (λ (z : Plan). room z ≤ works) q h.work_room) in
@@ -108,7 +108,7 @@ module _ {file : List ℕ} {at : ℕ} {w : Whole} (given after : List ℕ) {work
 
 -- ---- another order
 
-module _ {file : List ℕ} {at : ℕ} {w : Whole} {works spares : ℕ} (h : RunsOrdered file at w works spares) where
+module _ {file : List ℕ} {w : Whole} {works spares : ℕ} (h : RunsOrdered file w works spares) where
   abbrev plan : Plan
   plan = h.runs.plan
 
@@ -143,7 +143,7 @@ module _ {file : List ℕ} {at : ℕ} {w : Whole} {works spares : ℕ} (h : Runs
   unfolding shards_after
   start-stands given rest {after = after} o n a p e =
       let q : plan ≡ p = accept-inj (sym h.runs.judged ∙ e) in
-      let g : HoldsPlan file at w p = subst (HoldsPlan file at w) q h.runs.holds in
+      let g : HoldsPlan file w p = subst (HoldsPlan file w) q h.runs.holds in
       let same : after ≡ words_by_place 0 p.order (product (announced_shape p 0)) given ++ rest =
       a ∙ (λ i. words_by_place 0 ((o ∙ sym (order-read e g h.carried)) i) ((n ∙ ap product (sym (shape-first e g))) i) given ++ rest) in
       subst (Stands p.mesh (shards_after p given 0)) (sym same) (placed-stands 0 p.mesh p.order (ordered e g) (announced_shape p 0) given rest)
@@ -153,7 +153,7 @@ module _ {file : List ℕ} {at : ℕ} {w : Whole} {works spares : ℕ} (h : Runs
   unfolding last_state
   last-numbered before rest {after = after} o n a p e given st =
       let q : plan ≡ p = accept-inj (sym h.runs.judged ∙ e) in
-      let g : HoldsPlan file at w p = subst (HoldsPlan file at w) q h.runs.holds in
+      let g : HoldsPlan file w p = subst (HoldsPlan file w) q h.runs.holds in
       let v : Shards ℕ = shards_after p given (length p.steps) in
       let shape : v.shape ≡ announced_shape p (length p.steps) = plan-shapes (accepted file p e) given (length p.steps) in
       let same : after ≡ last_state p given ++ rest =

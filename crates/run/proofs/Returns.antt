@@ -46,12 +46,12 @@ module _ (file work spare : List ℕ) where
 
 -- ---- the last state, as the code has it
 
-module _ {file : List ℕ} {at : ℕ} {w : Whole} (h : (p : Plan) × (judge file ≡ accept p) × HoldsPlan file at w p) where
+module _ {file : List ℕ} {w : Whole} (h : (p : Plan) × (judge file ≡ accept p) × HoldsPlan file w p) where
   pub last-size : (given : List ℕ) → w.devices * product (answer_of w).shard ≡ length (last_state h.0 given)
   unfolding announced_shape
   last-size given =
       let p : Plan = h.0 in
-      let g : HoldsPlan file at w p = h.2 in
+      let g : HoldsPlan file w p = h.2 in
       sym (last-length (accepted file p h.1) given
       ∙ (λ i. g.devices_are i * product (shard_sizes (g.mesh_is i) (g.sizes_are i) (g.last_is i).dims)))
 

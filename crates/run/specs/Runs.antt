@@ -10,17 +10,17 @@ use Rattle.rules.specs.Calls.{shards_after, last_state}
 use Rattle.plan.specs.Parts.{HoldsPlan}
 use Rattle.plan.specs.declared.Whole.{Whole}
 
--- a plan that passed, its steps from `at` on, and buffers with room for it
-pub record Runs (file : List ℕ) (at : ℕ) (w : Whole) (work spare : ℕ) : Type 0 where
+-- a plan that passed, and buffers with room for it
+pub record Runs (file : List ℕ) (w : Whole) (work spare : ℕ) : Type 0 where
   pub plan : Plan
   pub judged : judge file ≡ accept plan
-  pub holds : HoldsPlan file at w plan
+  pub holds : HoldsPlan file w plan
   pub work_room : room plan ≤ work
   pub spare_room : room plan ≤ spare
 
 -- the same where the file carries an order of its devices
-pub record RunsOrdered (file : List ℕ) (at : ℕ) (w : Whole) (work spare : ℕ) : Type 0 where
-  pub runs : Runs file at w work spare
+pub record RunsOrdered (file : List ℕ) (w : Whole) (work spare : ℕ) : Type 0 where
+  pub runs : Runs file w work spare
   pub carried : carries_order (edition file) ≡ true
 
 -- the shards that a plan starts with, from the words given, stand in a buffer, by place

@@ -3,7 +3,7 @@
 // ask for and leave.
 #![tactic(auto)]
 
-ghost use Rattle.std.specs.Prelude.{◌≡◌, ◌*◌, ◌≤◌, ◌++◌, length, take, drop, replicate};
+ghost use Rattle.std.specs.Prelude.{◌≡◌, ◌*◌, ◌≤◌, ◌++◌, length, take, drop, replicate, Err};
 ghost use Rattle.rules.specs.Lists.{pick, product};
 ghost use Rattle.rules.specs.Limits.{most_devices, most_words};
 ghost use Rattle.types.specs.Types.{WithinPlaces};
@@ -16,20 +16,9 @@ ghost use Rattle.run.specs.Runs.{Runs, RunsOrdered, StepsTaken, BeginsWithLast};
 use dims::{shard_of, words};
 use order::{invert, place_shards};
 use plan::{Whole, judge_file};
-use reader::{Next, carries_order, read_order};
+use reader::{carries_order, read_order};
 use rounds::{Progress, run_row};
-use types::{Device, PlanFile, Ran, Reason, Refusal, RunOutcome, Sharding, Step};
-
-// Zeros.
-fn clear(words: &mut [u32])
-    ensures { words.new ≡ replicate (length words.old) 0 }
-{
-    let mut t: usize = 0;
-    while t < words.len() {
-        words[t] = 0;
-        t += 1;
-    }
-}
+use types::{Device, PlanFile, Ran, Reason, Refusal, Sharding, Step};
 
 // Words of spare that are taken to work, with zeros left behind, so that spare is passed over once.
 fn take_home(work: &mut [u32], spare: &mut [u32])
@@ -37,34 +26,23 @@ fn take_home(work: &mut [u32], spare: &mut [u32])
     ensures work_after { work.new ≡ spare.old }
     ensures spare_after { spare.new ≡ replicate (length spare.old) 0 }
 {
-    let mut i: usize = 0;
-    while i < work.len() {
-        let word = spare[i];
-        work[i] = word;
+    for i in 0..work.len() {
+        work[i] = spare[i];
         spare[i] = 0;
-        i += 1;
     }
 }
 
 // The steps in turn, from the state by place in work, its home, or in spare. Answers whether the last state stands at the front of work; else it stands
 // at that of spare.
-fn run_steps(
-    file: &[u8],
-    at: usize,
-    whole: Whole,
-    home: bool,
-    work: &mut [u32],
-    spare: &mut [u32],
-) -> bool
-    requires { Runs file.now at whole (length work.old) (length spare.old) }
+fn run_steps(file: &[u8], whole: Whole, home: bool, work: &mut [u32], spare: &mut [u32]) -> bool
+    requires { Runs file.now whole (length work.old) (length spare.old) }
     ensures { StepsTaken file.now (pick home work.old spare.old) (pick result work.new spare.new) }
 {
-    let sharding = whole.start;
     let first = Progress {
-        at,
+        at: whole.at,
         number: 1,
         in_work: home,
-        sharding,
+        sharding: whole.start,
     };
     let end = run_row(
         file,
@@ -104,28 +82,27 @@ fn number_shards(in_work: bool, places: &[u16], m: usize, work: &mut [u32], spar
 // after the last.
 fn run_by_place(
     file: &[u8],
-    at: usize,
     whole: Whole,
     order: &mut [u16],
     places: &mut [u16],
     work: &mut [u32],
     spare: &mut [u32],
 ) -> bool
-    requires { RunsOrdered file.now at whole (length work.old) (length spare.old) × (length order.old ≡ whole.devices) × (length places.old ≡ whole.devices) }
+    requires { RunsOrdered file.now whole (length work.old) (length spare.old) × (length order.old ≡ whole.devices) × (length places.old ≡ whole.devices) }
     ensures { BeginsWithLast file.now work.old (pick result work.new spare.new) }
 {
     read_order(file, PlanFile::LEAST + 2 * whole.mesh.n, order);
     invert(order, places);
     let m = words_of(whole, whole.start);
     place_shards(spare, work, order, m);
-    let in_work = run_steps(file, at, whole, false, work, spare);
+    let in_work = run_steps(file, whole, false, work, spare);
     let last = words_of(whole, whole.last);
     number_shards(in_work, places, last, work, spare);
     !in_work
 }
 
-fn run_ordered(file: &[u8], at: usize, whole: Whole, work: &mut [u32], spare: &mut [u32]) -> bool
-    requires { RunsOrdered file.now at whole (length work.old) (length spare.old) }
+fn run_ordered(file: &[u8], whole: Whole, work: &mut [u32], spare: &mut [u32]) -> bool
+    requires { RunsOrdered file.now whole (length work.old) (length spare.old) }
     ensures { BeginsWithLast file.now work.old (pick result work.new spare.new) }
 {
     let devices = whole.devices;
@@ -133,7 +110,6 @@ fn run_ordered(file: &[u8], at: usize, whole: Whole, work: &mut [u32], spare: &m
     let mut places = [0u16; Device::MOST];
     run_by_place(
         file,
-        at,
         whole,
         &mut order[0..devices],
         &mut places[0..devices],
@@ -143,14 +119,14 @@ fn run_ordered(file: &[u8], at: usize, whole: Whole, work: &mut [u32], spare: &m
 }
 
 // The whole plan, from the words of work. Answers whether the last state stands at the front of work; else it stands at that of spare.
-fn run_plan(file: &[u8], at: usize, whole: Whole, work: &mut [u32], spare: &mut [u32]) -> bool
-    requires { Runs file.now at whole (length work.old) (length spare.old) }
+fn run_plan(file: &[u8], whole: Whole, work: &mut [u32], spare: &mut [u32]) -> bool
+    requires { Runs file.now whole (length work.old) (length spare.old) }
     ensures { BeginsWithLast file.now work.old (pick result work.new spare.new) }
 {
     if carries_order(file) {
-        run_ordered(file, at, whole, work, spare)
+        run_ordered(file, whole, work, spare)
     } else {
-        run_steps(file, at, whole, true, work, spare)
+        run_steps(file, whole, true, work, spare)
     }
 }
 
@@ -161,11 +137,11 @@ fn bring_home(in_work: bool, last: usize, work: &mut [u32], spare: &mut [u32])
     ensures work_after { take last work.new ≡ take last (pick in_work work.old spare.old) }
 {
     if in_work {
-        clear(spare);
+        spare.fill(0);
         return;
     }
     take_home(&mut work[0..last], &mut spare[0..last]);
-    clear(&mut spare[last..]);
+    spare[last..].fill(0);
 }
 
 // The words of the last state.
@@ -179,10 +155,10 @@ fn last_words(whole: Whole) -> usize
 
 // Refused, with no words moved.
 fn refused(refusal: Refusal) -> Ran
-    ensures { result ≡ record { outcome = RunOutcome.Refused refusal; moved = 0 } }
+    ensures { result ≡ record { outcome = Err refusal; moved = 0 } }
 {
     Ran {
-        outcome: RunOutcome::Refused(refusal),
+        outcome: Err(refusal),
         moved: 0,
     }
 }
@@ -192,30 +168,23 @@ fn refused(refusal: Refusal) -> Ran
 pub fn run(file: &[u8], work: &mut [u32], spare: &mut [u32]) -> Ran
     ensures { RunPromise file.now work.old spare.old result work.new spare.new }
 {
-    let whole = judge_file(file);
-    let next = whole.next;
-    let Next::At(at) = next else {
-        return refused(next.refusal());
+    let whole = match judge_file(file) {
+        Ok(whole) => whole,
+        Err(refusal) => return refused(refusal),
     };
     let room = whole.devices * whole.most;
     if work.len() < room {
-        return refused(Refusal {
-            reason: Reason::WorkTooShort,
-            step: 0,
-        });
+        return refused(Refusal::outside(Reason::WorkTooShort));
     }
     if spare.len() < room {
-        return refused(Refusal {
-            reason: Reason::SpareTooShort,
-            step: 0,
-        });
+        return refused(Refusal::outside(Reason::SpareTooShort));
     }
-    let in_work = run_plan(file, at, whole, work, spare);
+    let in_work = run_plan(file, whole, work, spare);
     let last = last_words(whole);
     bring_home(in_work, last, work, spare);
-    clear(&mut work[last..]);
+    work[last..].fill(0);
     Ran {
-        outcome: RunOutcome::Finished,
+        outcome: Ok(()),
         moved: whole.moved,
     }
 }

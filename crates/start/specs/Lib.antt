@@ -1,2 +1,2 @@
--- What the judgement of a start stands for, and what it asks.
+-- The marks that a judgement of axes leaves, and the increasing lists of a start.
 pub mod Start

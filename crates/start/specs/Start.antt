@@ -1,23 +1,9 @@
--- What a verdict stands for, the marks that a judgement of axes leaves, and the two increasing lists of a start. Assumes nothing.
+-- The marks that a judgement of axes leaves, and the two increasing lists of a start. Assumes nothing.
 use Rattle.std.specs.Prelude.{ℕ, ◌+◌, Bool, true, false, List, [], ◌∷◌, ◌++◌, set}
 use Rattle.rules.specs.Lists.{pick}
 use Rattle.rules.specs.Refusals.{Judged, accept, refuse, ◌>>◌}
-use Rattle.types.specs.Answers.{refused_with}
 use Rattle.rules.specs.PlanFile.{judge_axis, judge_axes}
-use Rattle.types.specs.declared.Reason.TheVariants.{CountOutsideLimits}
-use Rattle.types.specs.declared.Refusal.{Refusal}
 use Rattle.axes.specs.Marks.{marked}
-use Rattle.start.specs.declared.Verdict.{Verdict}
-use Rattle.start.specs.declared.Verdict.TheVariants as verdict
-
-abbrev pub meaning : Verdict → Judged (Unit {0})
-meaning verdict.Fine = accept tt
-meaning (verdict.Refused r) = refused_with r
-
--- the refusal of a verdict; a fine one has none, and none is asked of it
-abbrev pub refusal_of : Verdict → Refusal
-refusal_of verdict.Fine = record { reason = CountOutsideLimits; step = 0 }
-refusal_of (verdict.Refused r) = r
 
 abbrev pub passes : Judged (Unit {0}) → Bool
 passes (accept u) = true

@@ -28,9 +28,10 @@ use Rattle.rules.specs.Collectives.{
   moved,
 }
 use Rattle.rules.specs.Limits.{most_axes, most_dims, most_words}
-use Rattle.types.specs.Types.{axes_of, dims_of, of_kind, step_of}
-use Rattle.types.specs.declared.Kind.{Kind}
-use Rattle.types.specs.declared.Kind.TheVariants.{AllToAll, ReduceScatter}
+use Rattle.types.specs.Types.{axes_of, dims_of, step_of}
+use Rattle.types.specs.declared.AxisList.{AxisList}
+use Rattle.types.specs.declared.Dim.{Dim}
+use Rattle.types.specs.declared.Step.TheVariants.{AllToAll, ReduceScatter}
 use Rattle.types.specs.declared.DimLists.{DimLists}
 use Rattle.types.specs.declared.Step as code_step
 use Rattle.laws.proofs.Lists.{take-replicate, of-ascending, distinct-ascending}
@@ -243,39 +244,39 @@ module _ {mesh shape : List ℕ} (step : code_step.Step) {words old new : ℕ} (
   pub nowhere : (none : DimLists) → dims_of none ≡ replicate most_dims [] → lists shape none ≡ replicate (length shape) []
   nowhere none z = no-lists (accepts h) none z
 
-  module _ {k : Kind} (e : step.kind ≡ k) where
-    of : Stepping mesh shape (of_kind k (length shape) step) words old new
-    of = subst (λ (x : Kind). Stepping mesh shape (of_kind x (length shape) step) words old new) e h
+  module _ {s : code_step.Step} (e : step ≡ s) where
+    of : Stepping mesh shape (step_of (length shape) s) words old new
+    of = subst (λ (x : code_step.Step). Stepping mesh shape (step_of (length shape) x) words old new) e h
 
     -- what the step leaves in the buffer of the old state, and in the other one: the new state stands where its kind says
     abbrev Left : {W : Type 0} → (List W → W) → W → Bool → Step → (olds news here there : List W) → Type 0
     Left addAll z b t olds news here there =
         (here ≡ pick b (stepped_buffer addAll z mesh shape t words olds olds) (spent_buffer addAll z mesh shape t olds)) × (there ≡ pick b news (stepped_buffer addAll z mesh shape t words olds news))
 
-    stands : {W : Type 0} (addAll : List W → W) (z : W) {b : Bool} → b ≡ in_place k → (olds news here there : List W)
-        → Left addAll z b (of_kind k (length shape) step) olds news here there → Left addAll z (in_place step.kind) (step_of (length shape) step) olds news here there
+    stands : {W : Type 0} (addAll : List W → W) (z : W) {b : Bool} → b ≡ in_place (step_of (length shape) s) → (olds news here there : List W)
+        → Left addAll z b (step_of (length shape) s) olds news here there → Left addAll z (in_place (step_of (length shape) step)) (step_of (length shape) step) olds news here there
     stands addAll z {b} q olds news here there =
-        let p : b ≡ in_place step.kind = q ∙ ap in_place (sym e) in
-        transport (λ i. Left addAll z (p i) (of_kind (sym e i) (length shape) step) olds news here there)
+        let p : b ≡ in_place (step_of (length shape) step) = q ∙ ap (λ (x : code_step.Step). in_place (step_of (length shape) x)) (sym e) in
+        transport (λ i. Left addAll z (p i) (step_of (length shape) (sym e i)) olds news here there)
 
-    module _ (m : bridge.Moving (of_kind k (length shape) step)) (off on : DimLists)
-        (p : lists shape off ≡ bridge.gathers (of_kind k (length shape) step) (length shape))
-        (q : lists shape on ≡ bridge.slices (of_kind k (length shape) step) (length shape)) where
+    module _ (m : bridge.Moving (step_of (length shape) s)) (off on : DimLists)
+        (p : lists shape off ≡ bridge.gathers (step_of (length shape) s) (length shape))
+        (q : lists shape on ≡ bridge.slices (step_of (length shape) s) (length shape)) where
       pub move-requires : Moving mesh shape (lists shape off) (lists shape on)
           × ((words ≡ product (moved_shape mesh shape (lists shape off) (lists shape on)))
           × ((devices mesh * product shape ≤ old) × (devices mesh * words ≤ new)))
       move-requires = (move_asks (accepts of) m off on p q, (move-words (accepts of) m off on p q, (h.old_room, h.new_room)))
 
-      pub moved-so : {W : Type 0} (addAll : List W → W) (one : (a : W) → addAll (a ∷ []) ≡ a) (z : W) → false ≡ in_place k → (olds news there : List W)
+      pub moved-so : {W : Type 0} (addAll : List W → W) (one : (a : W) → addAll (a ∷ []) ≡ a) (z : W) → false ≡ in_place (step_of (length shape) s) → (olds news there : List W)
           → there ≡ moved_buffer z mesh shape (lists shape off) (lists shape on) words olds news
-          → Left addAll z (in_place step.kind) (step_of (length shape) step) olds news olds there
+          → Left addAll z (in_place (step_of (length shape) step)) (step_of (length shape) step) olds news olds there
       moved-so addAll one z b olds news there l =
           stands addAll z b olds news olds there (
-            sym (moving-spends addAll z mesh shape (of_kind k (length shape) step) m olds),
+            sym (moving-spends addAll z mesh shape (step_of (length shape) s) m olds),
             l ∙ move-leaves (accepts of) m off on p q addAll one z olds news,
           )
 
-    module _ (L : List ℕ) (r : of_kind k (length shape) step ≡ all_reduce L) where
+    module _ (L : List ℕ) (r : step_of (length shape) s ≡ all_reduce L) where
       reducing : Stepping mesh shape (all_reduce L) words old new
       reducing = subst (λ (t : Step). Stepping mesh shape t words old new) r of
 
@@ -291,9 +292,9 @@ module _ {mesh shape : List ℕ} (step : code_step.Step) {words old new : ℕ} (
             room = h.old_room;
           }
 
-      pub reduced-so : {W : Type 0} (addAll : List W → W) (z : W) → true ≡ in_place k → (olds news here there : List W)
+      pub reduced-so : {W : Type 0} (addAll : List W → W) (z : W) → true ≡ in_place (step_of (length shape) s) → (olds news here there : List W)
           → (here ≡ reduced_buffer addAll z mesh shape L olds) × (there ≡ news)
-          → Left addAll z (in_place step.kind) (step_of (length shape) step) olds news here there
+          → Left addAll z (in_place (step_of (length shape) step)) (step_of (length shape) step) olds news here there
       unfolding sources
       reduced-so addAll z b olds news here there l =
           stands addAll z b olds news here there (
@@ -303,27 +304,26 @@ module _ {mesh shape : List ℕ} (step : code_step.Step) {words old new : ℕ} (
             l.1,
           )
 
-    pub scatter-requires : k ≡ ReduceScatter → Stepping mesh shape (reduce_scatter (take (length shape) (dims_of step.lists))) words old new
-    scatter-requires q = subst (λ (x : Kind). Stepping mesh shape (of_kind x (length shape) step) words old new) q of
+  module _ {lists : DimLists} (e : step ≡ ReduceScatter lists) where
+    pub scatter-requires : Stepping mesh shape (reduce_scatter (take (length shape) (dims_of lists))) words old new
+    scatter-requires = of e
 
-    pub scattered-so : k ≡ ReduceScatter → {W : Type 0} (addAll : List W → W) (z : W) → (olds news here there : List W)
-        → (here ≡ spent_buffer addAll z mesh shape (reduce_scatter (take (length shape) (dims_of step.lists))) olds)
-        × (there ≡ stepped_buffer addAll z mesh shape (reduce_scatter (take (length shape) (dims_of step.lists))) words olds news)
-        → Left addAll z (in_place step.kind) (step_of (length shape) step) olds news here there
-    scattered-so q addAll z olds news here there l =
-        stands addAll z (ap in_place (sym q)) olds news here there
-        (subst (λ (x : Kind). Left addAll z false (of_kind x (length shape) step) olds news here there) (sym q) l)
+    pub scattered-so : {W : Type 0} (addAll : List W → W) (z : W) → (olds news here there : List W)
+        → (here ≡ spent_buffer addAll z mesh shape (reduce_scatter (take (length shape) (dims_of lists))) olds)
+        × (there ≡ stepped_buffer addAll z mesh shape (reduce_scatter (take (length shape) (dims_of lists))) words olds news)
+        → Left e addAll z (in_place (step_of (length shape) step)) (step_of (length shape) step) olds news here there
+    scattered-so addAll z olds news here there l = stands e addAll z refl olds news here there l
 
   -- one list at a dimension
-  module _ (e : step.kind ≡ AllToAll) (none : DimLists) (z : dims_of none ≡ replicate most_dims []) (ds : DimLists) where
-    pub at_source : dims_of ds ≡ set (dims_of none) step.source.0 (axes_of step.list)
-        → lists shape ds ≡ only (length shape) step.source.0 (axes_of step.list)
+  module _ {source target : Dim} {list : AxisList} (e : step ≡ AllToAll source target list) (none : DimLists) (z : dims_of none ≡ replicate most_dims []) (ds : DimLists) where
+    pub at_source : dims_of ds ≡ set (dims_of none) source.0 (axes_of list)
+        → lists shape ds ≡ only (length shape) source.0 (axes_of list)
     at_source q =
         let f = (accepts (of e)).fine.by_kind.source-lt in
-        only_at (length shape) step.source.0 _ (dims_of none) (dims_of ds) ranked (omega (arith, dims-many (accepts (of e)), f)) z q
+        only_at (length shape) source.0 _ (dims_of none) (dims_of ds) ranked (omega (arith, dims-many (accepts (of e)), f)) z q
 
-    pub at_target : dims_of ds ≡ set (dims_of none) step.target.0 (axes_of step.list)
-        → lists shape ds ≡ only (length shape) step.target.0 (axes_of step.list)
+    pub at_target : dims_of ds ≡ set (dims_of none) target.0 (axes_of list)
+        → lists shape ds ≡ only (length shape) target.0 (axes_of list)
     at_target q =
         let f = (accepts (of e)).fine.by_kind.target-lt in
-        only_at (length shape) step.target.0 _ (dims_of none) (dims_of ds) ranked (omega (arith, dims-many (accepts (of e)), f)) z q
+        only_at (length shape) target.0 _ (dims_of none) (dims_of ds) ranked (omega (arith, dims-many (accepts (of e)), f)) z q

@@ -10,8 +10,6 @@ use Rattle.sums.specs.Sums.{summed, summed_buffer}
 use Rattle.rules.specs.Limits.{most_dims, most_words}
 use Rattle.rules.specs.Refusals.{accept}
 use Rattle.rules.specs.PlanFile.{judge_step}
-use Rattle.types.specs.declared.Kind.{Kind}
-use Rattle.types.specs.declared.Kind.TheVariants.{AllSlice, AllGather, AllReduce, AllToAll, ReduceScatter, Unknown}
 
 -- a step that was accepted of a sharding of a table within the limits, and buffers with room for the old state and for the new one
 pub record Stepping (mesh shape : List ℕ) (t : Step) (words old new : ℕ) : Type 0 where
@@ -39,13 +37,12 @@ stepped_buffer addAll z mesh shape t words old new =
     tabulate mesh (shape_after mesh t shape) (made addAll (sources mesh t shape) (held z mesh shape old)) ++ drop (devices mesh * words) new
 
 -- whether the state stays in its buffer: a reduction keeps the shape of the shards
-abbrev pub in_place : Kind → Bool
-in_place AllSlice = false
-in_place AllGather = false
-in_place AllReduce = true
-in_place AllToAll = false
-in_place ReduceScatter = false
-in_place Unknown = true
+abbrev pub in_place : Step → Bool
+in_place (all_slice Ss) = false
+in_place (all_gather Gs) = false
+in_place (all_reduce L) = true
+in_place (all_to_all source target L) = false
+in_place (reduce_scatter Ss) = false
 
 -- What stands in the buffer of the old state where the new one stands in the other: a reduce-scatter has put each group's sum in place of its first
 -- member's shard, every other step has only read.

@@ -3,7 +3,7 @@
 // other buffer. specs/Stepping.antt says what a step asks for and leaves.
 #![tactic(auto)]
 
-ghost use Rattle.std.specs.Prelude.{◌≡◌, length, take};
+ghost use Rattle.std.specs.Prelude.{◌≡◌, ℕ, length, take};
 ghost use Rattle.rules.specs.Lists.{pick};
 ghost use Rattle.rules.specs.Spread.{add_words};
 ghost use Rattle.rules.specs.Collectives.{reduce_scatter};
@@ -14,20 +14,13 @@ ghost use Rattle.step.specs.Stepping.{Stepping, stepped_buffer, spent_buffer, in
 use dims::ascending;
 use moves::{move_first, move_into};
 use sums::{reduce_in, sum_first};
-use types::{AxisList, DimLists, Kind, Step};
+use types::{AxisList, DimLists, Step};
 
-// Whether a step of this kind leaves the new state in the buffer of the old one.
-pub fn in_place(kind: Kind) -> bool
-    ensures { result ≡ in_place kind }
+// Whether a step leaves the new state in the buffer of the old one.
+pub fn in_place(step: Step) -> bool
+    ensures { (rank : ℕ) → result ≡ in_place (step_of rank step) }
 {
-    match kind {
-        Kind::AllSlice => false,
-        Kind::AllGather => false,
-        Kind::AllReduce => true,
-        Kind::AllToAll => false,
-        Kind::ReduceScatter => false,
-        Kind::Unknown => true,
-    }
+    matches!(step, Step::AllReduce(_))
 }
 
 // All-reduce, in the buffer of the old state. The other buffer is lent too, as to every step, and stays.
@@ -72,26 +65,26 @@ pub fn step_from(
     words: usize,
 )
     requires { Stepping mesh.now shape.now (step_of (length shape.now) step) words (length here.old) (length there.old) }
-    ensures here_after { here.new ≡ pick (in_place step.kind) (stepped_buffer add_words 0 mesh.now shape.now
+    ensures here_after { here.new ≡ pick (in_place (step_of (length shape.now) step)) (stepped_buffer add_words 0 mesh.now shape.now
         (step_of (length shape.now) step) words here.old here.old)
         (spent_buffer add_words 0 mesh.now shape.now (step_of (length shape.now) step) here.old) }
-    ensures there_after { there.new ≡ pick (in_place step.kind) there.old (stepped_buffer add_words 0 mesh.now shape.now
+    ensures there_after { there.new ≡ pick (in_place (step_of (length shape.now) step)) there.old (stepped_buffer add_words 0 mesh.now shape.now
         (step_of (length shape.now) step) words here.old there.old) }
 {
-    let kind = step.kind;
-    let lists = step.lists;
-    let list = step.list;
     let none = DimLists::empty();
-    match kind {
-        Kind::AllSlice => move_into(here, there, mesh, shape, none, lists, words),
-        Kind::AllGather => move_into(here, there, mesh, shape, lists, none, words),
-        Kind::AllReduce => reduce_here(here, there, mesh, shape, list),
-        Kind::AllToAll => {
-            let off = none.with(step.source, list);
-            let on = none.with(step.target, list);
+    match step {
+        Step::AllSlice(lists) => move_into(here, there, mesh, shape, none, lists, words),
+        Step::AllGather(lists) => move_into(here, there, mesh, shape, lists, none, words),
+        Step::AllReduce(list) => reduce_here(here, there, mesh, shape, list),
+        Step::AllToAll {
+            source,
+            target,
+            list,
+        } => {
+            let off = none.with(source, list);
+            let on = none.with(target, list);
             move_into(here, there, mesh, shape, off, on, words)
         }
-        Kind::ReduceScatter => scatter(here, there, mesh, shape, lists, words),
-        Kind::Unknown => reduce_here(here, there, mesh, shape, AxisList::empty()),
+        Step::ReduceScatter(lists) => scatter(here, there, mesh, shape, lists, words),
     }
 }

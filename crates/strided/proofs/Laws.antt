@@ -1,16 +1,15 @@
--- Laws of slices that are being filled (`fill-four`, `fill-anew`). Then of digits: what one turn of a loop over the first one finds (`turn`,
+-- Laws of slices that are being filled (`fill-four`). Then of digits: what one turn of a loop over the first one finds (`turn`,
 -- `turn-places`), what two digits copy (`rows_are`), and that they find their words where the whole copy does (`rows_in`). Assumes nothing.
 use Prim.Native.Nat.{ℕ, suc, ◌+◌, ◌*◌, ◌/◌, ◌%◌, ◌≤◌, ◌<◌, ◌-◌}
-use mathlib.Core.Path.{◌≡◌, refl, sym, ap, ◌∙◌}
+use mathlib.Core.Path.{◌≡◌, refl, ap, ◌∙◌}
 use mathlib.Core.Logic.{◌≢◌}
-use mathlib.Core.List.{List, [], ◌∷◌, ◌++◌}
+use mathlib.Core.List.{List, [], ◌∷◌}
 use native.Mathlib.Nat.{add-zero, add_assoc, zero-mul, mul-one, one-mul, suc-mul, div-one, mod-one, zero-div, zero-mod, mul-le-mul_right, le-mul_of_pos_right}
 use native.Mathlib.Omega.{arith}
 use lib.ListN.{length, get_or, set, take, drop}
-use lib.Seq.{drop_at}
 use lib.Arith.{digits_div, digits_mod}
 use Rattle.rules.specs.Lists.{tab}
-use Rattle.laws.proofs.Lists.{length-tab, tab-cong}
+use Rattle.laws.proofs.Lists.{tab-cong}
 use Rattle.laws.proofs.Positions.{pos_of_lt}
 use Rattle.laws.proofs.Fronts.{Filled, part-tab, fill-word}
 use Rattle.strided.specs.Strided.{offset, Nested, Row, Rows, Counts, Copy, row, rows, copied}
@@ -28,15 +27,6 @@ fill-four {W} {f} {old} {new} {t} g h ea eb ec ed =
     let g₂ = rw two at (fill-word (fill-word g (omega arith) ea) (omega arith) eb) in
     let g₃ = rw three at (fill-word g₂ (omega arith) ec) in
     rw four at (fill-word g₃ (omega arith) ed)
-
--- a loop can go on from what another one filled
-pub fill-anew : {W : Type 0} {f : ℕ → W} {old new : List W} {t : ℕ} → Filled f old new t → Filled f new new t
-fill-anew {W} {f} {old} {new} {t} g = record {
-  few = omega (arith, g.few, g.size);
-  front = g.front
-      ∙ ap (λ (l : List W). tab t f ++ l) (sym (ap (λ (l : List W). drop t l) g.front ∙ drop_at (tab t f) (drop t old) t (length-tab t f)));
-  size = refl;
-}
 
 -- ---- one digit
 

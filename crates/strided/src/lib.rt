@@ -14,6 +14,7 @@ const ROOM: usize = 3 * 17;
 const NEAR: usize = 4096;
 
 // The first words of from, in fours: each four is read before it is written, so that the compiler can move it as one. Answers how many words that is.
+// Stays: (b) by `for` over the fours, copies of rows of 3, 4 and 6 words take 1.6 to 1.8 times as long.
 fn copy_fours(to: &mut [u32], from: &[u32]) -> usize
     requires { length to.old ≡ length from.now }
     ensures upper_bound { (result ≤ length to.old) × (length to.old < result + 4) }
@@ -35,14 +36,13 @@ fn copy_fours(to: &mut [u32], from: &[u32]) -> usize
 }
 
 // The words of from.
+// Stays: (b) by copy_from_slice, copies of rows of 3, 4 and 16 words take 1.8 to 2.9 times as long.
 fn copy_run(to: &mut [u32], from: &[u32])
     requires { length to.old ≡ length from.now }
     ensures { to.new ≡ from.now }
 {
-    let mut t = copy_fours(to, from);
-    while t < to.len() {
+    for t in copy_fours(to, from)..to.len() {
         to[t] = from[t];
-        t += 1;
     }
 }
 
@@ -51,10 +51,8 @@ fn copy_apart(to: &mut [u32], from: &[u32], stride: usize, at: usize)
     requires { Row (length to.old) stride at (length from.now) }
     ensures { to.new ≡ row 0 (length to.old) stride at from.now }
 {
-    let mut t: usize = 0;
-    while t < to.len() {
-        to[t] = from[at + t * stride];
-        t += 1;
+    for (t, word) in to.iter_mut().enumerate() {
+        *word = from[at + t * stride];
     }
 }
 
@@ -76,14 +74,12 @@ fn copy_pairs(to: &mut [u32], from: &[u32], count: usize, apart: usize, stride: 
     requires { Rows (length to.old) count 2 apart stride at (length from.now) }
     ensures { to.new ≡ rows 0 (length to.old) 2 apart stride at from.now }
 {
-    let mut i: usize = 0;
-    while i < count {
+    for i in 0..count {
         let first = i * 2;
         let second = first + 1;
         let a = at + i * apart;
         to[first] = from[a];
         to[second] = from[a + stride];
-        i += 1;
     }
 }
 
@@ -100,12 +96,10 @@ fn copy_long(
     requires { Rows (length to.old) count len apart stride at (length from.now) }
     ensures { to.new ≡ rows 0 (length to.old) len apart stride at from.now }
 {
-    let mut i: usize = 0;
-    while i < count {
+    for i in 0..count {
         let first = i * len;
         let end = first + len;
         copy_row(&mut to[first..end], from, stride, at + i * apart);
-        i += 1;
     }
 }
 
@@ -130,6 +124,7 @@ fn copy_rows(
 }
 
 // Planes of two rows of two words: one turn of this loop copies a plane, which is read before it is written.
+// Stays: (a) nothing is divided for a word (document 02, Ask 4): one loop for these and for pairs would divide a word's place by the row's length.
 fn copy_squares(
     to: &mut [u32],
     from: &[u32],
@@ -142,8 +137,7 @@ fn copy_squares(
     requires { Copy (plane_digits planes 4 far 2 2 apart stride) (length to.old) at (length from.now) }
     ensures { to.new ≡ copied 0 (plane_digits planes 4 far 2 2 apart stride) (length to.old) at from.now }
 {
-    let mut i: usize = 0;
-    while i < planes {
+    for i in 0..planes {
         let first = i * 4;
         let near = at + i * far;
         let next = near + apart;
@@ -155,7 +149,6 @@ fn copy_squares(
         to[first + 1] = b;
         to[first + 2] = c;
         to[first + 3] = d;
-        i += 1;
     }
 }
 
@@ -175,8 +168,7 @@ fn copy_planes(
     requires { Copy (plane_digits planes inner far count len apart stride) (length to.old) at (length from.now) }
     ensures { to.new ≡ copied 0 (plane_digits planes inner far count len apart stride) (length to.old) at from.now }
 {
-    let mut i: usize = 0;
-    while i < planes {
+    for i in 0..planes {
         let first = i * inner;
         let end = first + inner;
         copy_rows(
@@ -188,7 +180,6 @@ fn copy_planes(
             stride,
             at + i * far,
         );
-        i += 1;
     }
 }
 
@@ -222,10 +213,8 @@ fn repeat_words(to: &mut [u32], period: usize)
     requires { (0 < period) × (period ≤ length to.old) }
     ensures { to.new ≡ repeated 0 period (length to.old) to.old }
 {
-    let mut t = period;
-    while t < to.len() {
+    for t in period..to.len() {
         to[t] = to[t - period];
-        t += 1;
     }
 }
 
@@ -234,13 +223,8 @@ fn part_words(done: usize, last: usize, left: usize) -> usize
     requires { (0 < done) × (0 < last) × (0 < left) }
     ensures { Part done last left result }
 {
-    if done < NEAR {
-        if done < left {
-            return done;
-        }
-        return left;
-    }
-    if last < left { last } else { left }
+    let part = if done < NEAR { done } else { last };
+    part.min(left)
 }
 
 // The first words again and again, in turns that read nothing that they write: such a turn is one long copy.
@@ -289,12 +273,10 @@ fn copy_strided(to: &mut [u32], from: &[u32], digits: &[usize], at: usize)
         copy_leaf(to, from, size, inner, stride, rows, len, next, last, at);
         return;
     }
-    let mut i: usize = 0;
-    while i < size {
+    for i in 0..size {
         let first = i * inner;
         let end = first + inner;
         copy_strided(&mut to[first..end], from, &digits[3..], at + i * stride);
-        i += 1;
     }
 }
 
@@ -342,12 +324,11 @@ fn join_digits(joined: &mut [usize], digits: &[usize]) -> usize
 {
     let mut first = joined.len() - 3;
     put_digit(joined, first, 1, 1, 1);
-    let mut i = digits.len();
-    while 0 < i {
-        i -= 3;
-        let size = digits[i];
-        let inner = digits[i + 1];
-        let stride = digits[i + 2];
+    for i in (0..digits.len() / 3).rev() {
+        let at = i * 3;
+        let size = digits[at];
+        let inner = digits[at + 1];
+        let stride = digits[at + 2];
         first = put_joined(joined, first, size, inner, stride);
     }
     first

@@ -23,153 +23,120 @@ const ROOM: usize = 3 * types::Axis::MOST;
 
 // The words of each shard that are summed before the sum is repeated: few enough that the sum stays in the nearest cache, and as many as that allows,
 // for each member is then read in long runs.
-const BLOCK: usize = 2048;
-
-// Adds the words of the member at position q to those of the shard at `at`, modulo 2^32.
-fn add_one(words: &mut [u32], shifts: &[usize], at: usize, q: usize, m: usize)
-    requires group { Group shifts.now m at (length words.old) }
-    requires next { Next q 1 shifts.now }
-    ensures { words.new ≡ written words.old at m (added_word words.old shifts.now at q 1) }
-{
-    let a = at + shifts[q];
-    let mut t: usize = 0;
-    while t < m {
-        words[at + t] = std::num::wrapping_add_u32(words[at + t], words[a + t]);
-        t += 1;
-    }
-}
-
-// The same of three members, from position q on.
-fn add_three(words: &mut [u32], shifts: &[usize], at: usize, q: usize, m: usize)
-    requires group { Group shifts.now m at (length words.old) }
-    requires next { Next q 3 shifts.now }
-    ensures { words.new ≡ written words.old at m (added_word words.old shifts.now at q 3) }
-{
-    let a = at + shifts[q];
-    let b = at + shifts[q + 1];
-    let c = at + shifts[q + 2];
-    let mut t: usize = 0;
-    while t < m {
-        let one = std::num::wrapping_add_u32(words[at + t], words[a + t]);
-        let two = std::num::wrapping_add_u32(one, words[b + t]);
-        words[at + t] = std::num::wrapping_add_u32(two, words[c + t]);
-        t += 1;
-    }
-}
-
-// The same of seven members: with the sum that is as many shards as the nearest cache has places for words that lie a power of two apart.
-fn add_seven(words: &mut [u32], shifts: &[usize], at: usize, q: usize, m: usize)
-    requires group { Group shifts.now m at (length words.old) }
-    requires next { Next q 7 shifts.now }
-    ensures { words.new ≡ written words.old at m (added_word words.old shifts.now at q 7) }
-{
-    let a = at + shifts[q];
-    let b = at + shifts[q + 1];
-    let c = at + shifts[q + 2];
-    let d = at + shifts[q + 3];
-    let e = at + shifts[q + 4];
-    let f = at + shifts[q + 5];
-    let g = at + shifts[q + 6];
-    let mut t: usize = 0;
-    while t < m {
-        let one = std::num::wrapping_add_u32(words[at + t], words[a + t]);
-        let two = std::num::wrapping_add_u32(one, words[b + t]);
-        let three = std::num::wrapping_add_u32(two, words[c + t]);
-        let four = std::num::wrapping_add_u32(three, words[d + t]);
-        let five = std::num::wrapping_add_u32(four, words[e + t]);
-        let six = std::num::wrapping_add_u32(five, words[f + t]);
-        words[at + t] = std::num::wrapping_add_u32(six, words[g + t]);
-        t += 1;
-    }
-}
-
-// Adds as many members at a time as there are functions for, since each time passes over the sum. Answers how many that is.
-fn add_some(words: &mut [u32], shifts: &[usize], at: usize, q: usize, m: usize) -> usize
-    requires group { Group shifts.now m at (length words.old) }
-    requires next { Next q 1 shifts.now }
-    ensures result_nonzero { (0 < result) × (q + result ≤ length shifts.now) }
-    ensures words_after { words.new ≡ written words.old at m (added_word words.old shifts.now at q result) }
-{
-    if q + 6 < shifts.len() {
-        add_seven(words, shifts, at, q, m);
-        return 7;
-    }
-    if q + 2 < shifts.len() {
-        add_three(words, shifts, at, q, m);
-        return 3;
-    }
-    add_one(words, shifts, at, q, m);
-    1
-}
-
-// The sum of the shards of one group, in place of its first member's.
-fn sum_group(words: &mut [u32], shifts: &[usize], at: usize, m: usize)
-    requires { Group shifts.now m at (length words.old) }
-    ensures { words.new ≡ written words.old at m (group_word add_words 0 words.old shifts.now at) }
-{
-    let mut q: usize = 1;
-    while q < shifts.len() {
-        let more = add_some(words, shifts, at, q, m);
-        q += more;
-    }
-}
+const BLOCK: usize = 4096;
 
 // The shard at first once more, at another place.
 fn repeat_shard(words: &mut [u32], first: usize, at: usize, m: usize)
     requires { Behind first at m (length words.old) }
     ensures { words.new ≡ written words.old at m (λ o. slice_index words.old (first + o)) }
 {
-    let mut t: usize = 0;
-    while t < m {
-        words[at + t] = words[first + t];
-        t += 1;
+    let (before, rest) = words.split_at_mut(at);
+    rest[..m].copy_from_slice(&before[first..first + m]);
+}
+
+// The shards of one group, of m words each: the first one begins at `at`, the others so far after it as the shifts say.
+#[derive(Clone, Copy)]
+struct Shards<'a> {
+    shifts: &'a [usize],
+    at: usize,
+    m: usize,
+}
+
+impl Shards<'_> {
+    // Word t of the first shard and of K members from position q on, added modulo 2^32.
+    fn added_word<const K: usize>(self, words: &[u32], q: usize, t: usize) -> u32
+        requires group { Group self.shifts.now self.m self.at (length words.now) }
+        requires next { Next q K self.shifts.now }
+        requires inside { t < self.m }
+        ensures { result ≡ added_word words.now self.entry.shifts.now self.entry.at q K t }
+    {
+        let mut sum = words[self.at + t];
+        for j in 0..K {
+            sum = sum.wrapping_add(words[self.at + self.shifts[q + j] + t]);
+        }
+        sum
     }
-}
 
-// The shard of a group's first member once more, for the others of its first n members.
-fn repeat_group(words: &mut [u32], shifts: &[usize], at: usize, m: usize, n: usize)
-    requires group { Group shifts.now m at (length words.old) }
-    requires some { Some n shifts.now }
-    ensures { Shared 0 words.old shifts.now at m n (λ o. slice_index words.old (at + o)) words.new }
-{
-    let mut q: usize = 1;
-    while q < n {
-        repeat_shard(words, at, at + shifts[q], m);
-        q += 1;
+    // Adds the words of K members, from position q on, to those of the first shard.
+    fn add_members<const K: usize>(self, words: &mut [u32], q: usize)
+        requires group { Group self.shifts.now self.m self.at (length words.old) }
+        requires next { Next q K self.shifts.now }
+        ensures { words.new ≡ written words.old self.entry.at self.entry.m (added_word words.old self.entry.shifts.now self.entry.at q K) }
+    {
+        for t in 0..self.m {
+            words[self.at + t] = self.added_word::<K>(words, q, t);
+        }
     }
-}
 
-// So many words of each shard of one group: those of its first n members become the sum over the group.
-fn reduce_block(words: &mut [u32], shifts: &[usize], at: usize, m: usize, n: usize)
-    requires group { Group shifts.now m at (length words.old) }
-    requires some { Some n shifts.now }
-    ensures { Shared 0 words.old shifts.now at m n
-        (group_word add_words 0 words.old shifts.now at) words.new }
-{
-    sum_group(words, shifts, at, m);
-    repeat_group(words, shifts, at, m, n);
-}
+    // Adds as many members at a time as the shards that are left allow, since each time passes over the sum: with it, eight are as many as the nearest
+    // cache has places for words that lie a power of two apart. Answers how many that is.
+    fn add_some(self, words: &mut [u32], q: usize) -> usize
+        requires group { Group self.shifts.now self.m self.at (length words.old) }
+        requires next { Next q 1 self.shifts.now }
+        ensures result_nonzero { (0 < result) × (q + result ≤ length self.entry.shifts.now) }
+        ensures words_after { words.new ≡ written words.old self.entry.at self.entry.m (added_word words.old self.entry.shifts.now self.entry.at q result) }
+    {
+        if q + 6 < self.shifts.len() {
+            self.add_members::<7>(words, q);
+            return 7;
+        }
+        if q + 2 < self.shifts.len() {
+            self.add_members::<3>(words, q);
+            return 3;
+        }
+        self.add_members::<1>(words, q);
+        1
+    }
 
-// How many of the words that are left make up a block.
-fn block_words(left: usize) -> usize
-    requires { 0 < left }
-    ensures { (0 < result) × (result ≤ left) }
-{
-    if left < BLOCK { left } else { BLOCK }
-}
+    // The sum of the shards, in place of the first one.
+    fn sum(self, words: &mut [u32])
+        requires { Group self.shifts.now self.m self.at (length words.old) }
+        ensures { words.new ≡ written words.old self.entry.at self.entry.m (group_word add_words 0 words.old self.entry.shifts.now self.entry.at) }
+    {
+        let mut q: usize = 1;
+        // Stays: (d) each turn adds as many members as the call answers, and a range goes on by one number alone.
+        while q < self.shifts.len() {
+            q += self.add_some(words, q);
+        }
+    }
 
-// One group: the shards of its first n members become the sum over the group.
-fn reduce_group(words: &mut [u32], shifts: &[usize], at: usize, m: usize, n: usize)
-    requires group { Group shifts.now m at (length words.old) }
-    requires some { Some n shifts.now }
-    ensures { Shared 0 words.old shifts.now at m n
-        (group_word add_words 0 words.old shifts.now at) words.new }
-{
-    let mut done: usize = 0;
-    while done < m {
-        let block = block_words(m - done);
-        reduce_block(words, shifts, at + done, block, n);
-        done += block;
+    // The first shard once more, for the others of the first n members.
+    fn repeat(self, words: &mut [u32], n: usize)
+        requires group { Group self.shifts.now self.m self.at (length words.old) }
+        requires some { Some n self.shifts.now }
+        ensures { Shared 0 words.old self.entry.shifts.now self.entry.at self.entry.m n (λ o. slice_index words.old (self.entry.at + o)) words.new }
+    {
+        for shift in &self.shifts[1..n] {
+            repeat_shard(words, self.at, self.at + *shift, self.m);
+        }
+    }
+
+    // The sum of the shards in place of those of the first n members.
+    fn reduce_block(self, words: &mut [u32], n: usize)
+        requires group { Group self.shifts.now self.m self.at (length words.old) }
+        requires some { Some n self.shifts.now }
+        ensures { Shared 0 words.old self.entry.shifts.now self.entry.at self.entry.m n
+            (group_word add_words 0 words.old self.entry.shifts.now self.entry.at) words.new }
+    {
+        self.sum(words);
+        self.repeat(words, n);
+    }
+
+    // The same, block by block.
+    fn reduce(self, words: &mut [u32], n: usize)
+        requires group { Group self.shifts.now self.m self.at (length words.old) }
+        requires some { Some n self.shifts.now }
+        ensures { Shared 0 words.old self.entry.shifts.now self.entry.at self.entry.m n
+            (group_word add_words 0 words.old self.entry.shifts.now self.entry.at) words.new }
+    {
+        for done in (0..self.m).step_by(BLOCK) {
+            let block = Shards {
+                shifts: self.shifts,
+                at: self.at + done,
+                m: BLOCK.min(self.m - done),
+            };
+            block.reduce_block(words, n);
+        }
     }
 }
 
@@ -180,13 +147,11 @@ fn reduce_groups(words: &mut [u32], firsts: &[usize], shifts: &[usize], m: usize
     ensures { Summed add_words 0 words.old firsts.now shifts.now m n (length firsts.now)
         words.new }
 {
-    let mut d: usize = 0;
-    while d < firsts.len() {
+    for (d, first) in firsts.iter().enumerate() {
         let at = d * m;
-        if firsts[d] == at {
-            reduce_group(words, shifts, at, m, n);
+        if *first == at {
+            Shards { shifts, at, m }.reduce(words, n);
         }
-        d += 1;
     }
 }
 
@@ -202,12 +167,9 @@ fn list_offsets(to: &mut [usize], digits: &[usize], at: usize)
     let size = digits[0];
     let inner = digits[1];
     let stride = digits[2];
-    let mut i: usize = 0;
-    while i < size {
+    for i in 0..size {
         let first = i * inner;
-        let end = first + inner;
-        list_offsets(&mut to[first..end], &digits[3..], at + i * stride);
-        i += 1;
+        list_offsets(&mut to[first..first + inner], &digits[3..], at + i * stride);
     }
 }
 
@@ -227,7 +189,7 @@ fn list_shifts(
     let mut digits = [0usize; ROOM];
     let members = axis_digits(&mut digits, strides, mesh, axes, ROOM, 1);
     let first = ROOM - 3 * axes.len();
-    list_offsets(&mut shifts[0..members], &digits[first..], 0);
+    list_offsets(&mut shifts[..members], &digits[first..], 0);
     members
 }
 
@@ -269,28 +231,6 @@ fn getters(all: bool, members: usize) -> usize
     if all { members } else { 1 }
 }
 
-// All groups, by tables that are filled first.
-fn sum_with(
-    words: &mut [u32],
-    firsts: &mut [usize],
-    shifts: &mut [usize],
-    strides: &mut [usize],
-    mesh: &[u16],
-    axes: types::AxisList,
-    m: usize,
-    all: bool,
-)
-    requires tables { Tables firsts.old shifts.old strides.old mesh.now (axes_of axes) m }
-    requires m_in_bounds { product mesh.now * m ≤ length words.old }
-    ensures { Summed add_words 0 words.old (first_words mesh.now (axes_of axes) m)
-        (shift_words mesh.now (axes_of axes) m) m (pick all (span mesh.now (axes_of axes)) 1) (product mesh.now)
-        words.new }
-{
-    let members = fill_tables(firsts, shifts, strides, mesh, axes, m);
-    let n = getters(all, members);
-    reduce_groups(words, firsts, &shifts[0..members], m, n);
-}
-
 // The sum of each group in place of the shards of all its members, or of its first one's alone; the other words stay.
 fn sum_into(words: &mut [u32], mesh: &[u16], shape: &[u16], axes: types::AxisList, all: bool)
     requires { Reducing mesh.now shape.now (axes_of axes) (length words.old) }
@@ -302,17 +242,10 @@ fn sum_into(words: &mut [u32], mesh: &[u16], shape: &[u16], axes: types::AxisLis
     let n = mesh.len();
     let mut strides = [0usize; types::Axis::MOST];
     let mut firsts = [0usize; types::Device::MOST];
+    let firsts = &mut firsts[..count];
     let mut shifts = [0usize; types::Device::MOST];
-    sum_with(
-        words,
-        &mut firsts[0..count],
-        &mut shifts,
-        &mut strides[0..n],
-        mesh,
-        axes,
-        m,
-        all,
-    );
+    let members = fill_tables(firsts, &mut shifts, &mut strides[..n], mesh, axes, m);
+    reduce_groups(words, firsts, &shifts[..members], m, getters(all, members));
 }
 
 // All-reduce: the new state at the front of words, in place of the old one; the other words stay.

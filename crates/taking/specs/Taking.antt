@@ -5,7 +5,6 @@ use Rattle.rules.specs.Collectives.{Step}
 use Rattle.rules.specs.Refusals.{Judged, accept, ◌>>=◌}
 use Rattle.rules.specs.PlanFile.{Read, step_at, judge_step}
 use Rattle.types.specs.Types.{sharding_of, step_of}
-use Rattle.reader.specs.Reading.{reading, Tells, blank_step}
 use Rattle.taking.specs.declared.Taken.{Taken}
 
 -- a step that was read and judged, and the sharding after it
@@ -20,10 +19,5 @@ take_step mesh sizes k file at s = do
   a ← judge_step mesh sizes k t.value s
   accept (record { value = record { step = t.value; sharding = a }; next = t.next })
 
-abbrev pub taken_read : ℕ → Taken → Judged (Read StepTaken)
-taken_read rank r = reading r.next (record { step = step_of rank r.step; sharding = sharding_of rank r.sharding })
-
--- beside a refusal: no step, and the sharding s as it was
-abbrev pub TakenTells : ℕ → Sharding → Judged (Read StepTaken) → Taken → Type 0
-TakenTells rank s j r =
-    Tells (record { step = blank_step; sharding = s }) j r.next (record { step = step_of rank r.step; sharding = sharding_of rank r.sharding })
+abbrev pub taken_of : ℕ → Taken → StepTaken
+taken_of rank t = record { step = step_of rank t.step; sharding = sharding_of rank t.sharding }

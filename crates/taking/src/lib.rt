@@ -2,53 +2,30 @@
 // taken is, specs/Charges.antt what is asked of one that is charged.
 #![tactic(auto)]
 
-ghost use Rattle.std.specs.Prelude.{◌≡◌, ℕ, ◌*◌, ◌≤◌, max, length, take};
+ghost use Rattle.std.specs.Prelude.{◌≡◌, ℕ, ◌*◌, ◌≤◌, length, take};
 ghost use Rattle.rules.specs.Lists.{product};
-ghost use Rattle.types.specs.Answers.{refused_with};
 ghost use Rattle.rules.specs.Sharding.{shard_sizes};
 ghost use Rattle.rules.specs.Limits.{most_axes, most_devices, most_dims, most_words};
 ghost use Rattle.rules.specs.Mesh as sizes;
 ghost use Rattle.rules.specs.Collectives.{step_axes};
 ghost use Rattle.rules.specs.Moved.{moved_from, closed_form};
 ghost use Rattle.types.specs.Types.{Sized, dims_of, sharding_of, step_of, mesh_of, sizes_of};
+ghost use Rattle.reader.specs.Reading.{reading};
 ghost use Rattle.judge.specs.Step.{Sharded};
 ghost use Rattle.taking.specs.Charges.{ChargesStep};
-ghost use Rattle.taking.specs.Taking.{take_step, TakenTells};
+ghost use Rattle.taking.specs.Taking.{take_step, taken_of};
 
 use axes::span;
 use dims::span_dims;
 use judge::judge_step;
-use reader::{Next, read_step};
-use start::{Verdict, refusal_of};
-use types::{AxisList, Dim, DimLists, Kind, Mesh, Refusal, Sharding, Step, Table};
+use reader::{Read, read_step};
+use types::{Mesh, Refusal, Sharding, Step, Table};
 
-// A step that was read and judged, the sharding after it, and where the next byte is.
+// A step that was read and judged, and the sharding after it.
 #[derive(Clone, Copy)]
 pub struct Taken {
-    pub next: Next,
     pub step: Step,
     pub sharding: Sharding,
-}
-
-impl Taken {
-    // Refused, with no step, and the sharding as it was.
-    fn refused(refusal: Refusal, sharding: Sharding) -> Taken
-        ensures { (rank : ℕ) → TakenTells rank (sharding_of rank sharding) (refused_with refusal) result }
-    {
-        let lists = DimLists::empty();
-        let list = AxisList::empty();
-        Taken {
-            next: Next::Refused(refusal),
-            step: Step {
-                kind: Kind::Unknown,
-                source: Dim(0),
-                target: Dim(0),
-                lists,
-                list,
-            },
-            sharding,
-        }
-    }
 }
 
 // Step k, read and judged.
@@ -59,35 +36,21 @@ pub fn take_step(
     mesh: Mesh,
     table: Table,
     sharding: Sharding,
-) -> Taken
+) -> Result<Read<Taken>, Refusal>
     requires { Sharded mesh table sharding }
-    ensures { TakenTells table.rank (sharding_of table.rank sharding)
-        (take_step (mesh_of mesh) (sizes_of table) k file.now at (sharding_of table.rank sharding)) result }
+    ensures { reading (taken_of table.rank) result
+        ≡ take_step (mesh_of mesh) (sizes_of table) k file.now at (sharding_of table.rank sharding) }
 {
-    let read = read_step(file, at, mesh.n, table.rank, k);
-    let next = read.next;
-    let step = read.step;
-    let Next::At(end) = next else {
-        return Taken::refused(next.refusal(), sharding);
-    };
-    let judged = judge_step(step, k, sharding, mesh, table);
-    let verdict = judged.verdict;
-    let Verdict::Fine = verdict else {
-        return Taken::refused(refusal_of(verdict), sharding);
-    };
-    let after = judged.sharding;
-    Taken {
-        next: Next::At(end),
-        step,
-        sharding: after,
-    }
-}
-
-// The larger of two numbers.
-pub fn larger(a: usize, b: usize) -> usize
-    ensures { result ≡ max a b }
-{
-    if a < b { b } else { a }
+    let read = read_step(file, at, mesh.n, table.rank, k)?;
+    let step = read.value;
+    let after = judge_step(step, k, sharding, mesh, table)?;
+    Ok(Read {
+        value: Taken {
+            step,
+            sharding: after,
+        },
+        next: read.next,
+    })
 }
 
 // The words of one shard of a table of so many words. The table's words are divided once, by the span of all axes that split it.
@@ -110,14 +73,11 @@ fn group_size(step: Step, rank: usize, mesh: Mesh) -> usize
     requires { (rank ≤ most_dims) × Sized (mesh_of mesh) × (length (step_axes (step_of rank step)) ≤ most_axes) }
     ensures { result ≡ sizes.span (mesh_of mesh) (step_axes (step_of rank step)) }
 {
-    let kind = step.kind;
-    match kind {
-        Kind::AllSlice => span_dims(step.lists, rank, mesh),
-        Kind::AllGather => span_dims(step.lists, rank, mesh),
-        Kind::AllReduce => span(step.list, mesh),
-        Kind::AllToAll => span(step.list, mesh),
-        Kind::ReduceScatter => span_dims(step.lists, rank, mesh),
-        Kind::Unknown => 1,
+    match step {
+        Step::AllSlice(lists) | Step::AllGather(lists) | Step::ReduceScatter(lists) => {
+            span_dims(lists, rank, mesh)
+        }
+        Step::AllReduce(list) | Step::AllToAll { list, .. } => span(list, mesh),
     }
 }
 
@@ -128,14 +88,10 @@ fn charge(step: Step, devices: usize, words: usize, group: usize) -> u64
 {
     let others = group - 1;
     let all = devices * words * others;
-    let kind = step.kind;
-    match kind {
-        Kind::AllSlice => 0,
-        Kind::AllGather => all as u64,
-        Kind::AllReduce => all as u64,
-        Kind::AllToAll => (all / group) as u64,
-        Kind::ReduceScatter => (all / group) as u64,
-        Kind::Unknown => all as u64,
+    match step {
+        Step::AllSlice(_) => 0,
+        Step::AllGather(_) | Step::AllReduce(_) => all as u64,
+        Step::AllToAll { .. } | Step::ReduceScatter(_) => (all / group) as u64,
     }
 }
 

@@ -9,13 +9,12 @@ use Rattle.rules.specs.Refusals.{Judged, accept, refuse, ◌>>=◌}
 use Rattle.rules.specs.PlanFile.{Plan, judge, announced, announced_shape, room}
 use Rattle.rules.specs.Moved.{added_on, words_moved, charge_from}
 use Rattle.rules.specs.Calls.{CheckAnswer, check_of, runnable, Ran, run_leaves, run_of}
-use Rattle.types.specs.Answers.{run_meaning}
+use Rattle.types.specs.Answers.{judged}
 use Rattle.laws.specs.Demands.{Words, Demand3}
 use Rattle.types.specs.Promises.{RunPromise}
 use Rattle.types.specs.declared.Refusal.{Refusal}
 use Rattle.types.specs.declared.Ran as code
-use Rattle.types.specs.declared.RunOutcome.{RunOutcome}
-use Rattle.types.specs.declared.RunOutcome.TheVariants as run
+use Rattle.std.specs.Prelude.{Result, Ok, Err}
 use Rattle.laws.proofs.Judging.{never, accept-inj, bind_inv}
 use Rattle.laws.proofs.Whole as whole
 use Rattle.laws.proofs.Moved as charges
@@ -64,13 +63,13 @@ judged-check file p e =
     } in
     (c, rw e refl, refl, refl)
 
-finished : (o : RunOutcome) → run_meaning o ≡ accept tt → o ≡ run.Finished
-finished run.Finished e = refl
-finished (run.Refused r) e = absurd (never e)
+finished : (o : Result (Unit {0}) Refusal) → judged o ≡ accept tt → o ≡ Ok tt
+finished (Ok x) e = refl
+finished (Err r) e = absurd (never e)
 
 module _ (file work spare : List ℕ) (r : code.Ran) {work' spare' : List ℕ} (words : Words work)
-    (ran : run_of file work spare ≡ record { outcome = run_meaning r.outcome; moved = r.moved; work = work'; spare = spare' }) where
-  abbrev answers : run_meaning r.outcome ≡ (run_of file work spare).outcome
+    (ran : run_of file work spare ≡ record { outcome = judged r.outcome; moved = r.moved; work = work'; spare = spare' }) where
+  abbrev answers : judged r.outcome ≡ (run_of file work spare).outcome
   answers = ap (λ (x : Ran). x.outcome) (sym ran)
 
   abbrev moved_is : r.moved ≡ (run_of file work spare).moved
@@ -83,26 +82,26 @@ module _ (file work spare : List ℕ) (r : code.Ran) {work' spare' : List ℕ} (
   spare_is = ap (λ (x : Ran). x.spare) (sym ran)
 
   demand_3 : (p : Plan) → judge file ≡ accept p
-      → Demand3 p work spare (record { outcome = run_meaning r.outcome; moved = r.moved; work = work'; spare = spare' })
+      → Demand3 p work spare (record { outcome = judged r.outcome; moved = r.moved; work = work'; spare = spare' })
   demand_3 p e = subst (Demand3 p work spare) ran (whole.whole_plan file p e work spare words)
 
-  kept : (why : Refusal) → r.outcome ≡ run.Refused why → (r.moved ≡ 0) × (work' ≡ work) × (spare' ≡ spare)
+  kept : (why : Refusal) → r.outcome ≡ Err why → (r.moved ≡ 0) × (work' ≡ work) × (spare' ≡ spare)
   kept why q =
-      let e = sym answers ∙ ap run_meaning q in
+      let e = sym answers ∙ ap judged q in
       let k = run-kept file work spare e in
       (moved_is ∙ (charges.one_number).refused file work spare _ _ e, work_is ∙ k.0, spare_is ∙ k.1)
 
-  moves : r.outcome ≡ run.Finished → (p : Plan) → judge file ≡ accept p
+  moves : r.outcome ≡ Ok tt → (p : Plan) → judge file ≡ accept p
       → (r.moved ≡ words_moved p) × (r.moved ≡ added_on (charge_from p.mesh p.sizes) p.start p.steps)
   moves q p e =
       let c = judged-check file p e in
-      let m : r.moved ≡ words_moved p = moved_is ∙ (charges.one_number).finished file work spare c.0 c.1 (sym answers ∙ ap run_meaning q) ∙ c.3 in
+      let m : r.moved ≡ words_moved p = moved_is ∙ (charges.one_number).finished file work spare c.0 c.1 (sym answers ∙ ap judged q) ∙ c.3 in
       (m, m ∙ (charges.plans_charged file p e).added)
 
-  ends : (r.outcome ≡ run.Finished) ↔ ((c : CheckAnswer) × (check_of file ≡ accept c) × (c.room ≤ length work) × (c.room ≤ length spare))
+  ends : (r.outcome ≡ Ok tt) ↔ ((c : CheckAnswer) × (check_of file ≡ accept c) × (c.room ≤ length work) × (c.room ≤ length spare))
   ends = (
-    (λ q. let j = run-judged file work spare (sym answers ∙ ap run_meaning q) in
-        let f = (demand_3 j.0 j.1).ends.0 (ap run_meaning q) in
+    (λ q. let j = run-judged file work spare (sym answers ∙ ap judged q) in
+        let f = (demand_3 j.0 j.1).ends.0 (ap judged q) in
         let c = judged-check file j.0 j.1 in
         (c.0, c.1, subst (λ (n : ℕ). n ≤ length work) (sym c.2) f.0, subst (λ (n : ℕ). n ≤ length spare) (sym c.2) f.1)),
     λ x. let j = check-judged file x.0 x.1 in

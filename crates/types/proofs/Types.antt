@@ -8,8 +8,11 @@ use native.Mathlib.Omega.{arith}
 use lib.ListN.{set, length, length-map, length-take, get_or, take, get_or-map, get_or-eq_default}
 use lib.Seq.{take-suc-set, get_or-take}
 use Rattle.rules.specs.Limits.{most_axes}
-use Rattle.types.specs.Types.{axes_of, kind_meaning, kind_from, list_from}
-use Rattle.rules.specs.PlanFile as plan
+use Rattle.std.proofs.lemmas.List.{take-map, take_min}
+use Rattle.types.specs.Types.{axes_of, numbers_of, kind_meaning, kind_from, list_from}
+use Rattle.std.specs.Prelude.{Ok}
+use Rattle.types.specs.declared.Kind.{Kind}
+use Rattle.types.specs.declared.Kind.TheVariants.{AllSlice, AllGather, AllReduce, AllToAll, ReduceScatter}
 use Rattle.types.specs.declared.Axis.{Axis}
 use Rattle.types.specs.declared.AxisList.{AxisList}
 use Rattle.laws.proofs.Lists.{any-default}
@@ -25,6 +28,17 @@ size_in l n a h k = any-default l a 0 1 k ∙ sym (get_or-take n l a 1 h)
 
 pub size-past : (l : List ℕ) (n a : ℕ) → min n (length l) ≤ a → 1 ≡ get_or (take n l) a 1
 size-past l n a h = sym (get_or-eq_default (take n l) 1 (omega (arith, length-take n l)))
+
+-- the places that are used
+pub axes-front : (l : AxisList) → numbers_of (take (length (axes_of l)) l.axes) ≡ axes_of l
+unfolding axes_of numbers_of
+axes-front l =
+    let s : List ℕ = map (λ (a : Axis). a.0) l.axes in
+    sym (take-map (λ (a : Axis). a.0) (length (axes_of l)) l.axes) ∙ ap (λ (n : ℕ). take n s) (length-take l.count s) ∙ take_min l.count s
+
+pub axes-few : (l : AxisList) → length (axes_of l) ≤ length l.axes
+unfolding axes_of
+axes-few l = omega (arith, length-take l.count (map (λ (a : Axis). a.0) l.axes), length-map l.axes (λ (a : Axis). a.0))
 
 module _ (l : AxisList) (full : length l.axes ≡ most_axes) where
   pub axes-length : length (axes_of l) ≡ min l.count most_axes
@@ -57,10 +71,9 @@ list-axes (a ∷ b ∷ c ∷ d ∷ e ∷ f ∷ []) h = refl
 list-axes (a ∷ b ∷ c ∷ d ∷ e ∷ f ∷ g ∷ l) h = absurd (omega (arith, h))
 
 -- a kind is read back
-pub kind-same : (k : plan.Kind) → kind_meaning (kind_from k) ≡ k
-kind-same plan.AllSlice = refl
-kind-same plan.AllGather = refl
-kind-same plan.AllReduce = refl
-kind-same plan.AllToAll = refl
-kind-same plan.ReduceScatter = refl
-kind-same plan.Unknown = refl
+pub kind-same : (k : Kind) → kind_from (kind_meaning k) ≡ Ok k
+kind-same AllSlice = refl
+kind-same AllGather = refl
+kind-same AllReduce = refl
+kind-same AllToAll = refl
+kind-same ReduceScatter = refl

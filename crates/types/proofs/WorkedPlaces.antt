@@ -14,22 +14,21 @@ use Rattle.types.specs.declared.Reason.TheVariants.{
   TooManyRun,
   RepeatOfNothing,
 }
-use Rattle.types.specs.declared.CheckOutcome.TheVariants as check
-use Rattle.types.specs.declared.PlaceOutcome.TheVariants as place
+use Rattle.std.specs.Prelude.{Ok, Err}
 use Rattle.types.specs.WorkedPlaces.{list, none, single, four, crossed, kept, keeping, split, turned, nowhere}
 
 pub places :
     -- the check: W1, and W6 with gather [1]
     (checked_of (check_of w1) ≡ record {
-      outcome = check.Passed (record { room = 32; devices = 4; steps = 1; rank = 2; moved = 16 });
+      outcome = Ok (record { room = 32; devices = 4; steps = 1; rank = 2; moved = 16 });
       sharding = split;
       shard = 2 ∷ 4 ∷ 0 ∷ 0 ∷ [];
     })
     × (checked_of (check_of (w4 ((2 ∷ 1 ∷ 1 ∷ []) ∷ [])))
-    ≡ record { outcome = check.Refused (record { reason = NotTail; step = 1 }); sharding = nowhere; shard = 0 ∷ 0 ∷ 0 ∷ 0 ∷ [] })
+    ≡ record { outcome = Err (record { reason = NotTail; step = 1 }); sharding = nowhere; shard = 0 ∷ 0 ∷ 0 ∷ 0 ∷ [] })
     -- mesh 2x2x2x2, table 4x2, sharding [[3, 0], [2]], unreduced [1]
     × (checked_of (check_of (file_of (2 ∷ 2 ∷ 2 ∷ 2 ∷ []) (4 ∷ 2 ∷ []) ((3 ∷ 0 ∷ []) ∷ (2 ∷ []) ∷ (1 ∷ []) ∷ []) [])) ≡ record {
-      outcome = check.Passed (record { room = 16; devices = 16; steps = 0; rank = 2; moved = 0 });
+      outcome = Ok (record { room = 16; devices = 16; steps = 0; rank = 2; moved = 0 });
       sharding = record {
         dims = record { 0 = list 2 (3 ∷ 0 ∷ 0 ∷ 0 ∷ 0 ∷ 0 ∷ []) ∷ single 2 ∷ none ∷ none ∷ [] };
         unreduced = single 1;
@@ -39,38 +38,38 @@ pub places :
     })
     -- the placement: W4, device 1; W1 after its step, device 3; W4, device 4
     × (placed_of (place_of (w4 []) 0 1)
-    ≡ record { outcome = place.Found 1; sharding = turned; shard = 1 ∷ 0 ∷ 0 ∷ 0 ∷ []; first = 2 ∷ 0 ∷ 0 ∷ 0 ∷ [] })
+    ≡ record { outcome = Ok 1; sharding = turned; shard = 1 ∷ 0 ∷ 0 ∷ 0 ∷ []; first = 2 ∷ 0 ∷ 0 ∷ 0 ∷ [] })
     × (placed_of (place_of w1 1 3)
-    ≡ record { outcome = place.Found 2; sharding = split; shard = 2 ∷ 4 ∷ 0 ∷ 0 ∷ []; first = 2 ∷ 0 ∷ 0 ∷ 0 ∷ [] })
+    ≡ record { outcome = Ok 2; sharding = split; shard = 2 ∷ 4 ∷ 0 ∷ 0 ∷ []; first = 2 ∷ 0 ∷ 0 ∷ 0 ∷ [] })
     × (placed_of (place_of (w4 []) 0 4) ≡ record {
-      outcome = place.Refused (record { reason = NoSuchDevice; step = 0 });
+      outcome = Err (record { reason = NoSuchDevice; step = 0 });
       sharding = nowhere;
       shard = 0 ∷ 0 ∷ 0 ∷ 0 ∷ [];
       first = 0 ∷ 0 ∷ 0 ∷ 0 ∷ [];
     })
     -- a placement of a plan that is refused in a step
     × (placed_of (place_of (w4 ((2 ∷ 1 ∷ 1 ∷ []) ∷ [])) 0 0) ≡ record {
-      outcome = place.Refused (record { reason = NotTail; step = 1 });
+      outcome = Err (record { reason = NotTail; step = 1 });
       sharding = nowhere;
       shard = 0 ∷ 0 ∷ 0 ∷ 0 ∷ [];
       first = 0 ∷ 0 ∷ 0 ∷ 0 ∷ [];
     })
     -- every dimension, and the unreduced axes
     × (checked_of (check_of four) ≡ record {
-      outcome = check.Passed (record { room = 768; devices = 32; steps = 0; rank = 4; moved = 0 });
+      outcome = Ok (record { room = 768; devices = 32; steps = 0; rank = 4; moved = 0 });
       sharding = crossed;
       shard = 1 ∷ 2 ∷ 3 ∷ 4 ∷ [];
     })
     × (placed_of (place_of four 0 31)
-    ≡ record { outcome = place.Found 4; sharding = crossed; shard = 1 ∷ 2 ∷ 3 ∷ 4 ∷ []; first = 1 ∷ 2 ∷ 3 ∷ 4 ∷ [] })
+    ≡ record { outcome = Ok 4; sharding = crossed; shard = 1 ∷ 2 ∷ 3 ∷ 4 ∷ []; first = 1 ∷ 2 ∷ 3 ∷ 4 ∷ [] })
     -- the replicated axes
     × (checked_of (check_of kept) ≡ record {
-      outcome = check.Passed (record { room = 8; devices = 8; steps = 0; rank = 1; moved = 0 });
+      outcome = Ok (record { room = 8; devices = 8; steps = 0; rank = 1; moved = 0 });
       sharding = keeping;
       shard = 1 ∷ 0 ∷ 0 ∷ 0 ∷ [];
     })
     × (placed_of (place_of kept 0 1)
-    ≡ record { outcome = place.Found 1; sharding = keeping; shard = 1 ∷ 0 ∷ 0 ∷ 0 ∷ []; first = 1 ∷ 0 ∷ 0 ∷ 0 ∷ [] })
+    ≡ record { outcome = Ok 1; sharding = keeping; shard = 1 ∷ 0 ∷ 0 ∷ 0 ∷ []; first = 1 ∷ 0 ∷ 0 ∷ 0 ∷ [] })
 unfolding file_in file_of check_of place_of list_from lists_from reason_of
 places = (refl, refl, refl, refl, refl, refl, refl, refl, refl, refl, refl)
 

@@ -1,6 +1,6 @@
 -- What refusals and answers of the code (src/lib.rt) stand for in the rules, and the answer of the code that the rules define: every place of it.
 -- Assumes nothing.
-use Rattle.std.specs.Prelude.{ℕ, List, [], ◌∷◌, eqb}
+use Rattle.std.specs.Prelude.{ℕ, List, [], ◌∷◌, eqb, Result, Ok, Err}
 use Rattle.rules.specs.Lists.{pick}
 use Rattle.types.specs.declared.Reason.{Reason}
 use Rattle.types.specs.declared.Reason.TheVariants.{
@@ -48,13 +48,7 @@ use Rattle.types.specs.declared.Refusal.{Refusal}
 use Rattle.rules.specs.Refusals.{Judged, accept, refuse}
 use Rattle.types.specs.Types.{four_places, sharding_from, no_lists}
 use Rattle.types.specs.declared.Checked.{Checked}
-use Rattle.types.specs.declared.CheckOutcome.TheVariants as check
 use Rattle.types.specs.declared.Placed.{Placed}
-use Rattle.types.specs.declared.PlaceOutcome.TheVariants as place
-use Rattle.types.specs.declared.GroupsOutcome.{GroupsOutcome}
-use Rattle.types.specs.declared.GroupsOutcome.TheVariants as groups
-use Rattle.types.specs.declared.RunOutcome.{RunOutcome}
-use Rattle.types.specs.declared.RunOutcome.TheVariants as run
 use Rattle.rules.specs.Calls.{CheckAnswer, PlaceAnswer}
 
 -- ---- refusals
@@ -122,17 +116,27 @@ refused_with r = refuse (number_of r.reason) r.step
 abbrev pub refusal_of : (n k : ℕ) → Refusal
 refusal_of n k = record { reason = reason_of n; step = k }
 
+-- what a result of the code stands for
+abbrev pub judged : {A : Type 0} → Result A Refusal → Judged A
+judged (Ok a) = accept a
+judged (Err r) = refused_with r
+
+-- the same, of a value of the code that stands for one of the rules
+abbrev pub judged_as : {A B : Type 0} → (A → B) → Result A Refusal → Judged B
+judged_as f (Ok a) = accept (f a)
+judged_as f (Err r) = refused_with r
+
 -- ---- the answers of the calls
 
 -- The answer of the code, every place of it: past the rank no axes and sizes of 0, and so in every place beside a refusal.
 abbrev pub checked_of : Judged CheckAnswer → Checked
 checked_of (accept a) = record {
-  outcome = check.Passed (record { room = a.room; devices = a.devices; steps = a.steps; rank = a.rank; moved = a.moved });
+  outcome = Ok (record { room = a.room; devices = a.devices; steps = a.steps; rank = a.rank; moved = a.moved });
   sharding = sharding_from a.sharding;
   shard = four_places 0 a.shard;
 }
 checked_of (refuse n k) = record {
-  outcome = check.Refused (refusal_of n k);
+  outcome = Err (refusal_of n k);
   sharding = sharding_from no_lists;
   shard = four_places 0 [];
 }
@@ -140,22 +144,14 @@ checked_of (refuse n k) = record {
 -- the answer of the code; first indexes are 0 where sizes are
 abbrev pub placed_of : Judged PlaceAnswer → Placed
 placed_of (accept a) = record {
-  outcome = place.Found a.rank;
+  outcome = Ok a.rank;
   sharding = sharding_from a.sharding;
   shard = four_places 0 a.shard;
   first = four_places 0 a.first;
 }
-placed_of (refuse n k) = record {
-  outcome = place.Refused (refusal_of n k);
+placed_of (refuse n step) = record {
+  outcome = Err (refusal_of n step);
   sharding = sharding_from no_lists;
   shard = four_places 0 [];
   first = four_places 0 [];
 }
-
-abbrev pub groups_meaning : GroupsOutcome → Judged ℕ
-groups_meaning (groups.Listed d) = accept d
-groups_meaning (groups.Refused r) = refused_with r
-
-abbrev pub run_meaning : RunOutcome → Judged (Unit {0})
-run_meaning run.Finished = accept tt
-run_meaning (run.Refused r) = refused_with r

@@ -1,5 +1,5 @@
 -- What the types of the code (src/lib.rt) stand for in the rules, and the values of the code that an answer is made of. Assumes nothing.
-use Rattle.std.specs.Prelude.{ℕ, ◌≤◌, List, [], map, length, get_or, take}
+use Rattle.std.specs.Prelude.{ℕ, ◌≤◌, ◌≡◌, List, [], map, length, get_or, take, Result, Ok, Err}
 use Rattle.rules.specs.Lists.{tab}
 use Rattle.rules.specs.Limits.{most_axes, most_devices, most_dims}
 use Rattle.rules.specs.Sharding.{Sharding}
@@ -12,8 +12,11 @@ use Rattle.types.specs.declared.Table.{Table}
 use Rattle.types.specs.declared.DimLists.{DimLists}
 use Rattle.types.specs.declared.Sharding as code
 use Rattle.types.specs.declared.Kind.{Kind}
-use Rattle.types.specs.declared.Kind.TheVariants.{AllSlice, AllGather, AllReduce, AllToAll, ReduceScatter, Unknown}
+use Rattle.types.specs.declared.Kind.TheVariants.{AllSlice, AllGather, AllReduce, AllToAll, ReduceScatter}
+use Rattle.types.specs.declared.Reason.{Reason}
+use Rattle.types.specs.declared.Reason.TheVariants.{UnknownKind}
 use Rattle.types.specs.declared.Step.{Step}
+use Rattle.types.specs.declared.Step.TheVariants as step
 
 -- the sizes of a mesh, and those of a table
 abbrev pub mesh_of : Mesh → List ℕ
@@ -33,6 +36,10 @@ pub record WithinPlaces (mesh : Mesh) (table : Table) : Type 0 where
   pub rank : table.rank ≤ most_dims
   pub sized : Sized (mesh_of mesh)
 
+-- the numbers of axes
+unfoldable pub numbers_of : List Axis → List ℕ
+numbers_of axes = map (λ (a : Axis). a.0) axes
+
 -- the axes of a list, in order
 unfoldable pub axes_of : AxisList → List ℕ
 axes_of l = take l.count (map (λ (a : Axis). a.0) l.axes)
@@ -45,34 +52,32 @@ dims_of l = map axes_of l.0
 abbrev pub sharding_of : ℕ → code.Sharding → Sharding
 sharding_of rank s = record { dims = take rank (dims_of s.dims); unreduced = axes_of s.unreduced; replicated = axes_of s.replicated }
 
--- the kind that one of the code stands for, and the code's for a kind
+-- the kind that one of the code stands for, and what a kind byte is read as
 abbrev pub kind_meaning : Kind → plan.Kind
 kind_meaning AllSlice = plan.AllSlice
 kind_meaning AllGather = plan.AllGather
 kind_meaning AllReduce = plan.AllReduce
 kind_meaning AllToAll = plan.AllToAll
 kind_meaning ReduceScatter = plan.ReduceScatter
-kind_meaning Unknown = plan.Unknown
 
-abbrev pub kind_from : plan.Kind → Kind
-kind_from plan.AllSlice = AllSlice
-kind_from plan.AllGather = AllGather
-kind_from plan.AllReduce = AllReduce
-kind_from plan.AllToAll = AllToAll
-kind_from plan.ReduceScatter = ReduceScatter
-kind_from plan.Unknown = Unknown
+abbrev pub kind_from : plan.Kind → Result Kind Reason
+kind_from plan.AllSlice = Ok AllSlice
+kind_from plan.AllGather = Ok AllGather
+kind_from plan.AllReduce = Ok AllReduce
+kind_from plan.AllToAll = Ok AllToAll
+kind_from plan.ReduceScatter = Ok ReduceScatter
+kind_from plan.Unknown = Err UnknownKind
 
--- a step of a plan for a table of a rank; one of an unknown kind, which no read answers, stands for a step that names no axis
-abbrev pub of_kind : Kind → ℕ → Step → rules.Step
-of_kind AllSlice rank t = rules.all_slice (take rank (dims_of t.lists))
-of_kind AllGather rank t = rules.all_gather (take rank (dims_of t.lists))
-of_kind AllReduce rank t = rules.all_reduce (axes_of t.list)
-of_kind AllToAll rank t = rules.all_to_all t.source.0 t.target.0 (axes_of t.list)
-of_kind ReduceScatter rank t = rules.reduce_scatter (take rank (dims_of t.lists))
-of_kind Unknown rank t = rules.all_reduce []
+abbrev pub kind_read : ℕ → Result Kind Reason → Type 0
+kind_read byte r = r ≡ kind_from (plan.kind_of byte)
 
+-- a step of a plan for a table of a rank
 abbrev pub step_of : ℕ → Step → rules.Step
-step_of rank t = of_kind t.kind rank t
+step_of rank (step.AllSlice lists) = rules.all_slice (take rank (dims_of lists))
+step_of rank (step.AllGather lists) = rules.all_gather (take rank (dims_of lists))
+step_of rank (step.AllReduce list) = rules.all_reduce (axes_of list)
+step_of rank (step.AllToAll source target list) = rules.all_to_all source.0 target.0 (axes_of list)
+step_of rank (step.ReduceScatter lists) = rules.reduce_scatter (take rank (dims_of lists))
 
 -- ---- the other way: every place of an answer is fixed, and those that are not used hold 0
 

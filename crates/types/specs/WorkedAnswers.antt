@@ -7,8 +7,6 @@ use Rattle.rules.specs.Ledger.{nines}
 use Rattle.types.specs.declared.Axis.{Axis}
 use Rattle.types.specs.declared.AxisList.{AxisList}
 use Rattle.types.specs.declared.DimLists.{DimLists}
-use Rattle.types.specs.declared.Kind.{Kind}
-use Rattle.types.specs.declared.Step.{Step}
 use Rattle.types.specs.declared.Reason.{Reason}
 use Rattle.types.specs.declared.Refusal.{Refusal}
 
@@ -22,10 +20,6 @@ axes l = record { count = length l; axes = map axis (l ++ nines (most_axes - len
 
 abbrev pub lists : List (List ℕ) → DimLists
 lists dims = record { 0 = map axes (dims ++ replicate (most_dims - length dims) (nines 1)) }
-
-abbrev pub step : Kind → (source target : ℕ) → (dims : List (List ℕ)) → (list : List ℕ) → Step
-step kind source target dims list =
-    record { kind = kind; source = record { 0 = source }; target = record { 0 = target }; lists = lists dims; list = axes list }
 
 abbrev pub refusal : Reason → ℕ → Refusal
 refusal reason step = record { reason = reason; step = step }

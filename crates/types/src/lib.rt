@@ -3,10 +3,10 @@
 
 ghost use Rattle.std.specs.Prelude.{◌≡◌, List, [], ◌∷◌, ◌++◌, ℕ, ◌+◌, ◌<◌, ◌≤◌, length, get_or, set, replicate};
 ghost use Rattle.rules.specs.Limits.{most_axes, most_devices, most_dims, most_words, most_steps, most_run, most_depth, least_bytes, most_bytes};
-ghost use Rattle.types.specs.Types.{axes_of, mesh_of, dims_of, list_from};
+ghost use Rattle.types.specs.Types.{axes_of, mesh_of, dims_of, list_from, numbers_of, kind_read};
 
 // An axis number of a mesh.
-#[derive(Clone, Copy)]
+#[derive(Clone, Copy, PartialEq, Eq, Debug)]
 pub struct Axis(pub u8);
 
 impl Axis {
@@ -21,7 +21,7 @@ impl Axis {
 }
 
 // A dimension of a tensor.
-#[derive(Clone, Copy)]
+#[derive(Clone, Copy, PartialEq, Eq, Debug)]
 pub struct Dim(pub u8);
 
 impl Dim {
@@ -36,7 +36,7 @@ impl Dim {
 }
 
 // A device number.
-#[derive(Clone, Copy)]
+#[derive(Clone, Copy, PartialEq, Eq, Debug)]
 pub struct Device(pub u16);
 
 impl Device {
@@ -110,25 +110,46 @@ impl Table {
     }
 }
 
-// The kinds of step.
-#[derive(Clone, Copy)]
+// The kinds of step, by their kind bytes.
+#[derive(Clone, Copy, PartialEq, Eq, Debug)]
 pub enum Kind {
     AllSlice,
     AllGather,
     AllReduce,
     AllToAll,
     ReduceScatter,
-    Unknown,
+}
+
+// "1 all-slice, 2 all-gather .., 3 all-reduce .., 4 all-to-all"; 5 is a reduce-scatter.
+impl TryFrom<u8> for Kind {
+    type Error = Reason;
+
+    ghost try_from_gives = { λ byte r. kind_read byte r };
+
+    fn try_from(byte: u8) -> Result<Kind, Reason> {
+        match byte {
+            1 => Ok(Kind::AllSlice),
+            2 => Ok(Kind::AllGather),
+            3 => Ok(Kind::AllReduce),
+            4 => Ok(Kind::AllToAll),
+            5 => Ok(Kind::ReduceScatter),
+            _ => Err(Reason::UnknownKind),
+        }
+    }
 }
 
 // A step: all-slice, all-gather and reduce-scatter have lists by dimension, all-reduce and all-to-all have one list.
 #[derive(Clone, Copy)]
-pub struct Step {
-    pub kind: Kind,
-    pub source: Dim,
-    pub target: Dim,
-    pub lists: DimLists,
-    pub list: AxisList,
+pub enum Step {
+    AllSlice(DimLists),
+    AllGather(DimLists),
+    AllReduce(AxisList),
+    AllToAll {
+        source: Dim,
+        target: Dim,
+        list: AxisList,
+    },
+    ReduceScatter(DimLists),
 }
 
 impl Step {
@@ -184,7 +205,7 @@ impl PlanFile {
 }
 
 // Why a call is refused, a variant for each refusal number.
-#[derive(Clone, Copy)]
+#[derive(Clone, Copy, PartialEq, Eq, Debug)]
 pub enum Reason {
     FileTooShort,
     FileTooLong,
@@ -227,8 +248,8 @@ pub enum Reason {
     RepeatOfNothing,
 }
 
-// A refusal: a reason, and the step that it is given in, counted from 1; 0 outside the steps.
-#[derive(Clone, Copy)]
+// A refusal: a reason, and the step that it is given in, counted from 1; 0 outside the steps. It is the `Err` of each call's outcome.
+#[derive(Clone, Copy, PartialEq, Eq, Debug)]
 pub struct Refusal {
     pub reason: Reason,
     pub step: u16,
@@ -244,55 +265,39 @@ pub struct Totals {
     pub moved: u64,
 }
 
-#[derive(Clone, Copy)]
-pub enum CheckOutcome {
-    Passed(Totals),
-    Refused(Refusal),
-}
-
 // The check's answer: beside the outcome, the final sharding and its shard sizes. Past the rank there are no axes, and sizes are 0; so it is in every
 // place beside a refusal. Places of a list that are not used are 0.
 #[derive(Clone, Copy)]
 pub struct Checked {
-    pub outcome: CheckOutcome,
+    pub outcome: Result<Totals, Refusal>,
     pub sharding: Sharding,
     pub shard: [u16; Dim::MOST],
 }
 
-// The rank of the table, or the refusal.
-#[derive(Clone, Copy)]
-pub enum PlaceOutcome {
-    Found(usize),
-    Refused(Refusal),
-}
-
-// The placement's answer: beside the outcome, the state's sharding and shard sizes, and the device's first indexes; past the rank as the check's.
+// The placement's answer: beside the rank of the table or the refusal, the state's sharding and shard sizes, and the device's first indexes; past the rank
+// as the check's.
 #[derive(Clone, Copy)]
 pub struct Placed {
-    pub outcome: PlaceOutcome,
+    pub outcome: Result<usize, Refusal>,
     pub sharding: Sharding,
     pub shard: [u16; Dim::MOST],
     pub first: [u16; Dim::MOST],
 }
 
-// The number of devices listed, or the refusal.
-#[derive(Clone, Copy)]
-pub enum GroupsOutcome {
-    Listed(usize),
-    Refused(Refusal),
-}
-
-#[derive(Clone, Copy)]
-pub enum RunOutcome {
-    Finished,
-    Refused(Refusal),
-}
-
 // The run's answer: beside the outcome, the words that it moved between devices, 0 beside a refusal.
 #[derive(Clone, Copy)]
 pub struct Ran {
-    pub outcome: RunOutcome,
+    pub outcome: Result<(), Refusal>,
     pub moved: u64,
+}
+
+impl Refusal {
+    // A refusal outside the steps.
+    pub fn outside(reason: Reason) -> Refusal
+        ensures { result ≡ record { reason = reason; step = 0 } }
+    {
+        Refusal { reason, step: 0 }
+    }
 }
 
 impl AxisList {
@@ -316,6 +321,13 @@ impl AxisList {
         } else {
             count
         }
+    }
+
+    // The axes, in order.
+    pub fn as_slice(&self) -> &[Axis]
+        ensures { numbers_of result.now ≡ axes_of self.now }
+    {
+        &self.axes[..self.len()]
     }
 
     // The axis at a place of the list, axis 0 past its end.

@@ -1,44 +1,36 @@
 -- The writer, test by test: what is answered, and what the buffer holds; and its promise (`write-promise`). Assumes nothing.
 use Prim.Native.Nat.{ℕ, ◌≤◌, ◌<◌}
-use mathlib.Core.Path.{◌≡◌, refl, sym, ap, ap₂, ◌∙◌}
+use mathlib.Core.Path.{◌≡◌, refl, sym, ap, ◌∙◌}
 use mathlib.Core.List.{List, ◌++◌}
 use borrow.Author.Tests.{le-leb, lt-leb}
 use lib.ListN.{length, take, drop}
 use lib.Seq.{take_at, drop_at}
+use Rattle.std.specs.Prelude.{Result}
 use Rattle.rules.specs.Limits.{most_bytes}
 use Rattle.rules.specs.Refusals.{Judged, accept, refuse}
-use Rattle.types.specs.Answers.{refused_with}
+use Rattle.types.specs.Answers.{judged, refused_with}
 use Rattle.rules.specs.PlanFile.{Plan, judge}
 use Rattle.types.specs.declared.Refusal.{Refusal}
 use Rattle.types.specs.declared.Sharding as code
 use Rattle.laws.proofs.Judging.{never, then-inv}
-use Rattle.start.specs.Start.{meaning}
-use Rattle.start.specs.declared.Verdict.{Verdict}
-use Rattle.start.specs.declared.Verdict.TheVariants as verdict
 use Rattle.given.specs.Given.{verdict_of}
 use Rattle.records.specs.Records.{Records, records_of, file_length, file_of}
 use Rattle.records.specs.Writing.{judge_records, write_of, write_out, write_leaves}
 use Rattle.records.specs.Forms.{records_given}
 use Rattle.records.specs.RoundTrip.{Shorts}
-use Rattle.records.specs.Promises.{write_meaning, WritePromise}
-use Rattle.records.specs.declared.WriteOutcome.{WriteOutcome}
+use Rattle.records.specs.Promises.{WritePromise}
+use Rattle.records.proofs.Numbers.{of-any}
 use Rattle.records.proofs.Readback.{reads_back}
 use Rattle.encode.proofs.Accepted.{accepted-proper}
 
 -- what the judgement of records answered
-pub judged-fine : (j : Judged Plan) (v : Verdict) → meaning v ≡ verdict_of j → v ≡ verdict.Fine → (p : Plan) × (j ≡ accept p)
-judged-fine (accept p) v e f = (p, refl)
-judged-fine (refuse n k) v e f = absurd (never (sym e ∙ ap meaning f))
+pub judged-fine : (j : Judged Plan) → accept tt ≡ verdict_of j → (p : Plan) × (j ≡ accept p)
+judged-fine (accept p) e = (p, refl)
+judged-fine (refuse n k) e = absurd (never (sym e))
 
-judged-refused : (j : Judged Plan) (v : Verdict) (x : Refusal) → meaning v ≡ verdict_of j → v ≡ verdict.Refused x → j ≡ refused_with x
-judged-refused (accept p) v x e f = absurd (never (ap meaning (sym f) ∙ e))
-judged-refused (refuse n k) v x e f = ap₂ refuse (first (sym e ∙ ap meaning f)) (second (sym e ∙ ap meaning f))
-  where
-    first : {A : Type 0} {a b c d : ℕ} → ◌≡◌ {A = Judged A} (refuse a b) (refuse c d) → a ≡ c
-    first q = cc
-
-    second : {A : Type 0} {a b c d : ℕ} → ◌≡◌ {A = Judged A} (refuse a b) (refuse c d) → b ≡ d
-    second q = cc
+judged-refused : (j : Judged Plan) (x : Refusal) → refused_with x ≡ verdict_of j → j ≡ refused_with x
+judged-refused (accept p) x e = absurd (never e)
+judged-refused (refuse n k) x e = of-any (sym e)
 
 module _ (r : Records) (out : List ℕ) where
   -- what the buffer holds after an answer
@@ -50,9 +42,9 @@ module _ (r : Records) (out : List ℕ) where
     pub nothing_written : out ≡ write_leaves r out
     nothing_written = sym (leaves_by e)
 
-  pub records-refused : (v : Verdict) (x : Refusal) → meaning v ≡ verdict_of (judge_records r) → v ≡ verdict.Refused x → write_of r out ≡ refused_with x
+  pub records-refused : (x : Refusal) → refused_with x ≡ verdict_of (judge_records r) → write_of r out ≡ refused_with x
   unfolding write_of
-  records-refused v x e f = rw (judged-refused (judge_records r) v x e f) refl
+  records-refused x e = rw (judged-refused (judge_records r) x e) refl
 
   module _ {p : Plan} (e : judge_records r ≡ accept p) {n : ℕ} (l : n ≡ file_length r) where
     pub too_long : most_bytes < n → write_of r out ≡ refuse 2 0
@@ -91,7 +83,7 @@ module _ (mesh order sizes : List ℕ) (start : code.Sharding) (steps out : List
     again : (p : Plan) × (judge (take n out') ≡ accept p) × (records_of p ≡ R)
     again = (back.0, ap judge (ap (take n) left ∙ take_at (file_of R) (drop n out) n back.3) ∙ back.1, back.2)
 
-  pub write-promise : (o : WriteOutcome) (out' : List ℕ) → write_meaning o ≡ write_of R out → out' ≡ write_leaves R out
+  pub write-promise : (o : Result ℕ Refusal) (out' : List ℕ) → judged o ≡ write_of R out → out' ≡ write_leaves R out
       → WritePromise mesh order sizes start steps out o out'
   write-promise o out' a l = record {
     answers = a;

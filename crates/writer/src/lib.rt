@@ -2,25 +2,14 @@
 // records/specs/Promises.antt is its promise.
 #![tactic(auto)]
 
-ghost use Rattle.std.specs.Prelude.{◌≡◌};
-ghost use Rattle.rules.specs.Refusals.{refuse};
-ghost use Rattle.types.specs.Answers.{number_of};
-ghost use Rattle.records.specs.Promises.{write_meaning, WritePromise};
+ghost use Rattle.records.specs.Promises.{WritePromise};
 
 use encode::{file_length, put_file};
 use given::judge_records;
-use records::WriteOutcome;
-use start::{Verdict, refusal_of};
 use types::{PlanFile, Reason, Refusal, Sharding};
 
-// A refusal outside the steps.
-fn refused(reason: Reason) -> WriteOutcome
-    ensures { write_meaning result ≡ refuse (number_of reason) 0 }
-{
-    WriteOutcome::Refused(Refusal { reason, step: 0 })
-}
-
 // The file of the records that the arguments stand for: written where they pass and it fits, else nothing is written.
+// Stays: (a) mesh, order, table, start and steps one by one, as ishkrela's `write` and its promise `WritePromise` name them.
 pub fn write<'a>(
     mesh: &'a [u16],
     order: &'a [u16],
@@ -28,19 +17,16 @@ pub fn write<'a>(
     start: Sharding,
     steps: &[u8],
     file: &mut [u8],
-) -> WriteOutcome
+) -> Result<usize, Refusal>
     ensures { WritePromise mesh.now order.now table.now start steps.now file.old result file.new }
 {
-    let verdict = judge_records(mesh, order, table, start, steps);
-    let Verdict::Fine = verdict else {
-        return WriteOutcome::Refused(refusal_of(verdict));
-    };
+    judge_records(mesh, order, table, start, steps)?;
     let length = file_length(mesh, order, table, start, steps);
     if PlanFile::MOST < length {
-        return refused(Reason::FileTooLong);
+        return Err(Refusal::outside(Reason::FileTooLong));
     }
     if file.len() < length {
-        return refused(Reason::BufferTooShort);
+        return Err(Refusal::outside(Reason::BufferTooShort));
     }
-    WriteOutcome::Written(put_file(file, mesh, order, table, start, steps))
+    Ok(put_file(file, mesh, order, table, start, steps))
 }

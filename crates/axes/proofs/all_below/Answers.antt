@@ -1,17 +1,16 @@
-use mathlib.Core.Path.{sym, ◌∙◌}
-use borrow.Author.Tests.{lt-ltb, le-ltb}
+use mathlib.Core.Path.{refl, ap, ◌∙◌}
+use lib.Dec.{ltb}
+use Rattle.std.proofs.Common.{rules, tests}
+use Rattle.std.proofs.lemmas.Iterator.{YieldsList-from_slice}
+use Rattle.std.proofs.lemmas.Iterator.Search.{all_from_yields_List}
 use Rattle.rules.specs.PlanFile.{all_below}
-use Rattle.axes.proofs.Going.{ahead, onward, finish}
+use Rattle.types.specs.declared.Axis.{Axis}
+use Rattle.axes.proofs.Slices.{all-axes}
 use Rattle.axes.proofs.all_below.Goals as goal
-
-pub returns-then-n-a : goal.returns-then-n-a
-unfolding all_below
-returns-then-n-a c = sym (ahead c.loop-i.invariant c.loop-i-test.true _ 0 c.at-axis.ensures ∙ simp (le-ltb _ _ c.if-n-a.true))
-
-pub loop-i-preserved : goal.loop-i-preserved
-unfolding all_below
-loop-i-preserved c = onward c.loop-i.invariant c.loop-i-test.true _ 0 c.at-axis.ensures _ (simp (lt-ltb _ _ c.if-n-a.false))
 
 pub returns : goal.returns
 unfolding all_below
-returns c = sym (finish c.loop-i.invariant c.loop-i-test.false)
+returns c =
+    let n = c.args.n in
+    all_from_yields_List (λ (x : Axis). ltb x.0 n) _ _ _ c.all.ensures.ran (YieldsList-from_slice c.as_slice.result.now cc) (λ x b q k. search (rules, tests))
+    ∙ all-axes (all_below n) (λ a. ltb a n) refl (λ a l. refl) c.as_slice.result.now ∙ ap (all_below n) c.as_slice.ensures

@@ -1,17 +1,11 @@
-use mathlib.Core.Path.{sym, ◌∙◌}
-use borrow.Author.Tests.{eq-eqb, ne_eqb}
+use mathlib.Core.Path.{refl, ap, ◌∙◌}
+use lib.Dec.{eqb}
 use Rattle.rules.specs.Lists.{mem}
-use Rattle.axes.proofs.Going.{ahead, onward, finish}
+use Rattle.axes.proofs.Slices.{any-axes, eqb-turned}
 use Rattle.axes.proofs.is_in.Goals as goal
-
-pub returns-then-a-axis : goal.returns-then-a-axis
-unfolding mem
-returns-then-a-axis c = sym (ahead c.loop-i.invariant c.loop-i-test.true _ 0 c.at-axis.ensures ∙ simp (eq-eqb _ _ c.if-a-axis.true))
-
-pub loop-i-preserved : goal.loop-i-preserved
-unfolding mem
-loop-i-preserved c = onward c.loop-i.invariant c.loop-i-test.true _ 0 c.at-axis.ensures _ (simp (ne_eqb _ _ c.if-a-axis.false))
 
 pub returns : goal.returns
 unfolding mem
-returns c = sym (finish c.loop-i.invariant c.loop-i-test.false)
+returns c =
+    let a = c.args.a.0 in
+    c.contains.ensures.value ∙ any-axes (mem a) (λ b. eqb b a) refl (λ b l. rw (eqb-turned b a) refl) c.as_slice.result.now ∙ ap (mem a) c.as_slice.ensures

@@ -1,27 +1,13 @@
-use native.Mathlib.Omega.{arith}
-use mathlib.Core.Path.{sym}
-use Rattle.types.specs.Types.{axes_of}
-use Rattle.axes.proofs.Lists.{too_long, differ, agree, all-agree}
+use mathlib.Core.Path.{ap, ◌∙◌}
+use mathlib.Core.List.{List}
+use Prim.Native.Nat.{ℕ}
+use Rattle.rules.specs.PlanFile.{is_tail}
+use Rattle.types.specs.Types.{axes_of, numbers_of}
+use Rattle.axes.proofs.Slices.{tail-axes}
 use Rattle.axes.proofs.is_tail.Goals as goal
 
-pub returns-then-have-want : goal.returns-then-have-want
-returns-then-have-want c = let c3 = c in
-    let a = c3.args in sym (too_long (axes_of a.list) (axes_of a.tail)
-    (omega (arith, c.len-have.ensures, c.len-want.ensures)))
-
-pub returns-then-axis-other : goal.returns-then-axis-other
-returns-then-axis-other c = let c3 = c in
-    let c4 = c in
-    let c5 = c in
-    let c6 = c in
-    sym (differ c6.loop-i.invariant c5.loop-i-test.true _ _ c4.at-axis.ensures c3.at-other.ensures c.if-axis-other.true)
-
-pub loop-i-preserved : goal.loop-i-preserved
-loop-i-preserved c = let c3 = c in
-    let c4 = c in
-    let c5 = c in
-    let c6 = c in
-    agree c6.loop-i.invariant c5.loop-i-test.true _ _ c4.at-axis.ensures c3.at-other.ensures c.if-axis-other.false
-
 pub returns : goal.returns
-returns c = sym (all-agree c.loop-i.invariant c.loop-i-test.false)
+returns c =
+    let xs = c.as_slice.result.now in
+    let ys = c.as_slice-2.result.now in
+    c.ends_with.ensures.value ∙ tail-axes xs ys ∙ ap (λ (L : List ℕ). is_tail L (numbers_of ys)) c.as_slice.ensures ∙ ap (is_tail (axes_of c.args.list)) c.as_slice-2.ensures

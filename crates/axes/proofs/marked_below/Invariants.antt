@@ -1,4 +1,4 @@
-use Prim.Native.Nat.{◌-◌, ◌≤◌}
+use Prim.Native.Nat.{◌≤◌}
 use mathlib.Core.Bool.{false}
 use mathlib.Core.Path.{◌≡◌}
 use lib.ListN.{length, get_or}
@@ -8,7 +8,4 @@ use Rattle.axes.proofs.marked_below.Given as goal
 
 abbrev pub invariant-loop-i : goal.invariant-loop-i
 invariant-loop-i l =
-    (axes_of l.kept ≡ keep (λ a. get_or l.marks a false) (tab l.i (λ a. a))) × (length (axes_of l.kept) ≤ l.i) × (l.i ≤ l.n)
-
-abbrev pub decreases-loop-i : goal.decreases-loop-i
-decreases-loop-i l = l.n - l.i
+    (axes_of l.kept ≡ keep (λ a. get_or l.marks a false) (tab l.i (λ a. a))) × (length (axes_of l.kept) ≤ l.i)

@@ -13,8 +13,5 @@ decreases-judge_item l = length l.file.now - l.at
 
 abbrev pub invariant-judge_block-loop-i : goal.invariant-judge_block-loop-i
 invariant-judge_block-loop-i l =
-    InnerMoved (mesh_of l.mesh) (sizes_of l.table) l.file (l.depth - 1) l.steps (l.k + 1) (l.at + 2) l.largest (sharding_of l.table.rank l.sharding) l.i
-    l.number l.place l.runs l.most l.moved (sharding_of l.table.rank l.after)
-
-abbrev pub decreases-judge_block-loop-i : goal.decreases-judge_block-loop-i
-decreases-judge_block-loop-i l = l.steps - l.i
+    InnerMoved (mesh_of l.mesh) (sizes_of l.table) l.file (l.depth - 1) l.head.inner (l.k + 1) (l.at + 2) l.largest (sharding_of l.table.rank l.sharding)
+    l.i l.block.number l.block.at l.block.runs l.block.largest l.block.moved (sharding_of l.table.rank l.block.sharding)

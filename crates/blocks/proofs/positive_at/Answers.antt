@@ -1,12 +1,15 @@
-use mathlib.Core.Path.{sym}
+use mathlib.Core.Path.{sym, ap, ◌∙◌}
+use Rattle.rules.specs.Refusals.{accept}
 use Rattle.blocks.proofs.Heads.{positive-past, positive-zero, positive-is}
 use Rattle.blocks.proofs.positive_at.Goals as goal
 
-pub returns-then-file-at : goal.returns-then-file-at
-returns-then-file-at c = sym (positive-past _ _ _ c.if-file-at.true)
+pub returns-in_default : goal.returns-in_default
+returns-in_default c = rw c.outside.ensures (sym (positive-past _ _ _ c.in_default.ensures.lookup.3))
 
-pub returns-then-n-eq0 : goal.returns-then-n-eq0
-returns-then-n-eq0 c = sym (positive-zero _ _ _ c.if-file-at.false c.if-n-eq0.true)
+pub returns-then-byte-eq0 : goal.returns-then-byte-eq0
+returns-then-byte-eq0 c = let byte = c.in-Some.ensures.lookup.3 in
+    sym (positive-zero _ _ _ byte.0 (sym (byte.1 0) ∙ c.if-byte-eq0.true))
 
 pub returns : goal.returns
-returns c = sym (positive-is _ _ _ c.if-file-at.false c.if-n-eq0.false)
+returns c = let byte = c.in-Some.ensures.lookup.3 in
+    ap accept (byte.1 0) ∙ sym (positive-is _ _ _ byte.0 (λ e. c.if-byte-eq0.false (byte.1 0 ∙ e)))

@@ -1,6 +1,7 @@
-use mathlib.Core.Path.{sym, ◌∙◌}
-use Rattle.blocks.proofs.Same.{same-long}
+use mathlib.Core.Path.{refl, ap₂, ◌∙◌}
+use Rattle.rules.specs.PlanFile.{same}
+use Rattle.blocks.proofs.Same.{same-numbers}
 use Rattle.blocks.proofs.same_list.Goals as goal
 
-pub returns-then-len : goal.returns-then-len
-returns-then-len c = sym (same-long _ _ (λ e. c.if-len.true (c.len.ensures ∙ e ∙ sym c.len-2.ensures)))
+pub returns : goal.returns
+returns c = c.eq.ensures ∙ same-numbers _ (λ x y. refl) _ _ ∙ ap₂ same c.as_slice.ensures c.as_slice-2.ensures

@@ -1,4 +1,3 @@
-use Prim.Native.Nat.{◌-◌}
 use lib.ListN.{take}
 use Rattle.rules.specs.PlanFile.{same}
 use Rattle.types.specs.Types.{dims_of}
@@ -7,6 +6,3 @@ use Rattle.blocks.proofs.same_lists.Given as goal
 
 abbrev pub invariant-loop-d : goal.invariant-loop-d
 invariant-loop-d l = Testing same (take l.rank (dims_of l.a)) (take l.rank (dims_of l.b)) l.rank l.d
-
-abbrev pub decreases-loop-d : goal.decreases-loop-d
-decreases-loop-d l = l.rank - l.d

@@ -14,9 +14,8 @@ bounds-file-at-then-file-at-eq9-2 c = omega (arith, repeat-bytes _ c.requires.2.
 pub returns-then-file-at-eq9 : goal.returns-then-file-at-eq9
 returns-then-file-at-eq9 c = repeat-copied c.if-file-at-eq9.true c.put_repeat.ensures
 
-pub returns-in_default : goal.returns-in_default
-returns-in_default c = absurd (never-refused c.read_step-read.result 0 c.if-file-at-eq9.false c.read_step-read.ensures c.in_default.is _
-    c.requires.2.stands)
+pub unwrap-read-requires : goal.unwrap-read-requires
+unwrap-read-requires c = never-refused 0 c.if-file-at-eq9.false c.read_step.result c.read_step.ensures _ c.requires.2.stands
 
 pub returns : goal.returns
-returns c = plain_copied c.read_step-read.result 0 c.if-file-at-eq9.false c.read_step-read.ensures c.in-At.is c.put_plain.ensures
+returns c = plain_copied 0 c.if-file-at-eq9.false c.read_step.result c.unwrap-read.result c.read_step.ensures c.unwrap-read.ensures c.put_plain.ensures

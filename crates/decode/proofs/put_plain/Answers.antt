@@ -7,15 +7,14 @@ use Rattle.decode.proofs.put_plain.Goals as goal
 
 pub returns-in-AllSlice : goal.returns-in-AllSlice
 unfolding record_of
-returns-in-AllSlice c = let a = c.args in
-    simp c.in-AllSlice.is
-    (without-list (1 ∷ 0 ∷ 0 ∷ []) (take a.rank (dims_of a.step.lists)) c.empty-none.ensures c.put_form.ensures)
+returns-in-AllSlice c =
+    simp c.in-AllSlice.is (without-list (1 ∷ 0 ∷ 0 ∷ []) (take c.args.rank (dims_of c.in-AllSlice.lists)) c.empty-none.ensures c.put_form.ensures)
 
 pub returns-in-AllGather : goal.returns-in-AllGather
 unfolding record_of
-returns-in-AllGather c = let a = c.args in
+returns-in-AllGather c =
     simp c.in-AllGather.is
-    (without-list (2 ∷ 0 ∷ 0 ∷ []) (take a.rank (dims_of a.step.lists)) c.empty-none.ensures c.put_form-in-AllGather.ensures)
+    (without-list (2 ∷ 0 ∷ 0 ∷ []) (take c.args.rank (dims_of c.in-AllGather.lists)) c.empty-none.ensures c.put_form-in-AllGather.ensures)
 
 pub returns-in-AllReduce : goal.returns-in-AllReduce
 unfolding record_of
@@ -27,10 +26,6 @@ returns-in-AllToAll c = simp c.in-AllToAll.is c.put_form-in-AllToAll.ensures
 
 pub returns-in-ReduceScatter : goal.returns-in-ReduceScatter
 unfolding record_of
-returns-in-ReduceScatter c = let a = c.args in
+returns-in-ReduceScatter c =
     simp c.in-ReduceScatter.is
-    (without-list (5 ∷ 0 ∷ 0 ∷ []) (take a.rank (dims_of a.step.lists)) c.empty-none.ensures c.put_form-in-ReduceScatter.ensures)
-
-pub returns-in-Unknown : goal.returns-in-Unknown
-unfolding record_of
-returns-in-Unknown c = simp c.in-Unknown.is (without-list (3 ∷ 0 ∷ 0 ∷ []) [] c.empty-none.ensures c.put_form-in-Unknown.ensures)
+    (without-list (5 ∷ 0 ∷ 0 ∷ []) (take c.args.rank (dims_of c.in-ReduceScatter.lists)) c.empty-none.ensures c.put_form-in-ReduceScatter.ensures)

@@ -8,7 +8,7 @@ use Rattle.mesh.proofs.Sizes.{span_less, group-pos}
 use Rattle.digits.specs.Digits.{most_room}
 use Rattle.digits.proofs.Loops.{AxesAt, axes-step}
 use Rattle.digits.proofs.axis_digits.Goals as goal
-use Rattle.digits.proofs.axis_digits.Goals.{After-at-axis, After-slice_known-in-loop-i-2-1}
+use Rattle.digits.proofs.axis_digits.Goals.{After-at-axis, After-put_digit}
 
 -- the axis is one of the mesh
 in-mesh : (c : After-at-axis) → (let s = c in
@@ -19,7 +19,7 @@ in-mesh c =
     rw c.at-axis.ensures (s.requires.of_mesh (get_or (axes_of s.args.axes) i 0) (at_in (axes_of s.args.axes) i (omega arith)))
 
 -- one turn of the loop
-next : (c : After-slice_known-in-loop-i-2-1)
+next : (c : After-put_digit)
     → (let l = c in
     let s = c in
     let L = axes_of s.args.axes in
@@ -64,7 +64,7 @@ bounds-strides-a-in-loop-i c = omega (
 )
 
 pub overflow_mul-count : goal.overflow_mul-count
-overflow_mul-count c = let n = next ((goal.at.overflow_mul-count c).After-slice_known-in-loop-i-2-1) in
+overflow_mul-count c = let n = next ((goal.at.overflow_mul-count c).After-put_digit) in
     omega (arith, n.1)
 
 pub loop-i-preserved : goal.loop-i-preserved
@@ -75,5 +75,5 @@ loop-i-preserved c = let l = c in
       omega (arith, t, l.loop-i.invariant.1, s.requires.front.room),
       c.put_digit.auto.digits ∙ l.loop-i.invariant.2,
       rw length-set l.loop-i.invariant.3,
-      rw c.at-axis.ensures (next ((goal.at.loop-i-preserved c).After-slice_known-in-loop-i-2-1)).0,
+      rw c.at-axis.ensures (next ((goal.at.loop-i-preserved c).After-put_digit)).0,
     )

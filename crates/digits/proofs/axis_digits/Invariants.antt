@@ -9,6 +9,3 @@ abbrev pub invariant-loop-i : goal.invariant-loop-i
 invariant-loop-i l = (l.i ≤ length (axes_of l.axes))
     × (l.first + 3 * length (axes_of l.axes) ≡ l.end + 3 * l.i) × (length l.digits ≡ length l.initial.digits) × (length l.strides ≡ length l.initial.strides)
     × AxesAt l.mesh (axes_of l.axes) l.initial.strides l.initial.digits l.end l.inner l.digits l.strides l.first l.count l.i
-
-abbrev pub decreases-loop-i : goal.decreases-loop-i
-decreases-loop-i l = l.i

@@ -1,6 +1,6 @@
 use native.Mathlib.Omega.{arith}
-use Prim.Native.Nat.{◌*◌}
-use mathlib.Core.Path.{◌≡◌, ap}
+use Prim.Native.Nat.{◌*◌, ◌-◌, ◌+◌}
+use mathlib.Core.Path.{◌≡◌}
 use lib.ListN.{drop}
 use Rattle.rules.specs.Lists.{product}
 use Rattle.mesh.proofs.Sizes.{product-less}
@@ -8,16 +8,15 @@ use Rattle.digits.proofs.fill_strides.Goals as goal
 use Rattle.digits.proofs.fill_strides.Goals.{After-product_from}
 
 -- the words from one device of the axis to the next
-stride : (c : After-product_from)
-    → (let s = c in
-    c.product_from.result * s.args.m ≡ product (drop c.loop-i.i s.args.mesh.now) * s.args.m)
-stride c = ap (λ n. n * c.args.m) c.product_from.ensures
+stride : (c : After-product_from) → c.product_from.result * c.args.m ≡ product (drop c.loop-i.i c.args.mesh.now) * c.args.m
+stride c =
+    let e : c.loop-i.i - 1 + 1 ≡ c.loop-i.i = omega arith in
+    rw (c.product_from.ensures, e)
 
-pub overflow_mul-stride : goal.overflow_mul-stride
-overflow_mul-stride c = let s = c in
-    omega (
-      arith,
-      stride ((goal.at.overflow_mul-stride c).After-product_from),
-      product-less s.args.mesh.now c.loop-i.i s.args.m s.requires.0.on.devices_pos,
-      s.requires.1,
-    )
+pub overflow_mul-strides : goal.overflow_mul-strides
+overflow_mul-strides c = omega (
+  arith,
+  stride ((goal.at.overflow_mul-strides c).After-product_from),
+  product-less c.args.mesh.now c.loop-i.i c.args.m c.requires.0.on.devices_pos,
+  c.requires.1,
+)

@@ -7,6 +7,3 @@ use Rattle.digits.proofs.fill_strides.Given as goal
 
 abbrev pub invariant-loop-i : goal.invariant-loop-i
 invariant-loop-i l = (l.i ≤ length l.mesh) × (length l.strides ≡ length l.initial.strides) × (l.strides ≡ take l.i l.initial.strides ++ mesh_strides (drop l.i l.mesh) l.m)
-
-abbrev pub decreases-loop-i : goal.decreases-loop-i
-decreases-loop-i l = l.i

@@ -6,10 +6,10 @@ use Rattle.mesh.proofs.Sizes.{product-less}
 use Rattle.digits.specs.Digits.{most_room}
 use Rattle.digits.proofs.Loops.{MeshAt, mesh-step}
 use Rattle.digits.proofs.mesh_digits.Goals as goal
-use Rattle.digits.proofs.mesh_digits.Goals.{After-slice_known-in-loop-i-1}
+use Rattle.digits.proofs.mesh_digits.Goals.{After-put_digit}
 
 -- one turn of the loop
-next : (c : After-slice_known-in-loop-i-1)
+next : (c : After-put_digit)
     → (let l = c in
     let s = c in
     let count = get_or s.args.mesh.now (l.loop-i.i - 1) 0 * l.loop-i.count in
@@ -29,7 +29,7 @@ next c =
     (g, omega (arith, g.count_is, product-less mesh (i - 1) s.args.inner s.requires.has.on.devices_pos, s.requires.few))
 
 pub overflow_mul-count : goal.overflow_mul-count
-overflow_mul-count c = let n = next ((goal.at.overflow_mul-count c).After-slice_known-in-loop-i-1) in
+overflow_mul-count c = let n = next ((goal.at.overflow_mul-count c).After-put_digit) in
     omega (arith, n.1)
 
 pub loop-i-preserved : goal.loop-i-preserved
@@ -39,5 +39,5 @@ loop-i-preserved c = let l = c in
       omega (arith, t, l.loop-i.invariant.0),
       omega (arith, t, l.loop-i.invariant.1, s.requires.front.room),
       c.put_digit.auto.digits ∙ l.loop-i.invariant.2,
-      (next ((goal.at.loop-i-preserved c).After-slice_known-in-loop-i-1)).0,
+      (next ((goal.at.loop-i-preserved c).After-put_digit)).0,
     )

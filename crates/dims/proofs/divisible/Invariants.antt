@@ -1,4 +1,4 @@
-use Prim.Native.Nat.{ℕ, ◌-◌, ◌%◌}
+use Prim.Native.Nat.{ℕ, ◌%◌}
 use mathlib.Core.List.{List}
 use lib.Dec.{eqb}
 use lib.ListN.{take}
@@ -10,6 +10,3 @@ use Rattle.dims.proofs.divisible.Given as goal
 abbrev pub invariant-loop-d : goal.invariant-loop-d
 invariant-loop-d l = Testing (λ (n : ℕ) (xs : List ℕ). eqb (n % span_of (mesh_of l.mesh) xs) 0) (sizes_of l.table)
     (take l.rank (dims_of l.lists)) l.rank l.d
-
-abbrev pub decreases-loop-d : goal.decreases-loop-d
-decreases-loop-d l = l.rank - l.d

@@ -1,4 +1,3 @@
-use Prim.Native.Nat.{◌-◌}
 use mathlib.Core.List.{◌++◌}
 use mathlib.Core.Path.{◌≡◌}
 use lib.ListN.{take, drop}
@@ -9,6 +8,3 @@ use Rattle.dims.proofs.join_lists.Given as goal
 abbrev pub invariant-loop-d : goal.invariant-loop-d
 invariant-loop-d l = Making ◌++◌ (take l.rank (dims_of l.dims)) (take l.rank (dims_of l.lists)) (dims_of l.next) l.rank l.d
     × (drop l.rank (dims_of l.next) ≡ drop l.rank (dims_of l.dims))
-
-abbrev pub decreases-loop-d : goal.decreases-loop-d
-decreases-loop-d l = l.rank - l.d

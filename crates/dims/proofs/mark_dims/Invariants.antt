@@ -1,4 +1,4 @@
-use Prim.Native.Nat.{ℕ, ◌-◌}
+use Prim.Native.Nat.{ℕ}
 use mathlib.Core.List.{List}
 use mathlib.Core.Path.{◌≡◌}
 use lib.ListN.{length, take}
@@ -12,6 +12,3 @@ abbrev pub invariant-loop-d : goal.invariant-loop-d
 invariant-loop-d l =
     (length l.marks ≡ length l.initial.marks)
     × Going (marks_with l.initial.marks (flat (take l.rank (dims_of l.lists)))) (λ (ls : List (List ℕ)). marks_with l.marks (flat ls)) (take l.rank (dims_of l.lists)) l.rank l.d
-
-abbrev pub decreases-loop-d : goal.decreases-loop-d
-decreases-loop-d l = l.rank - l.d

@@ -1,4 +1,4 @@
-use Prim.Native.Nat.{ℕ, ◌-◌}
+use Prim.Native.Nat.{ℕ}
 use mathlib.Core.List.{List}
 use lib.ListN.{take}
 use Rattle.rules.specs.Lists.{flat}
@@ -9,6 +9,3 @@ use Rattle.dims.proofs.names_axis.Given as goal
 
 abbrev pub invariant-loop-d : goal.invariant-loop-d
 invariant-loop-d l = Going (some (flat (take l.rank (dims_of l.lists)))) (λ (ls : List (List ℕ)). some (flat ls)) (take l.rank (dims_of l.lists)) l.rank l.d
-
-abbrev pub decreases-loop-d : goal.decreases-loop-d
-decreases-loop-d l = l.rank - l.d

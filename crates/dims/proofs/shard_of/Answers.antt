@@ -16,8 +16,8 @@ loop-d-init c = let a = c.args in
       refl,
     )
 
-pub quotient-requires : goal.quotient-requires
-quotient-requires c = omega (arith, c.span.ensures, span-least (mesh_of c.args.mesh) c.requires.1 (axes_of c.at-list.result))
+pub nonzero_div-shard : goal.nonzero_div-shard
+nonzero_div-shard c = omega (arith, c.span.ensures, span-least (mesh_of c.args.mesh) c.requires.1 (axes_of c.at-list.result))
 
 pub loop-d-preserved : goal.loop-d-preserved
 loop-d-preserved c = let a = c.args in
@@ -25,4 +25,4 @@ loop-d-preserved c = let a = c.args in
     let h = c.loop-d-test.true in
     let p = sym (get_or-take a.table.rank a.table.sizes c.loop-d.d 0 h) in
     let q = list_at a.dims a.table.rank c.loop-d.d _ h c.at-list.ensures in
-    (makes i.0 h _ 0 p _ [] q _ _ refl (rw (← c.span.ensures) c.quotient.ensures), i.1, past-stays i.0 _ refl h i.2)
+    (makes i.0 h _ 0 p _ [] q _ _ refl (rw (← c.span.ensures) refl), i.1, past-stays i.0 _ refl h i.2)

@@ -1,4 +1,4 @@
-use Prim.Native.Nat.{ℕ, ◌-◌, ◌/◌}
+use Prim.Native.Nat.{ℕ, ◌/◌}
 use mathlib.Core.List.{List}
 use mathlib.Core.Path.{◌≡◌}
 use lib.ListN.{take, drop}
@@ -11,6 +11,3 @@ abbrev pub invariant-loop-d : goal.invariant-loop-d
 invariant-loop-d l =
     Making (λ (n : ℕ) (xs : List ℕ). n / span_of (mesh_of l.mesh) xs) (sizes_of l.table) (take l.rank (dims_of l.dims)) l.shard.sizes l.rank l.d
     × (l.shard.rank ≡ l.table.rank) × (drop l.rank l.shard.sizes ≡ drop l.rank l.table.sizes)
-
-abbrev pub decreases-loop-d : goal.decreases-loop-d
-decreases-loop-d l = l.rank - l.d

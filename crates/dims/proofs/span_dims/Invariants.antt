@@ -1,4 +1,3 @@
-use Prim.Native.Nat.{◌-◌}
 use mathlib.Core.Path.{◌≡◌}
 use lib.ListN.{length, take}
 use Rattle.rules.specs.Lists.{flat}
@@ -8,6 +7,3 @@ use Rattle.dims.proofs.span_dims.Given as goal
 
 abbrev pub invariant-loop-d : goal.invariant-loop-d
 invariant-loop-d l = (length (take l.rank (dims_of l.lists)) ≡ l.rank) × (l.product ≡ span_of (mesh_of l.mesh) (flat (take l.d (take l.rank (dims_of l.lists)))))
-
-abbrev pub decreases-loop-d : goal.decreases-loop-d
-decreases-loop-d l = l.rank - l.d

@@ -2,9 +2,12 @@ use native.Mathlib.Omega.{arith}
 use Rattle.encode.proofs.Counting.{counting-step, counting-done}
 use Rattle.encode.proofs.outermost_steps.Goals as goal
 
-pub loop-still-preserved : goal.loop-still-preserved
-loop-still-preserved c = let l = c.loop-still in
-    counting-step l.invariant (omega arith) c.inner_at-inner.ensures.1 c.is_outermost-outer.ensures c.still_after-still.ensures
+pub loop-i-preserved : goal.loop-i-preserved
+loop-i-preserved c =
+    counting-step c.loop-i.invariant (omega arith) c.inner_at.ensures.1 c.from-outer.ensures c.saturating_sub.ensures
 
-pub returns : goal.returns
-returns c = counting-done c.loop-still.invariant (omega arith)
+pub returns-then-count-i : goal.returns-then-count-i
+returns-then-count-i c = counting-done c.loop-i.invariant (omega arith)
+
+pub returns-after-loop-i : goal.returns-after-loop-i
+returns-after-loop-i c = counting-done c.loop-i.invariant (omega arith)

@@ -1,24 +1,25 @@
 use native.Mathlib.Omega.{arith}
-use Rattle.dims.proofs.Dims.{dims-length, list_at}
+use lib.ListN.{length-take}
 use Rattle.encode.proofs.Puts.{lists-start, lists-step, lists-done}
-use Rattle.encode.proofs.Given.{dims-short, lists-given}
+use Rattle.encode.proofs.Given.{dims-short, lists-given, lists-length, list-at}
 use Rattle.encode.proofs.put_lists.Goals as goal
 
-pub loop-d-init : goal.loop-d-init
-loop-d-init c = lists-start _ _ _
+pub loop-list-init : goal.loop-list-init
+loop-list-init c = lists-start _ _ _
 
 pub put_list-place-requires : goal.put_list-place-requires
-put_list-place-requires c = let h = c.loop-d.invariant.near in
-    let p = c.requires in
-    let e = list_at c.args.lists c.args.rank c.loop-d.d _ c.loop-d-test.true c.at-list.ensures in
-    (omega arith, rw e (dims-short c.args.rank c.args.lists p.2 c.loop-d.d))
+put_list-place-requires c = let a = c.args in (
+  omega (arith, c.loop-list.invariant.near, length-take a.rank a.lists.0),
+  rw (list-at a.rank a.lists c.loop-list.list-index) (dims-short a.rank a.lists c.requires.2 c.loop-list.list-index),
+)
 
-pub loop-d-preserved : goal.loop-d-preserved
-loop-d-preserved c = let a = c.args in
-    let e = list_at a.lists a.rank c.loop-d.d _ c.loop-d-test.true c.at-list.ensures in
-    let n = dims-length a.lists a.rank (c.well_formed.1.1.0.1.1.0.1.0.1) c.requires.1 in
-    lists-step c.loop-d.invariant (omega (arith, n)) e (rw e (dims-short a.rank a.lists c.requires.2 c.loop-d.d)) c.put_list-place.ensures
+pub loop-list-preserved : goal.loop-list-preserved
+loop-list-preserved c = let a = c.args in
+    let i = c.loop-list.list-index in
+    let e = list-at a.rank a.lists i in
+    lists-step c.loop-list.invariant (omega (arith, lists-length a.rank a.lists)) e (rw e (dims-short a.rank a.lists c.requires.2 i))
+    c.put_list-place.ensures
 
 pub returns : goal.returns
-returns c = let n = dims-length c.args.lists c.args.rank (c.well_formed.1.1.0.1.1.0.1.0.1) c.requires.1 in
-    lists-given c.args.rank c.args.lists c.requires.2 (lists-done c.loop-d.invariant (omega (arith, n)))
+returns c = let a = c.args in
+    lists-given a.rank a.lists c.requires.2 (lists-done c.loop-list.invariant (omega (arith, lists-length a.rank a.lists)))

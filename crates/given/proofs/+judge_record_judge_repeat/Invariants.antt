@@ -11,10 +11,7 @@ decreases-judge_record l = 2 * (record_count l.steps.now - l.i) + 1
 abbrev pub decreases-judge_repeat : goal.decreases-judge_repeat
 decreases-judge_repeat l = 2 * (record_count l.steps.now - l.i)
 
-abbrev pub invariant-judge_repeat-loop-done : goal.invariant-judge_repeat-loop-done
-invariant-judge_repeat-loop-done l =
-    Within (mesh_of l.mesh) (sizes_of l.table) (steps_given l.table.rank l.steps) (l.depth - 1) l.number l.i (sharding_of l.table.rank l.sharding) l.done
-    l.place l.runs (sharding_of l.table.rank l.after)
-
-abbrev pub decreases-judge_repeat-loop-done : goal.decreases-judge_repeat-loop-done
-decreases-judge_repeat-loop-done l = l.number - l.done
+abbrev pub invariant-judge_repeat-loop-n : goal.invariant-judge_repeat-loop-n
+invariant-judge_repeat-loop-n l =
+    Within (mesh_of l.mesh) (sizes_of l.table) (steps_given l.table.rank l.steps) l.below l.head.inner l.i (sharding_of l.table.rank l.sharding) l.n
+    l.block.at l.block.runs (sharding_of l.table.rank l.block.sharding)

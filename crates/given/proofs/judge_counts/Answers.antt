@@ -1,21 +1,20 @@
-use native.Mathlib.Omega.{arith}
-use mathlib.Core.Path.{sym}
-use Rattle.axes.proofs.Going.{begin}
-use Rattle.given.proofs.Counts.{dims-length, list-is, counts-refused, counts-onward, counts-fine}
+use mathlib.Core.Path.{refl, sym, ◌∙◌}
+use Rattle.std.proofs.lemmas.Result.{err_from_is_err_and}
+use Rattle.given.proofs.Counts.{counts-next, counts-fine}
 use Rattle.given.proofs.judge_counts.Goals as goal
 
-pub loop-d-init : goal.loop-d-init
-loop-d-init c = begin _ _ _ (dims-length c.args.rank c.args.lists (omega arith) c.requires.0)
+pub returns-in_err-judge_count : goal.returns-in_err-judge_count
+returns-in_err-judge_count c =
+    let a = c.args in
+    let p = err_from_is_err_and c.from_residual.result c.from_residual.ensures.1 in
+    let e = counts-next a.n a.lists.now c.loop-list.list-index c.loop-list-test.true in
+    rw (p.1, p.2, c.loop-list.invariant, e, ← c.in_err-judge_count.ensures) refl
 
-pub returns-in_default : goal.returns-in_default
-returns-in_default c = let a = c.args in
-    let h = c.loop-d-test.true in
-    counts-refused a.n a.rank a.lists c.loop-d.d c.loop-d.invariant _ _ _ h (list-is a.rank a.lists c.loop-d.d h) c.judge_count-verdict.ensures c.in_default.is
-
-pub loop-d-preserved : goal.loop-d-preserved
-loop-d-preserved c = let a = c.args in
-    let h = c.loop-d-test.true in
-    counts-onward a.n a.rank a.lists c.loop-d.d c.loop-d.invariant _ _ h (list-is a.rank a.lists c.loop-d.d h) c.judge_count-verdict.ensures c.in-Fine.is
+pub loop-list-preserved : goal.loop-list-preserved
+loop-list-preserved c =
+    let a = c.args in
+    let e = counts-next a.n a.lists.now c.loop-list.list-index c.loop-list-test.true in
+    rw (c.loop-list.invariant, e, ← c.in_ok-judge_count.ensures) refl
 
 pub returns : goal.returns
-returns c = let a = c.args in sym (counts-fine a.n a.rank a.lists c.loop-d.d c.loop-d.invariant c.loop-d-test.false)
+returns c = sym (c.loop-list.invariant ∙ counts-fine c.args.n c.args.lists.now c.loop-list.list-index c.loop-list-test.false)

@@ -1,17 +1,22 @@
-use Prim.Native.Nat.{ℕ}
-use mathlib.Core.Path.{sym, ap, ◌∙◌}
-use Rattle.rules.specs.PlanFile.{order_allowed}
+use mathlib.Core.Path.{◌≡◌, sym, ◌∙◌}
+use mathlib.Core.Logic.{◌≢◌}
+use native.Mathlib.Omega.{arith}
+use lib.ListN.{length}
+use Rattle.std.proofs.lemmas.Bool.Decides.{nat_tests}
 use Rattle.given.proofs.Sizes.{order-none, order-some}
 use Rattle.given.proofs.judge_order.Goals as goal
 
-pub returns-then-order-eq0 : goal.returns-then-order-eq0
-returns-then-order-eq0 c = sym (order-none _ _ c.if-order-eq0.true)
+pub returns-then-is_empty : goal.returns-then-is_empty
+returns-then-is_empty c =
+    let z : length c.args.order.now ≡ 0 = grind (arith, nat_tests, c.is_empty.ensures, c.if-is_empty.true) in
+    sym (order-none c.args.devices c.args.order.now z)
 
-pub returns-then-not-order_allowed : goal.returns-then-not-order_allowed
-returns-then-not-order_allowed c = let order = c.args.order.now in
-    c.refused.ensures
-    ∙ sym (order-some _ order c.if-order-eq0.false (sym (c.order_allowed.ensures ∙ ap (λ (d : ℕ). order_allowed d order) c.product_from-devices.ensures) ∙ c.if-not-order_allowed.true))
+pub returns-then-order_allowed : goal.returns-then-order_allowed
+returns-then-order_allowed c =
+    let z : length c.args.order.now ≢ 0 = grind (arith, nat_tests, c.is_empty.ensures, c.if-is_empty.false) in
+    sym (order-some c.args.devices c.args.order.now z (sym c.order_allowed.ensures ∙ c.if-order_allowed.true))
 
-pub returns : goal.returns
-returns c = let order = c.args.order.now in
-    sym (order-some _ order c.if-order-eq0.false (sym (c.order_allowed.ensures ∙ ap (λ (d : ℕ). order_allowed d order) c.product_from-devices.ensures) ∙ c.if-not-order_allowed.false))
+pub returns-else-order_allowed : goal.returns-else-order_allowed
+returns-else-order_allowed c =
+    let z : length c.args.order.now ≢ 0 = grind (arith, nat_tests, c.is_empty.ensures, c.if-is_empty.false) in
+    rw c.outside.ensures (sym (order-some c.args.devices c.args.order.now z (sym c.order_allowed.ensures ∙ c.if-order_allowed.false)))

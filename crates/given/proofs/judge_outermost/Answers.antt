@@ -1,7 +1,7 @@
 use native.Mathlib.Omega.{arith}
 use mathlib.Core.Path.{sym, ap, ◌∙◌}
+use Rattle.std.proofs.lemmas.Result.{err_from_is_err_and}
 use Rattle.types.specs.Types.{sharding_of, mesh_of, sizes_of}
-use Rattle.reader.proofs.Answers.{read-on, read-stopped}
 use Rattle.records.specs.Writing.{step_numbered}
 use Rattle.records.specs.Forms.{steps_given}
 use Rattle.records.proofs.Numbers.{numbered-on, numbered-stops}
@@ -14,8 +14,8 @@ pub loop-n-init : goal.loop-n-init
 loop-n-init c = let a = c.args in
     turns-start (mesh_of a.mesh) (sizes_of a.table) (steps_given a.table.rank a.steps.now) a.count (sharding_of a.table.rank a.start) c.requires.sound
 
-pub judge_record-item-requires : goal.judge_record-item-requires
-judge_record-item-requires c = let a = c.args in
+pub judge_record-requires : goal.judge_record-requires
+judge_record-requires c = let a = c.args in
     let g = c.loop-n.invariant in
     record {
       shaped = c.requires.shaped;
@@ -23,16 +23,17 @@ judge_record-item-requires c = let a = c.args in
       inside = omega (arith, g.inside, given-length a.table.rank a.steps.now);
     }
 
-pub returns-in_default : goal.returns-in_default
-returns-in_default c = let a = c.args in
-    let stop = read-stopped _ c.judge_record-item.ensures.reads c.in_default.is c.refusal.ensures in
-    sym (numbered-stops _ _ (λ n k q. turn-stops (mesh_of a.mesh) (sizes_of a.table) (steps_given a.table.rank a.steps.now) c.loop-n.invariant c.loop-n-test.true q) stop)
+pub returns-in_err-item : goal.returns-in_err-item
+returns-in_err-item c = let a = c.args in
+    let r = c.from_residual in
+    let q = err_from_is_err_and r.result r.ensures.1 in
+    rw (q.1, q.2) (sym (numbered-stops _ _ (λ n k e. turn-stops (mesh_of a.mesh) (sizes_of a.table) (steps_given a.table.rank a.steps.now) c.loop-n.invariant c.loop-n-test.true e) (sym c.in_err-item.ensures)))
 
 pub overflow_add-ran : goal.overflow_add-ran
 overflow_add-ran c = let a = c.args in
     let p = c.requires.shaped in
     let k = is-ranked (mesh_of a.mesh) (sizes_of a.table) a.table.rank p.rank_is p.fits.rank a.steps.now 0 in
-    let m = numbered-on _ (read-on _ c.judge_record-item.ensures.reads c.in-At.is) in
+    let m = numbered-on _ (sym c.in_ok-item.ensures) in
     let t = turned (mesh_of a.mesh) (sizes_of a.table) (steps_given a.table.rank a.steps.now) c.loop-n.invariant k p.fits.sized.least c.loop-n-test.true m in
     omega (arith, t.few, c.loop-n.invariant.ran_few)
 
@@ -40,14 +41,14 @@ pub returns-then-ran-gt-MOST_RUN : goal.returns-then-ran-gt-MOST_RUN
 returns-then-ran-gt-MOST_RUN c = let a = c.args in
     let p = c.requires.shaped in
     let k = is-ranked (mesh_of a.mesh) (sizes_of a.table) a.table.rank p.rank_is p.fits.rank a.steps.now 0 in
-    let m = numbered-on _ (read-on _ c.judge_record-item.ensures.reads c.in-At.is) in
+    let m = numbered-on _ (sym c.in_ok-item.ensures) in
     c.refusal_at.ensures ∙ sym (ap step_numbered (turn-over (mesh_of a.mesh) (sizes_of a.table) (steps_given a.table.rank a.steps.now) c.loop-n.invariant k p.fits.sized.least c.loop-n-test.true m c.if-ran-gt-MOST_RUN.true))
 
 pub loop-n-preserved : goal.loop-n-preserved
 loop-n-preserved c = let a = c.args in
     let p = c.requires.shaped in
     let k = is-ranked (mesh_of a.mesh) (sizes_of a.table) a.table.rank p.rank_is p.fits.rank a.steps.now 0 in
-    let m = numbered-on _ (read-on _ c.judge_record-item.ensures.reads c.in-At.is) in
+    let m = numbered-on _ (sym c.in_ok-item.ensures) in
     turn_step (mesh_of a.mesh) (sizes_of a.table) (steps_given a.table.rank a.steps.now) c.loop-n.invariant k p.fits.sized.least c.loop-n-test.true m c.if-ran-gt-MOST_RUN.false
 
 pub returns : goal.returns

@@ -1,4 +1,3 @@
-use Prim.Native.Nat.{◌-◌}
 use mathlib.Core.Path.{ap}
 use native.Mathlib.Omega.{arith}
 use lib.ListN.{length}
@@ -6,6 +5,4 @@ use Rattle.laws.proofs.Lists.{length-tab}
 use Rattle.groups.proofs.axes_below.Goals as goal
 
 pub with-all-requires : goal.with-all-requires
-with-all-requires c = let l = c.loop-left in
-    let n = c.args.n in
-    omega (arith, ap length l.invariant.0, length-tab (n - l.left) (λ a. a), c.requires)
+with-all-requires c = omega (arith, ap length c.loop-a.invariant, length-tab c.loop-a.a (λ a. a), c.requires)

@@ -1,44 +1,46 @@
 use Prim.Native.Nat.{ℕ, ◌+◌}
 use mathlib.Core.Path.{◌≡◌, sym, ap, ◌∙◌}
+use mathlib.Core.Bool.{true, false}
 use mathlib.Core.List.{List, [], ◌∷◌, ◌++◌, append-nil}
 use native.Mathlib.Omega.{arith}
-use lib.ListN.{length, drop, length-append, drop_of_length-le}
-use Rattle.rules.specs.Lists.{pick, keep, without}
-use Rattle.types.specs.Types.{axes_of}
-use Rattle.axes.proofs.Going.{drop_at}
-use Rattle.groups.proofs.Lists.{keeps}
+use lib.ListN.{length, get_or, drop, length-append, drop_of_length-le}
+use Rattle.rules.specs.Lists.{keep, without}
+use Rattle.types.specs.Types.{axes_of, numbers_of}
+use Rattle.types.specs.declared.Axis.{Axis}
+use Rattle.groups.proofs.Lists.{axis-kept}
 use Rattle.groups.proofs.extended.Goals as goal
+use Rattle.groups.proofs.extended.Goals.{then-not-is_in, else-not-is_in}
 
-pub with_unless-whole-requires : goal.with_unless-whole-requires
-unfolding without keep
-with_unless-whole-requires c = let l = c in
-    let a = c in
-    let more = axes_of a.args.more in
-    let but = axes_of a.args.but in
-    let next = c.at-axis.result.0 in
-    let t = drop_at more l.loop-i.i next 0 (omega (arith, l.len-count.ensures)) c.at-axis.ensures in
-    let e = l.loop-i.invariant ∙ ap (λ (r : List ℕ). axes_of l.loop-i.whole ++ without r but) t
-    ∙ keeps (axes_of l.loop-i.whole) but (drop (l.loop-i.i + 1) more) _ next c.is_in-gone.ensures in
-    let rest = without (drop (l.loop-i.i + 1) more) but in
-    omega (arith, a.requires, ap length e, length-append (axes_of l.loop-i.whole ++ pick c.is_in-gone.result [] (next ∷ [])) rest)
+pub with-whole-requires : goal.with-whole-requires
+with-whole-requires c = let axes = c.as_slice-axis-items.result.now in
+    let i = c.loop-axis.axis-index in
+    let K = axes_of c.loop-axis.whole in
+    let but = axes_of c.args.but in
+    let e = axis-kept _ K but axes i false c.loop-axis.invariant c.loop-axis-test.true c.if-not-is_in.ensures in
+    omega (
+      arith,
+      c.requires,
+      ap length e,
+      length-append (K ++ (get_or axes i (record { 0 = 0 })).0 ∷ []) (without (numbers_of (drop (i + 1) axes)) but),
+      length-append K ((get_or axes i (record { 0 = 0 })).0 ∷ []),
+    )
 
-pub loop-i-preserved : goal.loop-i-preserved
-unfolding without keep
-loop-i-preserved c = let l = c in
-    let a = c in
-    let more = axes_of a.args.more in
-    let but = axes_of a.args.but in
-    let next = c.at-axis.result.0 in
-    let t = drop_at more l.loop-i.i next 0 (omega (arith, l.len-count.ensures)) c.at-axis.ensures in
-    let e = l.loop-i.invariant ∙ ap (λ (r : List ℕ). axes_of l.loop-i.whole ++ without r but) t
-    ∙ keeps (axes_of l.loop-i.whole) but (drop (l.loop-i.i + 1) more) _ next c.is_in-gone.ensures in
-    e ∙ ap (λ (r : List ℕ). r ++ without (drop (l.loop-i.i + 1) more) but) (sym c.with_unless-whole.ensures)
+pub loop-axis-preserved : goal.loop-axis-preserved
+loop-axis-preserved c = let axes = c.as_slice-axis-items.result.now in
+    let i = c.loop-axis.axis-index in
+    let K = axes_of c.loop-axis.whole in
+    let but = axes_of c.args.but in
+    elim c.if-not-is_in.branch [
+      | then-not-is_in w ↦ rw (w.whole-is, w.with-whole.ensures)
+          (axis-kept _ K but axes i false c.loop-axis.invariant c.loop-axis-test.true w.if-not-is_in.ensures)
+      | else-not-is_in w ↦ rw w.whole-is
+          (axis-kept _ K but axes i true c.loop-axis.invariant c.loop-axis-test.true w.if-not-is_in.ensures
+          ∙ ap (λ (l : List ℕ). l ++ without (numbers_of (drop (i + 1) axes)) but) (append-nil K))
+    ]
 
 pub returns : goal.returns
-unfolding without keep
-returns c = let l = c in
-    let a = l.args in
-    let more = axes_of a.more in
-    let whole = axes_of l.loop-i.whole in
-    let none : drop l.loop-i.i more ≡ [] = drop_of_length-le more {i = l.loop-i.i} (omega (arith, l.len-count.ensures)) in
-    sym (l.loop-i.invariant ∙ ap (λ (r : List ℕ). whole ++ without r (axes_of a.but)) none ∙ append-nil whole)
+unfolding numbers_of without keep
+returns c = let axes = c.as_slice-axis-items.result.now in
+    let whole = axes_of c.loop-axis.whole in
+    let none : drop c.loop-axis.axis-index axes ≡ [] = drop_of_length-le axes {i = c.loop-axis.axis-index} (omega arith) in
+    sym (c.loop-axis.invariant ∙ ap (λ (l : List Axis). whole ++ without (numbers_of l) (axes_of c.args.but)) none ∙ append-nil whole)

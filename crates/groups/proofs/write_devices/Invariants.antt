@@ -4,6 +4,3 @@ use Rattle.groups.proofs.write_devices.Given as goal
 
 abbrev pub invariant-loop-i : goal.invariant-loop-i
 invariant-loop-i l = Writing l.mesh (axes_of l.axes) l.initial.out l.out l.count l.i
-
-abbrev pub decreases-loop-i : goal.decreases-loop-i
-decreases-loop-i l = l.i

@@ -1,7 +1,6 @@
 use native.Mathlib.Omega.{arith}
-use mathlib.Core.Bool.{false}
 use mathlib.Core.List.{List, []}
-use mathlib.Core.Path.{◌≡◌, sym, ap, ◌∙◌, subst}
+use mathlib.Core.Path.{sym, ap, ◌∙◌, subst}
 use Prim.Native.Nat.{ℕ}
 use lib.Dec.{T}
 use lib.ListN.{take}
@@ -9,36 +8,24 @@ use lib.Seq.{length-take-le}
 use Rattle.rules.specs.Lists.{flat}
 use Rattle.rules.specs.Sharding.{Sharding}
 use Rattle.rules.specs.Collectives.{reduced as reduced_of}
-use Rattle.rules.specs.PlanFile.{judge_axes, all_below}
+use Rattle.rules.specs.PlanFile.{all_below}
+use Rattle.types.specs.Answers.{number_of}
 use Rattle.types.specs.Types.{dims_of, sharding_of, mesh_of, sizes_of}
 use Rattle.axes.proofs.Naming.{none-marked}
 use Rattle.dims.specs.Dims.{Room}
-use Rattle.start.specs.Start.{meaning}
 use Rattle.judge.proofs.Rooms.{scatter-room}
 use Rattle.judge.proofs.Steps.{fresh-stops, fresh-passes, named-twice, not-owed, all-owed, scatters}
 use Rattle.judge.proofs.judge_scatter.Goals as goal
-use Rattle.judge.proofs.judge_scatter.Goals.{After-judge_dims-fresh}
-
--- the step's axes are judged after none
-judged : (c : After-judge_dims-fresh)
-    → (let a = c.args in
-    meaning c.judge_dims-fresh.result ≡ judge_axes a.mesh.n false 0 [] (flat (take a.table.rank (dims_of a.lists))))
-judged c =
-    let a = c.args in
-    c.judge_dims-fresh.ensures.result_value
-    ∙ ap (λ (l : List ℕ). judge_axes a.mesh.n false 0 l (flat (take a.table.rank (dims_of a.lists)))) none-marked
 
 pub returns-in_default : goal.returns-in_default
-unfolding reduced_of
-returns-in_default c = c.refused_step.ensures c.args.table.rank
-    ∙ sym (named-twice _ _ _ c.args.mesh.n _ _ (fresh-stops c.args.mesh.n _ _ c.requires.1 _ (judged ((goal.at.returns-in_default c).After-judge_dims-fresh)) _ c.in_default.is))
+returns-in_default c =
+    sym (named-twice _ _ _ c.args.mesh.n _ _
+    (fresh-stops c.args.mesh.n [] _ c.requires.1 {i = number_of c.in_default.field-0.reason} {j = c.in_default.field-0.step} (rw (← none-marked) c.in_default.ensures.result_value)))
 
 pub returns-then-not-all_in : goal.returns-then-not-all_in
-unfolding reduced_of
-returns-then-not-all_in c = let f = fresh-passes c.args.mesh.n _ _ c.requires.1 _ (judged ((goal.at.returns-then-not-all_in c).After-judge_dims-fresh)) c.in-Fine.is in
-    c.refused_step-then-not-all_in.ensures c.args.table.rank
-    ∙ sym (not-owed _ _ _ c.args.mesh.n _ _ c.requires.1 f c.ascending-axes.ensures
-    (sym c.all_in.ensures ∙ c.if-not-all_in.true))
+returns-then-not-all_in c =
+    let f = fresh-passes c.args.mesh.n [] _ c.requires.1 (rw (← none-marked) c.in-Ok.ensures.result_value) in
+    sym (not-owed _ _ _ c.args.mesh.n _ _ c.requires.1 f c.ascending-axes.ensures (sym c.all_in.ensures ∙ c.if-not-all_in.true))
 
 pub slice_on-requires : goal.slice_on-requires
 unfolding reduced_of
@@ -46,7 +33,7 @@ slice_on-requires c = let a = c.args in
     let g = c.requires.0 in
     let r = a.table.rank in
     let Ss = take r (dims_of a.lists) in
-    let f = fresh-passes a.mesh.n _ _ c.requires.1 _ (judged ((goal.at.slice_on-requires c).After-judge_dims-fresh)) c.in-Fine.is in
+    let f = fresh-passes a.mesh.n [] (flat Ss) c.requires.1 (rw (← none-marked) c.in-Ok.ensures.result_value) in
     let o = sym c.all_in.ensures ∙ c.if-not-all_in.false in
     let e = length-take-le a.mesh.n a.mesh.sizes (omega (arith, g.fits.axes, c.well_formed.1.1.1.0.1.1.1.0.1.0.1)) in
     let dims = ap (λ (x : Sharding). x.dims) (sym (c.reduced-between.ensures r)) in (
@@ -58,9 +45,8 @@ slice_on-requires c = let a = c.args in
     )
 
 pub returns : goal.returns
-unfolding reduced_of
-returns c = let r = c.args.table.rank in
-    let f = fresh-passes c.args.mesh.n _ _ c.requires.1 _ (judged ((goal.at.returns c).After-judge_dims-fresh)) c.in-Fine.is in
+returns c =
+    let f = fresh-passes c.args.mesh.n [] _ c.requires.1 (rw (← none-marked) c.in-Ok.ensures.result_value) in
     c.slice_on.ensures
-    ∙ scatters _ _ _ c.args.mesh.n _ _ c.requires.1 f c.ascending-axes.ensures
-    (sym c.all_in.ensures ∙ c.if-not-all_in.false) (c.reduced-between.ensures r)
+    ∙ scatters _ _ _ c.args.mesh.n _ _ c.requires.1 f c.ascending-axes.ensures (sym c.all_in.ensures ∙ c.if-not-all_in.false)
+    (c.reduced-between.ensures c.args.table.rank)

@@ -7,8 +7,7 @@ pub returns-then-not-divisible : goal.returns-then-not-divisible
 returns-then-not-divisible c = let a = c.args in
     let w = c.shard_of-shard.ensures in
     let d = shard-divides (mesh_of a.mesh) _ _ (dims_of a.lists) _ _ w.0 w.1 in
-    c.refused_step.ensures a.table.rank ∙ sym (not-divisible _ _ _ _ _
-    (sym (c.divisible.ensures ∙ d) ∙ c.if-not-divisible.true))
+    sym (not-divisible _ _ _ _ _ (sym (c.divisible.ensures ∙ d) ∙ c.if-not-divisible.true))
 
 pub returns : goal.returns
 returns c = let a = c.args in

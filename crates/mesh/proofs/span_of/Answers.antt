@@ -12,24 +12,20 @@ use Rattle.mesh.proofs.span_of.Goals.{After-size_at-count}
 
 -- the devices with one axis more
 next : (c : After-size_at-count)
-    → (let l = c in
-    let s = c in
-    c.size_at-count.result * l.loop-i.count ≡ span s.args.mesh.now (drop (l.loop-i.i - 1) (axes_of s.args.list)))
+    → c.size_at-count.result * c.loop-i.count ≡ span c.args.mesh.now (drop (c.loop-i.i - 1) (axes_of c.args.list))
 next c =
-    let l = c in
-    let L = axes_of c.args.list in
-    rw (drop-before 0 L l.loop-i.i (omega arith) (omega arith), ← c.at-axis.ensures, l.loop-i.invariant.1, c.size_at-count.ensures)
+    rw (drop-before 0 (axes_of c.args.list) c.loop-i.i (omega arith) (omega arith), ← c.at.ensures, c.loop-i.invariant.1, c.size_at-count.ensures)
 
 pub overflow_mul-count : goal.overflow_mul-count
-overflow_mul-count c = let s = c in
-    let mesh = s.args.mesh.now in
-    let L = axes_of s.args.list in
+overflow_mul-count c =
+    let mesh = c.args.mesh.now in
+    let L = axes_of c.args.list in
     let i = c.loop-i.i - 1 in
     omega (
       arith,
       next ((goal.at.overflow_mul-count c).After-size_at-count),
       mul-one (span mesh (drop i L)),
       mul-one (span mesh L),
-      span_less mesh L i 1 (group-pos mesh L s.requires.on.devices_pos),
-      s.requires.few,
+      span_less mesh L i 1 (group-pos mesh L c.requires.on.devices_pos),
+      c.requires.few,
     )

@@ -7,6 +7,3 @@ use Rattle.mesh.proofs.span_of.Given as goal
 
 abbrev pub invariant-loop-i : goal.invariant-loop-i
 invariant-loop-i l = (l.i ≤ length (axes_of l.list)) × (l.count ≡ span l.mesh (drop l.i (axes_of l.list)))
-
-abbrev pub decreases-loop-i : goal.decreases-loop-i
-decreases-loop-i l = l.i

@@ -1,17 +1,23 @@
-use native.Mathlib.Omega.{arith}
-use Prim.Native.Nat.{◌<◌, ◌-◌}
-use lib.ListN.{length, get_or}
+use Rattle.std.proofs.Common.{◌≡◌, length, ap, ◌∙◌, arith}
+use lib.Seq.{drop-length}
 use Rattle.types.specs.Types.{axes_of}
-use Rattle.laws.proofs.Lists.{at_in}
+use Rattle.digits.specs.Digits.{cleared}
+use Rattle.moves.proofs.Dims.{numbers-length, number_in, clear-step}
 use Rattle.moves.proofs.read_strides.Goals as goal
-use Rattle.moves.proofs.read_strides.Goals.{After-at-a}
 
--- the axis is one of the mesh
-in-mesh : (c : After-at-a) → (let s = c in c.at-a.result.0 < length s.args.mesh.now)
-in-mesh c =
-    let s = c in
-    let i = c.loop-i.i - 1 in
-    rw c.at-a.ensures (s.requires.of_mesh (get_or (axes_of s.args.axes) i 0) (at_in (axes_of s.args.axes) i (omega arith)))
+pub bounds-strides-axis : goal.bounds-strides-axis
+bounds-strides-axis c =
+    let xs = c.as_slice-axis-items in
+    omega (arith, c.requires.of_mesh _ (number_in xs.result.now xs.ensures c.loop-axis.axis-index c.loop-axis-test.true), c.requires.has.places)
 
-pub bounds-strides-a : goal.bounds-strides-a
-bounds-strides-a c = omega (arith, in-mesh ((goal.at.bounds-strides-a c).After-at-a), c.loop-i.invariant.1, c.fill_strides.auto.strides, c.requires.has.places)
+pub loop-axis-preserved : goal.loop-axis-preserved
+loop-axis-preserved c =
+    let xs = c.as_slice-axis-items in
+    clear-step xs.result.now xs.ensures c.loop-axis.axis-index c.loop-axis.strides c.loop-axis-test.true ∙ c.loop-axis.invariant
+
+pub returns : goal.returns
+returns c =
+    let xs = c.as_slice-axis-items in
+    let L = axes_of c.args.axes in
+    let e : c.loop-axis.axis-index ≡ length L = omega (arith, numbers-length xs.result.now xs.ensures) in
+    rw (e, drop-length L) at c.loop-axis.invariant ∙ ap (cleared L) c.fill_strides.ensures

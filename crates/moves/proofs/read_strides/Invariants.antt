@@ -1,13 +1,7 @@
-use Prim.Native.Nat.{◌≤◌}
-use mathlib.Core.Path.{◌≡◌}
-use lib.ListN.{length, drop}
+use Rattle.std.proofs.Common.{◌≡◌, drop}
 use Rattle.types.specs.Types.{axes_of}
-use Rattle.digits.specs.Digits.{mesh_strides, cleared}
+use Rattle.digits.specs.Digits.{cleared}
 use Rattle.moves.proofs.read_strides.Given as goal
 
-abbrev pub invariant-loop-i : goal.invariant-loop-i
-invariant-loop-i l = (l.i ≤ length (axes_of l.axes)) × (length l.strides ≡ length l.initial.strides)
-    × (l.strides ≡ cleared (drop l.i (axes_of l.axes)) (mesh_strides l.mesh l.m))
-
-abbrev pub decreases-loop-i : goal.decreases-loop-i
-decreases-loop-i l = l.i
+abbrev pub invariant-loop-axis : goal.invariant-loop-axis
+invariant-loop-axis l = cleared (drop l.axis-index (axes_of l.fn.axes)) l.strides ≡ cleared (axes_of l.fn.axes) l.initial.strides

@@ -3,8 +3,8 @@ use mathlib.Core.Bool.{not}
 use Rattle.order.proofs.Loops.{not-allowed, allowed-unless}
 use Rattle.order.proofs.order_allowed.Goals as goal
 
-pub returns-then-not-rearranges : goal.returns-then-not-rearranges
-returns-then-not-rearranges c = sym (not-allowed _ _ (sym c.rearranges.ensures ∙ c.if-not-rearranges.true))
+pub returns-else-rearranges : goal.returns-else-rearranges
+returns-else-rearranges c = c.if-rearranges.false ∙ sym (not-allowed _ _ (sym c.rearranges.ensures ∙ c.if-rearranges.false))
 
-pub returns : goal.returns
-returns c = ap not c.is_plain.ensures ∙ sym (allowed-unless _ _ (sym c.rearranges.ensures ∙ c.if-not-rearranges.false))
+pub returns-then-rearranges : goal.returns-then-rearranges
+returns-then-rearranges c = ap not c.is_plain.ensures ∙ sym (allowed-unless _ _ (sym c.rearranges.ensures ∙ c.if-rearranges.true))

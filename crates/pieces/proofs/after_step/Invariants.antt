@@ -1,8 +1,10 @@
+use lib.ListN.{length}
+use Rattle.pieces.specs.Held.{open_of}
 use Rattle.pieces.proofs.Blocks.{Closing}
 use Rattle.pieces.proofs.after_step.Given as goal
 
-abbrev pub invariant-loop-here : goal.invariant-loop-here
-invariant-loop-here l = Closing l.rank l.initial.here l.k l.left l.here l.step l.rest
+abbrev pub invariant-loop-frame : goal.invariant-loop-frame
+invariant-loop-frame l = Closing l.rank l.initial.here l.k l.left l.here l.step l.rest
 
-abbrev pub decreases-loop-here : goal.decreases-loop-here
-decreases-loop-here l = l.here.frames.depth
+abbrev pub decreases-loop-frame : goal.decreases-loop-frame
+decreases-loop-frame l = length (open_of l.here.frames)

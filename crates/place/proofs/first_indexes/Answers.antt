@@ -16,23 +16,19 @@ loop-d-init c = let a = c.args in
     )
 
 pub first_index-requires : goal.first_index-requires
-first_index-requires c = let c6 = c in
-    let a = c6.args in
+first_index-requires c = let a = c.args in
     let d = c.loop-d.d in
     let h = c.loop-d-test.true in
     let p = get_or-take a.shard.rank a.shard.sizes d 0 h in
     let q = list_at a.dims a.shard.rank d _ h c.at-list.ensures in
-    rw (c.position_of.ensures, q, ← p) (c6.requires.few d)
+    rw (c.position_of.ensures, q, ← p) (c.requires.few d)
 
 pub loop-d-preserved : goal.loop-d-preserved
-loop-d-preserved c = let c3 = c in
-    let c4 = c in
-    let c5 = c in
-    let a = c5.args in
-    let i = c5.loop-d.invariant in
-    let h = c4.loop-d-test.true in
-    let p = sym (get_or-take a.shard.rank a.shard.sizes c5.loop-d.d 0 h) in
-    let q = list_at a.dims a.shard.rank c5.loop-d.d _ h c3.at-list.ensures in
+loop-d-preserved c = let a = c.args in
+    let i = c.loop-d.invariant in
+    let h = c.loop-d-test.true in
+    let p = sym (get_or-take a.shard.rank a.shard.sizes c.loop-d.d 0 h) in
+    let q = list_at a.dims a.shard.rank c.loop-d.d _ h c.at-list.ensures in
     (makes i.0 h _ 0 p _ [] q _ _ refl (rw (← c.position_of.ensures) c.first_index.ensures), i.1)
 
 pub returns : goal.returns

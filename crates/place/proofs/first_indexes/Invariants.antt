@@ -1,4 +1,4 @@
-use Prim.Native.Nat.{ℕ, ◌*◌, ◌-◌}
+use Prim.Native.Nat.{ℕ, ◌*◌}
 use mathlib.Core.Path.{◌≡◌}
 use mathlib.Core.List.{List}
 use lib.ListN.{take}
@@ -9,8 +9,5 @@ use Rattle.place.proofs.first_indexes.Given as goal
 
 abbrev pub invariant-loop-d : goal.invariant-loop-d
 invariant-loop-d l =
-    Making (λ (n : ℕ) (xs : List ℕ). position l.mesh xs (coords l.mesh l.place) * n) (sizes_of l.shard) (take l.rank (dims_of l.dims)) l.first.sizes l.rank l.d
+    Making (λ (n : ℕ) (xs : List ℕ). position l.mesh xs (coords l.mesh l.place) * n) (sizes_of l.shard) (take l.shard.rank (dims_of l.dims)) l.first.sizes l.shard.rank l.d
     × (l.first.rank ≡ l.shard.rank)
-
-abbrev pub decreases-loop-d : goal.decreases-loop-d
-decreases-loop-d l = l.rank - l.d

@@ -1,10 +1,10 @@
+use Rattle.std.specs.Prelude.{Err}
 use mathlib.Core.Path.{sym}
 use mathlib.Core.List.{[]}
 use Rattle.types.specs.Types.{four_places}
-use Rattle.types.specs.declared.PlaceOutcome.TheVariants as place
 use Rattle.types.proofs.Refusals.{refusal-told}
 use Rattle.place.proofs.refused.Goals as goal
 
 pub returns : goal.returns
 returns c = let told = sym (refusal-told c.args.refusal) in
-    (λ i. record { outcome = place.Refused (told i); sharding = c.no_lists-sharding.ensures i; shard = four_places 0 []; first = four_places 0 [] })
+    (λ i. record { outcome = Err (told i); sharding = c.no_lists.ensures i; shard = four_places 0 []; first = four_places 0 [] })

@@ -33,11 +33,9 @@ read_is file part n d few c size e =
     ∙ sym (ap (λ (b : Bool). order_of b d file (18 + 2 * n)) c)
 
 pub returns-then-not-carries_order : goal.returns-then-not-carries_order
-returns-then-not-carries_order c = let o = c in
-    let s = c in
-    let d : ℕ = length s.args.places.now in
-    let plain : order_in s.args.file.now s.args.n d ≡ plain_order d =
-    ap (λ (b : Bool). order_of b d s.args.file.now (18 + 2 * s.args.n)) (sym o.carries_order.ensures ∙ o.if-not-carries_order.true) in
+returns-then-not-carries_order c = let d : ℕ = length c.args.places.now in
+    let plain : order_in c.args.file.now c.args.n d ≡ plain_order d =
+    ap (λ (b : Bool). order_of b d c.args.file.now (18 + 2 * c.args.n)) (sym c.carries_order.ensures ∙ c.if-not-carries_order.true) in
     c.number_places.ensures ∙ places-plain d ∙ ap places_of (sym plain)
 
 pub invert-requires : goal.invert-requires

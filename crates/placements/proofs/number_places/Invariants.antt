@@ -1,4 +1,4 @@
-use Prim.Native.Nat.{◌-◌, ◌≤◌}
+use Prim.Native.Nat.{◌≤◌}
 use lib.ListN.{length}
 use Rattle.rules.specs.Limits.{most_devices}
 use Rattle.laws.proofs.Fronts.{Filled}
@@ -6,6 +6,3 @@ use Rattle.placements.proofs.number_places.Given as goal
 
 abbrev pub invariant-loop-i : goal.invariant-loop-i
 invariant-loop-i l = Filled (λ k. k) l.initial.places l.places l.i × (length l.initial.places ≤ most_devices)
-
-abbrev pub decreases-loop-i : goal.decreases-loop-i
-decreases-loop-i l = length l.initial.places - l.i

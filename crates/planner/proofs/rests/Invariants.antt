@@ -1,4 +1,3 @@
-use Prim.Native.Nat.{◌-◌}
 use mathlib.Core.Path.{◌≡◌}
 use lib.ListN.{take, drop}
 use Rattle.types.specs.Types.{dims_of}
@@ -9,6 +8,3 @@ use Rattle.planner.proofs.rests.Given as goal
 abbrev pub invariant-loop-d : goal.invariant-loop-d
 invariant-loop-d l = Making rest_of_start (take l.rank (dims_of l.start)) (take l.rank (dims_of l.goal)) (dims_of l.next) l.rank l.d
     × (drop l.rank (dims_of l.next) ≡ drop l.rank (dims_of l.start))
-
-abbrev pub decreases-loop-d : goal.decreases-loop-d
-decreases-loop-d l = l.rank - l.d

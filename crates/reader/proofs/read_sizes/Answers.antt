@@ -1,28 +1,33 @@
 use native.Mathlib.Omega.{arith}
-use Rattle.reader.proofs.Answers.{is-told, retold}
-use Rattle.reader.proofs.Sizing.{wrong-offset, no_room, at_zero, at-over, step, at-end}
+use mathlib.Core.Path.{◌≡◌, sym}
+use mathlib.Core.List.{◌++◌}
+use Prim.Native.Nat.{ℕ, ◌+◌, ◌*◌}
+use lib.ListN.{take, drop, replicate, length-replicate}
+use Rattle.rules.specs.Lists.{tab}
+use Rattle.rules.specs.PlanFile.{u16_at}
+use Rattle.reader.proofs.Answers.{refused-so, handed-on}
+use Rattle.reader.proofs.Sizing.{wrong-offset, no_room, sizes-refused, sizes-read, lent-read}
 use Rattle.reader.proofs.read_sizes.Goals as goal
+use Rattle.reader.proofs.read_sizes.Goals.{After-read_order}
+use Rattle.reader.proofs.read_sizes.Given.{Over}
 
-pub returns-then-offset-at : goal.returns-then-offset-at
-returns-then-offset-at c = let r = c.refused_for.ensures c.args.count (omega arith) in record { sizes_tell = retold r.0 (wrong-offset _ _ _ _ _ _ _ (omega arith)); product_value = r.1 }
+-- the sizes that were read
+read : (g : Over) (c : After-read_order g)
+    → take c.args.count (c.read_order.new.numbers ++ drop c.args.count (replicate {A = ℕ} g.row.N 1))
+    ≡ tab c.args.count (λ i. u16_at c.args.file.now (c.args.at + 2 * i))
+read g c = lent-read (replicate {A = ℕ} g.row.N 1) _ _ _ (omega (arith, length-replicate {A = ℕ} g.row.N 1)) c.read_order.ensures c.read_order.auto.numbers
 
-pub returns-then-file-at : goal.returns-then-file-at
-returns-then-file-at c = let r = c.refused_for-then-file-at.ensures c.args.count (omega arith) in record { sizes_tell = retold r.0 (no_room _ _ _ _ _ _ _ (omega arith) (omega arith)); product_value = r.1 }
+pub returns-then-offset-at-clause-reads : goal.returns-then-offset-at-clause-reads
+returns-then-offset-at-clause-reads g c = refused-so c.outside.ensures (wrong-offset _ _ _ _ _ _ _ (omega arith))
 
-pub returns-then-size-eq0 : goal.returns-then-size-eq0
-returns-then-size-eq0 c = let r = c.refused_for-then-size-eq0.ensures c.args.count (omega arith) in
-    let size = c.u16_at-size in
-    let zero = at_zero c.loop-i.invariant size.result c.loop-i-test.true size.ensures.0 in record { sizes_tell = retold r.0 (zero (omega arith) c.if-size-eq0.true); product_value = r.1 }
+pub returns-then-file-at-clause-reads : goal.returns-then-file-at-clause-reads
+returns-then-file-at-clause-reads g c = refused-so c.outside-then-file-at.ensures (no_room _ _ _ _ _ _ _ (omega arith) (omega arith))
 
-pub returns-then-most-product : goal.returns-then-most-product
-returns-then-most-product c = let r = c.refused_for-then-most-product.ensures c.args.count (omega arith) in
-    let size = c.u16_at-size in
-    let over = at-over c.loop-i.invariant size.result c.loop-i-test.true size.ensures.0 in record { sizes_tell = retold r.0 (over (omega arith) c.if-size-eq0.false c.if-most-product.true); product_value = r.1 }
+pub returns-in_err-product-clause-reads : goal.returns-in_err-product-clause-reads
+returns-in_err-product-clause-reads g c =
+    handed-on _ _ _ c.from_residual.ensures.1
+    (sizes-refused _ _ _ _ _ _ _ c.if-offset-at.false (omega arith) (read g ((goal.at.returns-in_err-product-clause-reads g c).After-read_order)) (sym c.in_err-product.ensures.judges))
 
-pub loop-i-preserved : goal.loop-i-preserved
-loop-i-preserved c = let size = c.u16_at-size in
-    let go = step c.loop-i.invariant size.result c.loop-i-test.true size.ensures.0 in
-    go c.if-size-eq0.false c.if-most-product.false (omega arith) (omega arith)
-
-pub returns : goal.returns
-returns c = let e = at-end c.loop-i.invariant {offset = c.args.offset} (omega arith) c.loop-i-test.false in record { sizes_tell = is-told e.0; product_value = e.1 }
+pub returns-clause-reads : goal.returns-clause-reads
+returns-clause-reads g c =
+    sym (sizes-read _ _ _ _ _ _ _ c.if-offset-at.false (omega arith) (read g ((goal.at.returns-clause-reads g c).After-read_order)) (sym c.in_ok-product.ensures.judges))

@@ -1,43 +1,75 @@
 use Prim.Native.Nat.{◌+◌}
-use mathlib.Core.Path.{◌≡◌, ◌∙◌}
-use Rattle.rules.specs.PlanFile.{lists_of, step_at}
+use mathlib.Core.Path.{◌≡◌, refl, sym, ◌∙◌}
+use borrow.Author.Tests.{lt-ltb}
+use lib.ListN.{length}
+use Rattle.rules.specs.PlanFile.{step_at, lists_of}
 use Rattle.types.specs.Types.{kind_meaning}
-use Rattle.reader.proofs.Answers.{retold}
-use Rattle.reader.proofs.Listing.{byte-is, byte-end}
-use Rattle.reader.proofs.Stepping.{no_kind, by_kind, unknown}
+use Rattle.reader.proofs.Answers.{refused-so, handed-on, kind-read, kind-unknown}
+use Rattle.reader.proofs.Listing.{byte-is}
+use Rattle.reader.proofs.Stepping.{no_kind}
 use Rattle.reader.proofs.read_step.Goals as goal
-use Rattle.reader.proofs.read_step.Goals.{After-kind_of-kind}
+use Rattle.reader.proofs.read_step.Goals.{In-Ok}
 
 -- the step by its kind
-kind-is : (c : After-kind_of-kind)
+kind-is : (c : In-Ok)
     → let a = c.args in
-    step_at a.n a.rank a.k a.file.now a.at
-    ≡ lists_of a.n a.rank a.k a.file.now (a.at + 1) (kind_meaning c.kind_of-kind.result)
-kind-is c = by_kind _ _ _ _ _ (byte-is _ _ c.byte_at-first.ensures c.in-Is.is) c.kind_of-kind.ensures
+    step_at a.n a.rank a.k a.file.now a.at ≡ lists_of a.n a.rank a.k a.file.now (a.at + 1) (kind_meaning c.in-Ok.kind)
+unfolding step_at
+kind-is c = let b = byte-is c.in-Some.ensures.lookup.3 in
+    rw (lt-ltb c.args.at (length c.args.file.now) b.inside, b.is, kind-read _ c.in-Ok.ensures) refl
 
 pub returns-in_default : goal.returns-in_default
-returns-in_default c = let a = c.args in
-    let end = byte-end a.file.now a.at c.byte_at-first.ensures c.in_default.is in
-    retold (c.refused.ensures a.rank) (no_kind a.n a.rank a.k a.file.now a.at end)
+returns-in_default c = refused-so c.outside.ensures (no_kind _ _ _ _ _ c.in_default.ensures.lookup.3)
 
-pub returns-in-AllSlice : goal.returns-in-AllSlice
-returns-in-AllSlice c = retold (c.read_per_dim.ensures c.args.k) (kind-is ((goal.at.returns-in-AllSlice c).After-kind_of-kind))
+pub returns-in_default-try_from : goal.returns-in_default-try_from
+unfolding step_at lists_of
+returns-in_default-try_from c = let b = byte-is c.in-Some.ensures.lookup.3 in
+    sym (rw (lt-ltb c.args.at (length c.args.file.now) b.inside, b.is, kind-unknown _ c.in_default-try_from.ensures) refl)
 
-pub returns-in-AllGather : goal.returns-in-AllGather
-returns-in-AllGather c = retold (c.read_per_dim-in-AllGather.ensures c.args.k) (kind-is ((goal.at.returns-in-AllGather c).After-kind_of-kind))
+pub returns-in_err-read_lists-in-AllSlice : goal.returns-in_err-read_lists-in-AllSlice
+unfolding lists_of
+returns-in_err-read_lists-in-AllSlice c = let is = kind-is ((goal.at.returns-in_err-read_lists-in-AllSlice c).In-Ok) in
+    handed-on _ _ _ c.from_residual.ensures.1 (is ∙ simp (c.in-AllSlice.is, sym c.in_err-read_lists-in-AllSlice.ensures))
 
-pub returns-in-AllReduce : goal.returns-in-AllReduce
-returns-in-AllReduce c = let a = c.args in
-    retold (c.read_all_reduce.ensures a.rank a.k) (rw c.in-AllReduce.is at (kind-is ((goal.at.returns-in-AllReduce c).After-kind_of-kind)))
+pub returns-in_ok-read_lists-in-AllSlice : goal.returns-in_ok-read_lists-in-AllSlice
+unfolding lists_of
+returns-in_ok-read_lists-in-AllSlice c = let is = kind-is ((goal.at.returns-in_ok-read_lists-in-AllSlice c).In-Ok) in
+    let m = c.map.ensures in
+    rw (m.post, m.next) (sym (is ∙ simp (c.in-AllSlice.is, sym c.in_ok-read_lists-in-AllSlice.ensures)))
+
+pub returns-in_err-read_lists-in-AllGather : goal.returns-in_err-read_lists-in-AllGather
+unfolding lists_of
+returns-in_err-read_lists-in-AllGather c = let is = kind-is ((goal.at.returns-in_err-read_lists-in-AllGather c).In-Ok) in
+    handed-on _ _ _ c.from_residual-in_err-read_lists-in-AllGather.ensures.1 (is ∙ simp (c.in-AllGather.is, sym c.in_err-read_lists-in-AllGather.ensures))
+
+pub returns-in_ok-read_lists-in-AllGather : goal.returns-in_ok-read_lists-in-AllGather
+unfolding lists_of
+returns-in_ok-read_lists-in-AllGather c = let is = kind-is ((goal.at.returns-in_ok-read_lists-in-AllGather c).In-Ok) in
+    let m = c.map-in-AllGather.ensures in
+    rw (m.post, m.next) (sym (is ∙ simp (c.in-AllGather.is, sym c.in_ok-read_lists-in-AllGather.ensures)))
+
+pub returns-in_err-read_list-in-AllReduce : goal.returns-in_err-read_list-in-AllReduce
+unfolding lists_of
+returns-in_err-read_list-in-AllReduce c = let is = kind-is ((goal.at.returns-in_err-read_list-in-AllReduce c).In-Ok) in
+    handed-on _ _ _ c.from_residual-in_err-read_list-in-AllReduce.ensures.1 (is ∙ simp (c.in-AllReduce.is, sym c.in_err-read_list-in-AllReduce.ensures))
+
+pub returns-in_ok-read_list-in-AllReduce : goal.returns-in_ok-read_list-in-AllReduce
+unfolding lists_of
+returns-in_ok-read_list-in-AllReduce c = let is = kind-is ((goal.at.returns-in_ok-read_list-in-AllReduce c).In-Ok) in
+    let m = c.map-in-AllReduce.ensures in
+    rw (m.post, m.next) (sym (is ∙ simp (c.in-AllReduce.is, sym c.in_ok-read_list-in-AllReduce.ensures)))
+
+pub returns-in_err-read_lists-in-ReduceScatter : goal.returns-in_err-read_lists-in-ReduceScatter
+unfolding lists_of
+returns-in_err-read_lists-in-ReduceScatter c = let is = kind-is ((goal.at.returns-in_err-read_lists-in-ReduceScatter c).In-Ok) in
+    handed-on _ _ _ c.from_residual-in_err-read_lists-in-ReduceScatter.ensures.1 (is ∙ simp (c.in-ReduceScatter.is, sym c.in_err-read_lists-in-ReduceScatter.ensures))
+
+pub returns-in_ok-read_lists-in-ReduceScatter : goal.returns-in_ok-read_lists-in-ReduceScatter
+unfolding lists_of
+returns-in_ok-read_lists-in-ReduceScatter c = let is = kind-is ((goal.at.returns-in_ok-read_lists-in-ReduceScatter c).In-Ok) in
+    let m = c.map-in-ReduceScatter.ensures in
+    rw (m.post, m.next) (sym (is ∙ simp (c.in-ReduceScatter.is, sym c.in_ok-read_lists-in-ReduceScatter.ensures)))
 
 pub returns-in-AllToAll : goal.returns-in-AllToAll
-returns-in-AllToAll c = let a = c.args in
-    retold (c.read_all_to_all.ensures a.rank a.k) (rw c.in-AllToAll.is at (kind-is ((goal.at.returns-in-AllToAll c).After-kind_of-kind)))
-
-pub returns-in-ReduceScatter : goal.returns-in-ReduceScatter
-returns-in-ReduceScatter c = retold (c.read_per_dim-in-ReduceScatter.ensures c.args.k) (kind-is ((goal.at.returns-in-ReduceScatter c).After-kind_of-kind))
-
-pub returns-in-Unknown : goal.returns-in-Unknown
-returns-in-Unknown c = let a = c.args in
-    let judged = kind-is ((goal.at.returns-in-Unknown c).After-kind_of-kind) ∙ unknown a.n a.rank a.k a.file.now (a.at + 1) c.in-Unknown.is in
-    retold (c.refused-in-Unknown.ensures a.rank) judged
+returns-in-AllToAll c = let is = kind-is ((goal.at.returns-in-AllToAll c).In-Ok) in
+    c.read_all_to_all.ensures c.args.rank c.args.k ∙ sym (rw c.in-AllToAll.is at is)

@@ -1,18 +1,12 @@
-use borrow.Author.Rules.{rules}
-use Prim.Native.Nat.{◌+◌}
-use native.Mathlib.Omega.{arith}
-use lib.ListN.{get_or-eq_default}
+use Rattle.std.proofs.Common.{arith}
+use Rattle.std.proofs.lemmas.Grind.{common_steps}
 use Rattle.rules.specs.PlanFile.{u16_at}
 use Rattle.reader.proofs.u16_at.Goals as goal
 
-pub returns-then-at-file : goal.returns-then-at-file
+pub returns-in_default : goal.returns-in_default
 unfolding u16_at
-returns-then-at-file c = search rules
+returns-in_default c = grind (arith, common_steps, c.in_default.ensures)
 
-pub returns-else-at-file : goal.returns-else-at-file
+pub returns : goal.returns
 unfolding u16_at
-returns-else-at-file c = let f = c.args.file.now in
-    let at = c.args.at in
-    let low = get_or-eq_default f 0 {n = at} (omega arith) in
-    let high = get_or-eq_default f 0 {n = at + 1} (omega arith) in
-    omega arith
+returns c = grind (arith, common_steps, c.in-Some.ensures)

@@ -1,5 +1,5 @@
 -- By the depth that is left: so many steps call one, it calls a repeat of less depth, and that so many steps.
-use Prim.Native.Nat.{◌+◌, ◌*◌, ◌-◌}
+use Prim.Native.Nat.{◌+◌, ◌*◌}
 use Rattle.rounds.proofs.Rows.{RowRun}
 use Rattle.rounds.proofs.Rounds.{RoundsRun}
 use Rattle.rounds.proofs.+run_block_run_item_run_row.Given as goal
@@ -17,12 +17,6 @@ abbrev pub invariant-run_block-loop-i : goal.invariant-run_block-loop-i
 invariant-run_block-loop-i l =
     RoundsRun l.mesh l.table l.file l.depth l.from l.rounds l.inner l.initial.work l.initial.spare l.i l.here l.work l.spare
 
-abbrev pub decreases-run_block-loop-i : goal.decreases-run_block-loop-i
-decreases-run_block-loop-i l = l.rounds - l.i
-
 abbrev pub invariant-run_row-loop-done : goal.invariant-run_row-loop-done
 invariant-run_row-loop-done l =
     RowRun l.mesh l.table l.file l.depth l.count l.initial.here l.initial.work l.initial.spare l.done l.here l.work l.spare
-
-abbrev pub decreases-run_row-loop-done : goal.decreases-run_row-loop-done
-decreases-run_row-loop-done l = l.count - l.done

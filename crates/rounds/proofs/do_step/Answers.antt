@@ -1,9 +1,11 @@
 use native.Mathlib.Omega.{arith}
-use mathlib.Core.Path.{ap, ◌∙◌}
+use mathlib.Core.Path.{sym, ap, ◌∙◌}
 use lib.ListN.{length}
 use Prim.Native.Nat.{◌≤◌}
 use lib.Seq.{length-take-le}
 use Rattle.rules.specs.Lists.{product}
+use Rattle.reader.specs.Reading.{reading}
+use Rattle.taking.specs.Taking.{taken_of}
 use Rattle.rounds.proofs.Turns.{turned}
 use Rattle.rounds.proofs.do_step.Goals as goal
 
@@ -13,6 +15,6 @@ returns c =
     let y = b.type_inv in
     let z : b.result.rank ≤ length b.result.sizes = omega arith in
     let l = length-take-le _ _ z ∙ b.ensures.0 in
-    turned c.take_step-taken.result c.requires c.take_step-taken.ensures.reads b.ensures.1 l
+    turned c.unwrap-read.result c.requires (ap (reading (taken_of c.args.table.rank)) (sym c.unwrap-read.ensures) ∙ c.take_step.ensures) b.ensures.1 l
     (c.words-size.ensures ∙ ap product c.shard_of.ensures.1) _ _
     c.step_from.ensures.here_after c.step_from.ensures.there_after

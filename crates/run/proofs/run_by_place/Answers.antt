@@ -38,7 +38,7 @@ number_shards-requires c =
     let t = c.run_steps-in_work in
     let works : ℕ = length t.new.work in
     let spares : ℕ = length t.new.spare in
-    let h : RunsOrdered c.args.file.now c.args.at c.args.whole works spares = record {
+    let h : RunsOrdered c.args.file.now c.args.whole works spares = record {
       runs = as_long c.requires.0.runs t.auto.work (t.auto.spare ∙ c.place_shards.auto.to);
       carried = c.requires.0.carried;
     } in

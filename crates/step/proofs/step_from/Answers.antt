@@ -1,6 +1,5 @@
-use mathlib.Core.Path.{refl, sym, ap}
+use mathlib.Core.Path.{refl}
 use Rattle.rules.specs.Spread.{add_words}
-use Rattle.rules.specs.Collectives.{all_reduce}
 use Rattle.step.proofs.Kernels.{one_word, nowhere, move-requires, moved-so, reduce-requires, reduced-so, at_source, at_target}
 use Rattle.step.proofs.step_from.Goals as goal
 
@@ -62,10 +61,4 @@ pub returns-in-AllReduce-clause-here_after : goal.returns-in-AllReduce-clause-he
 returns-in-AllReduce-clause-here_after c =
     let r = c.reduce_here in
     (reduced-so c.args.step c.requires c.in-AllReduce.is _ refl add_words 0 refl c.args.here.now c.args.there.now r.new.here
-    r.new.there (r.ensures.here_after, r.ensures.there_unchanged)).0
-
-pub returns-in-Unknown-clause-here_after : goal.returns-in-Unknown-clause-here_after
-returns-in-Unknown-clause-here_after c =
-    let r = c.reduce_here-in-Unknown in
-    (reduced-so c.args.step c.requires c.in-Unknown.is _ (ap all_reduce (sym c.empty.ensures)) add_words 0 refl c.args.here.now c.args.there.now r.new.here
     r.new.there (r.ensures.here_after, r.ensures.there_unchanged)).0

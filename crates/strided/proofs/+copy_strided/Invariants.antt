@@ -1,4 +1,4 @@
-use Prim.Native.Nat.{◌≤◌, ◌*◌, ◌-◌, ◌+◌}
+use Prim.Native.Nat.{◌≤◌, ◌*◌, ◌+◌}
 use lib.ListN.{length, get_or}
 use Rattle.laws.proofs.Fronts.{Filled}
 use Rattle.strided.specs.Strided.{offset}
@@ -9,6 +9,3 @@ decreases-copy_strided l = length l.digits.now
 
 abbrev pub invariant-loop-i : goal.invariant-loop-i
 invariant-loop-i l = (l.i ≤ l.size) × Filled (λ t. get_or l.from (l.at + offset l.digits t) 0) l.initial.to l.to (l.i * l.inner)
-
-abbrev pub decreases-loop-i : goal.decreases-loop-i
-decreases-loop-i l = l.size - l.i

@@ -1,10 +1,7 @@
-use Prim.Native.Nat.{◌≤◌, ◌*◌, ◌-◌, ◌+◌, ◌/◌, ◌%◌}
+use Prim.Native.Nat.{◌≤◌, ◌*◌, ◌+◌, ◌/◌, ◌%◌}
 use lib.ListN.{get_or}
 use Rattle.laws.proofs.Fronts.{Filled}
 use Rattle.strided.proofs.copy_pairs.Given as goal
 
 abbrev pub invariant-loop-i : goal.invariant-loop-i
 invariant-loop-i l = (l.i ≤ l.count) × Filled (λ k. get_or l.from (l.at + k / 2 * l.apart + k % 2 * l.stride) 0) l.initial.to l.to (l.i * 2)
-
-abbrev pub decreases-loop-i : goal.decreases-loop-i
-decreases-loop-i l = l.count - l.i

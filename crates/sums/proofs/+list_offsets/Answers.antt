@@ -1,7 +1,7 @@
-use Rattle.std.proofs.Common.{◌≡◌, ℕ, ◌+◌, ◌-◌, ◌*◌, ◌<◌, ◌≤◌, List, length, get_or, take, drop, ◌∙◌, add-zero, zero-mul, arith}
-use Rattle.laws.proofs.Fronts.{fill_start, fill-part, fill_end, part_length, next-part, tail_all}
+use Rattle.std.proofs.Common.{◌≡◌, ℕ, ◌+◌, ◌-◌, ◌*◌, ◌<◌, ◌≤◌, List, length, get_or, take, drop, ◌∙◌, add-zero, arith}
+use Rattle.laws.proofs.Fronts.{fill-part, part_length, next-part, tail_all}
 use Rattle.strided.specs.Strided.{Counts, most_places, offset}
-use Rattle.strided.proofs.Laws.{Turn, offset-zero, one-digit, words_are, turn, turn-places}
+use Rattle.strided.proofs.Laws.{Turn, offset-zero, one-digit, turn, turn-places}
 use Rattle.sums.proofs.Listing.{some-digits, one_place}
 use Rattle.sums.proofs.+list_offsets.Goals as goal
 
@@ -18,55 +18,14 @@ turning digits i r h l = turn digits i (some-digits digits r h) r l
 rest-is : (digits : List ℕ) → 3 ≤ length digits → take (length digits - 3) (drop 3 digits) ≡ drop 3 digits
 rest-is digits h = tail_all digits 3 (length digits - 3) (omega arith)
 
-pub bounds-to-0 : goal.bounds-to-0
-bounds-to-0 t c = omega (arith, c.requires.filled)
-
 pub returns-then-to-eq1 : goal.returns-then-to-eq1
 returns-then-to-eq1 t c =
     let digits = c.args.digits.now in
     one_place c.args.to.now c.args.at (λ t. c.args.at + offset digits t) c.if-to-eq1.true (rw (offset-zero digits) (add-zero c.args.at))
 
-pub bounds-digits-0 : goal.bounds-digits-0
-bounds-digits-0 t c = omega (arith, long c.args.digits.now c.requires c.if-to-eq1.false)
-
-pub bounds-digits-1 : goal.bounds-digits-1
-bounds-digits-1 t c = omega (arith, long c.args.digits.now c.requires c.if-to-eq1.false)
-
-pub bounds-digits-2 : goal.bounds-digits-2
-bounds-digits-2 t c = omega (arith, long c.args.digits.now c.requires c.if-to-eq1.false)
-
-pub loop-i-init : goal.loop-i-init
-loop-i-init t c = let e = zero-mul (get_or c.args.digits.now 1 0) in (omega arith, rw e fill_start)
-
-pub overflow_mul-first : goal.overflow_mul-first
-overflow_mul-first t c = omega (arith, turning c.args.digits.now c.loop-i.i c.requires c.if-to-eq1.false c.loop-i-test.true, c.loop-i.invariant.1.size)
-
-pub overflow_add-end : goal.overflow_add-end
-overflow_add-end t c = omega (arith, turning c.args.digits.now c.loop-i.i c.requires c.if-to-eq1.false c.loop-i-test.true, c.loop-i.invariant.1.size)
-
-pub offset_bounds-to-first : goal.offset_bounds-to-first
-offset_bounds-to-first t c = omega (arith, turning c.args.digits.now c.loop-i.i c.requires c.if-to-eq1.false c.loop-i-test.true, c.loop-i.invariant.1.size)
-
-pub slice_bounds-list_offsets-count : goal.slice_bounds-list_offsets-count
-slice_bounds-list_offsets-count t c =
-    omega (arith, turning c.args.digits.now c.loop-i.i c.requires c.if-to-eq1.false c.loop-i-test.true, c.loop-i.invariant.1.size)
-
-pub slice_bounds-list_offsets-start : goal.slice_bounds-list_offsets-start
-slice_bounds-list_offsets-start t c =
-    omega (arith, turning c.args.digits.now c.loop-i.i c.requires c.if-to-eq1.false c.loop-i-test.true, c.loop-i.invariant.1.size)
-
 pub slice_bounds-list_offsets-end : goal.slice_bounds-list_offsets-end
 slice_bounds-list_offsets-end t c =
-    omega (arith, turning c.args.digits.now c.loop-i.i c.requires c.if-to-eq1.false c.loop-i-test.true, c.loop-i.invariant.1.size)
-
-pub slice_bounds-list_offsets-count-in-loop-i : goal.slice_bounds-list_offsets-count-in-loop-i
-slice_bounds-list_offsets-count-in-loop-i t c = omega (arith, long c.args.digits.now c.requires c.if-to-eq1.false)
-
-pub slice_bounds-list_offsets-start-in-loop-i : goal.slice_bounds-list_offsets-start-in-loop-i
-slice_bounds-list_offsets-start-in-loop-i t c = omega (arith, long c.args.digits.now c.requires c.if-to-eq1.false)
-
-pub slice_bounds-list_offsets-end-in-loop-i : goal.slice_bounds-list_offsets-end-in-loop-i
-slice_bounds-list_offsets-end-in-loop-i t c = omega (arith, long c.args.digits.now c.requires c.if-to-eq1.false)
+    omega (arith, turning c.args.digits.now c.loop-i.i c.requires c.if-to-eq1.false c.loop-i-test.true)
 
 pub overflow_mul-i : goal.overflow_mul-i
 overflow_mul-i t c = let u = turning c.args.digits.now c.loop-i.i c.requires c.if-to-eq1.false c.loop-i-test.true in omega arith
@@ -81,7 +40,7 @@ list_offsets-requires t c =
     let m = get_or digits 1 0 in
     let k = rest-is digits (long digits c.requires c.if-to-eq1.false) in (
       rw (k, ← c.decreases) u.less,
-      rw (k, part_length c.loop-i.to (c.loop-i.i * m) m (omega (arith, u.part, c.loop-i.invariant.1.size))) u.rest,
+      rw (k, part_length c.loop-i.to (c.loop-i.i * m) m (omega (arith, u.part))) u.rest,
     )
 
 pub loop-i-preserved : goal.loop-i-preserved
@@ -90,17 +49,7 @@ loop-i-preserved t c =
     let u = turning digits c.loop-i.i c.requires c.if-to-eq1.false c.loop-i-test.true in
     let m = get_or digits 1 0 in
     let l = c.loop-i in
-    let a = l.i * m in
-    let k = part_length l.to a m (omega (arith, u.part, l.invariant.1.size)) in
-    let r = c.list_offsets in (
-      omega (arith, c.loop-i-test.true),
-      rw (next-part l.i m) (fill-part m l.invariant.1 u.part r.auto.to
-          (rw (k, rest-is digits (long digits c.requires c.if-to-eq1.false)) at r.ensures ∙ turn-places (λ k. k) digits l.i (get_or digits 0 0) m (get_or digits 2 0) u)),
-    )
-
-pub returns : goal.returns
-returns t c =
-    let l = c.loop-i in
-    let digits = c.args.digits.now in
-    let e : l.i ≡ get_or digits 0 0 = omega (arith, c.loop-i-test.false) in
-    fill_end l.invariant.1 (rw e (omega (arith, words_are digits (some-digits digits c.requires c.if-to-eq1.false) c.requires)))
+    let k = part_length l.to (l.i * m) m (omega (arith, u.part)) in
+    let r = c.list_offsets in
+    rw (next-part l.i m) (fill-part m l.invariant u.part r.auto.to
+    (rw (k, rest-is digits (long digits c.requires c.if-to-eq1.false)) at r.ensures ∙ turn-places (λ k. k) digits l.i (get_or digits 0 0) m (get_or digits 2 0) u))

@@ -1,4 +1,4 @@
-use Rattle.std.proofs.Common.{◌+◌, ◌-◌, ◌*◌, ◌≤◌, length}
+use Rattle.std.proofs.Common.{◌+◌, ◌*◌, length}
 use Rattle.laws.proofs.Fronts.{Filled}
 use Rattle.strided.specs.Strided.{offset}
 use Rattle.sums.proofs.+list_offsets.Given as goal
@@ -7,7 +7,4 @@ abbrev pub decreases-list_offsets : goal.decreases-list_offsets
 decreases-list_offsets l = length l.digits.now
 
 abbrev pub invariant-loop-i : goal.invariant-loop-i
-invariant-loop-i l = (l.i ≤ l.size) × Filled (λ t. l.at + offset l.digits t) l.initial.to l.to (l.i * l.inner)
-
-abbrev pub decreases-loop-i : goal.decreases-loop-i
-decreases-loop-i l = l.size - l.i
+invariant-loop-i l = Filled (λ t. l.at + offset l.digits t) l.initial.to l.to (l.i * l.inner)

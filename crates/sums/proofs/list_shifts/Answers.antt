@@ -1,5 +1,4 @@
 use Rattle.std.proofs.Common.{◌-◌, ◌*◌, ◌≤◌, length, refl, ◌∙◌, mul-one, arith, length-take-le}
-use native.Mathlib.Nat.{sub-zero}
 use Rattle.rules.specs.Mesh.{span}
 use Rattle.rules.specs.Limits.{most_axes}
 use Rattle.types.specs.Types.{axes_of}
@@ -37,7 +36,6 @@ list_offsets-requires c =
     rw (
       c.len.ensures,
       tail_all r.new.digits first (axis_room - first) (omega (arith, n, r.auto.digits)) ∙ digit-tail _ first r.ensures.digits_after (omega arith),
-      sub-zero r.result,
       r.ensures.value ∙ mul-one (span c.args.mesh.now (axes_of c.args.axes)),
       length-take-le (span c.args.mesh.now (axes_of c.args.axes)) c.args.shifts.now c.requires.room,
     ) (axes-offsets c.requires)
