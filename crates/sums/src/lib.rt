@@ -30,8 +30,10 @@ fn repeat_shard(words: &mut [u32], first: usize, at: usize, m: usize)
     requires { Behind first at m (length words.old) }
     ensures { words.new ≡ written words.old at m (λ o. slice_index words.old (first + o)) }
 {
-    let (before, rest) = words.split_at_mut(at);
-    rest[..m].copy_from_slice(&before[first..first + m]);
+    // Stays: (a) copy_from_slice between two parts of one buffer needs memmove, a name from outside that the archive for C had no need of.
+    for t in 0..m {
+        words[at + t] = words[first + t];
+    }
 }
 
 // The shards of one group, of m words each: the first one begins at `at`, the others so far after it as the shifts say.
