@@ -1,5 +1,5 @@
--- The kind byte of a repeat and the two bytes behind it: how each test stops the reading, what is read where all pass (`head-is`), and what an answer
--- tells once it is taken apart. Assumes nothing.
+-- The kind byte of a repeat and the two bytes behind it: how each test stops the reading, what is read where all pass (`head-is`), and what an accepted
+-- head tells (`head-facts`). Assumes nothing.
 use Prim.Native.Nat.{ℕ, zero, suc, ◌+◌, ◌≤◌, ◌<◌}
 use mathlib.Core.Path.{◌≡◌, refl, sym, ap, ◌∙◌}
 use mathlib.Core.Logic.{◌≢◌}

@@ -1,6 +1,6 @@
 -- What the calls for C answer: the numbers that stand for an answer of the library (rules/specs/Calls.antt, records/specs), every field of them.
 -- marshal/specs/Structs.antt has those of a sharding and of a step. Assumes nothing.
-use Rattle.std.specs.Prelude.{ℕ, ◌+◌, ◌*◌, List, map, length, get_or, replicate, Option, Some, None, Result, Ok, Err}
+use Rattle.std.specs.Prelude.{ℕ, ◌+◌, ◌*◌, List, map, length, get_or, replicate, Result, Ok, Err}
 use Rattle.rules.specs.Lists.{tab}
 use Rattle.rules.specs.Limits.{most_axes, most_dims}
 use Rattle.rules.specs.Collectives as rules
@@ -11,7 +11,6 @@ use Rattle.types.specs.Types.{four_places, sharding_of}
 use Rattle.rules.specs.Calls.{CheckAnswer, PlaceAnswer, Ran}
 use Rattle.types.specs.declared.Checked.{Checked}
 use Rattle.types.specs.declared.Refusal.{Refusal}
-use Rattle.types.specs.declared.Step.{Step}
 use Rattle.types.specs.declared.Totals.{Totals}
 use Rattle.types.specs.declared.Placed.{Placed}
 use Rattle.records.specs.Forms.{six_places}
@@ -22,8 +21,7 @@ use Rattle.records.specs.declared.ReadCounts.{ReadCounts}
 use Rattle.records.specs.declared.Steps.{Steps}
 use Rattle.placements.specs.PlaceAll.{place_beside}
 use Rattle.placements.specs.declared.PlacedAll.{PlacedAll}
-use Rattle.marshal.specs.Structs.{sharding_reply, blank_sharding, step_reply, blank_step, step_numbers}
-use Rattle.marshal.specs.declared.StepReply.{StepReply}
+use Rattle.marshal.specs.Structs.{sharding_reply, blank_sharding, step_reply, blank_step, step_in_place}
 use Rattle.capi.specs.declared.CheckReply.{CheckReply}
 use Rattle.capi.specs.declared.RunReply.{RunReply}
 use Rattle.capi.specs.declared.PlaceReply.{PlaceReply}
@@ -142,10 +140,6 @@ placed_reply (Ok rank) c = record {
   sharding = sharding_reply (sharding_of most_dims c.sharding);
 }
 placed_reply (Err r) c = place_reply (refused_with r)
-
-abbrev pub step_in_place : Option Step → StepReply
-step_in_place (Some t) = step_numbers t
-step_in_place None = blank_step
 
 abbrev pub made_reply : Steps → PlanReply
 made_reply p = record { refusal = 0; count = step_count p; steps = map step_in_place p.0 }

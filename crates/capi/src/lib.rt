@@ -12,10 +12,10 @@ ghost use Rattle.records.specs.Reading.{read_of, read_leaves_order, read_leaves_
 ghost use Rattle.records.specs.PlanAnswer.{steps_planned};
 ghost use Rattle.placements.specs.PlaceAll.{place_all_of, placed_before, place_all_leaves};
 ghost use Rattle.marshal.specs.Structs.{sharding_in};
-ghost use Rattle.capi.specs.Boundary.{refusal_code, check_reply, ran_reply, place_reply, checked_reply, placed_reply, written_reply, opened_reply, planned_reply, read_reply, made_reply, step_in_place, placed_all_reply};
+ghost use Rattle.capi.specs.Boundary.{refusal_code, check_reply, ran_reply, place_reply, checked_reply, placed_reply, written_reply, opened_reply, planned_reply, read_reply, made_reply, placed_all_reply};
 
 use ishkrela::{
-    Axis, Checked, Device, Dim, Opened, Placed, ReadCounts, Refusal, Sharding, Step, Steps, Totals,
+    Axis, Checked, Device, Dim, Opened, Placed, ReadCounts, Refusal, Sharding, Steps, Totals,
 };
 use marshal::{ShardingReply, StepReply, no_sharding, no_step};
 use reasons::number_of;
@@ -325,23 +325,13 @@ fn plan_refused(refusal: Refusal) -> PlanReply
     }
 }
 
-// A place of the plan.
-fn step_in_place(step: Option<Step>) -> StepReply
-    ensures { result ≡ step_in_place step }
-{
-    match step {
-        Some(step) => StepReply::from(step),
-        None => no_step(),
-    }
-}
-
 fn plan_made(plan: Steps) -> PlanReply
     ensures { result ≡ made_reply plan }
 {
     PlanReply {
         refusal: 0,
         count: plan.count() as u32,
-        steps: plan.0.map(step_in_place),
+        steps: plan.0.map(StepReply::from),
     }
 }
 

@@ -5,9 +5,8 @@ use mathlib.Core.Path.{◌≡◌, refl, sym, ap, ap₂, ◌∙◌, subst}
 use mathlib.Core.List.{List, [], ◌∷◌, ◌++◌, map, append-nil, append_assoc}
 use native.Mathlib.Omega.{arith}
 use native.Mathlib.Numerals.{add-one}
-use native.Mathlib.Nat.{add-zero, div-add-mod'}
+use native.Mathlib.Nat.{div-add-mod'}
 use Rattle.std.proofs.lemmas.List.{take-map}
-use Rattle.std.proofs.lemmas.List.FromFn.{fill_by_all}
 use lib.Dec.{T, leb, leb→le, eqb, eqb→eq}
 use lib.ListN.{length, get_or, take, replicate, length-append, length-map, length-take, length-replicate, get_or-map}
 use Rattle.std.specs.Prelude.{Option, Some, None}
@@ -23,7 +22,7 @@ use Rattle.types.specs.declared.Step.{Step}
 use Rattle.types.specs.declared.Step.TheVariants.{AllSlice, AllGather, AllReduce, AllToAll, ReduceScatter}
 use Rattle.laws.proofs.Lists.{n_t→false}
 use Rattle.records.specs.Records.{Given, known, list_bytes, lists_bytes, replicated_bytes, sharding_bytes, step_bytes, given_bytes, steps_bytes}
-use Rattle.records.specs.Forms.{list_given, dims_given, sharding_given, record_bytes, axis_at, places_at, list_record, lists_record, step_record, step_given, given_kind, given_at, record_count, steps_given}
+use Rattle.records.specs.Forms.{list_given, dims_given, sharding_given, record_bytes, step_record, step_given, given_kind, given_at, record_count, steps_given}
 use Rattle.records.specs.RoundTrip.{ShortLists, ShortSharding, ShortStep, ShortGiven}
 use Rattle.records.proofs.Lists.{is_le, is_eq}
 use Rattle.encode.specs.Putting.{Put}
@@ -77,10 +76,10 @@ pub lists-length : (rank : ℕ) (ls : DimLists) → length (take rank (dims_of l
 unfolding dims_of
 lists-length rank ls = ap length (take-map axes_of rank ls.0) ∙ length-map (take rank ls.0) axes_of
 
-pub list-at : (rank : ℕ) (ls : DimLists) (d : ℕ) → axes_of (get_or (take rank ls.0) d (record { count = 0; axes = [] })) ≡ get_or (take rank (dims_of ls)) d []
+pub list-at : (rank : ℕ) (ls : DimLists) (d : ℕ) → axes_of (get_or (take rank ls.0) d (record { count = 0; axes = []; align = [] })) ≡ get_or (take rank (dims_of ls)) d []
 unfolding dims_of axes_of
 list-at rank ls d =
-    sym (ap (λ (l : List (List ℕ)). get_or l d []) (take-map axes_of rank ls.0) ∙ get_or-map axes_of (take rank ls.0) d (record { count = 0; axes = [] }))
+    sym (ap (λ (l : List (List ℕ)). get_or l d []) (take-map axes_of rank ls.0) ∙ get_or-map axes_of (take rank ls.0) d (record { count = 0; axes = []; align = [] }))
 
 -- ---- how many bytes they take
 
@@ -117,17 +116,6 @@ module _ {a b c d : List ℕ} {at i j r : ℕ} where
       (subst (λ (x : List ℕ). Put c d j r (replicated_bytes e x)) (sym (list-given s.replicated h.replicated)) w))
 
 -- ---- a record
-
-pub places-of : (bytes : List ℕ) (at : ℕ) (l : List Axis) → length l ≡ most_axes
-    → ((i : ℕ) → i < most_axes → get_or l i (record { 0 = 0 }) ≡ axis_at bytes (at + i)) → l ≡ places_at bytes at
-places-of bytes at l e h =
-    fill_by_all (λ i. axis_at bytes (at + i)) l most_axes (record { 0 = 0 }) e h
-    ∙ ap (λ (i : ℕ). axis_at bytes i ∷ axis_at bytes (at + 1) ∷ axis_at bytes (at + 2) ∷ axis_at bytes (at + 3) ∷ axis_at bytes (at + 4) ∷ axis_at bytes (at + 5) ∷ [])
-    (add-zero at)
-
-pub lists-of : (bytes : List ℕ) (at : ℕ) (l : List AxisList) → length l ≡ most_dims
-    → ((d : ℕ) → d < most_dims → get_or l d (record { count = 0; axes = [] }) ≡ list_record bytes at d) → l ≡ (lists_record bytes at).0
-lists-of bytes at l e h = fill_by_all (list_record bytes at) l most_dims (record { count = 0; axes = [] }) e h
 
 module _ (rank : ℕ) (bytes : List ℕ) (from : ℕ) where
   pub repeat-given : get_or bytes from 0 ≡ 9 → given_at rank bytes from ≡ known (repeat (get_or bytes (from + 1) 0) (get_or bytes (from + 2) 0))

@@ -176,18 +176,24 @@ fn put_step(out: &mut [u8], at: usize, step: Step, rank: usize) -> usize
 }
 
 // A list of a record, the lists by dimension, and its step, from their bytes.
+// All six places are read at once: a list stored byte by byte and then handed on as a whole makes the processor wait.
 fn list_record(steps: &[u8], at: usize, list: usize) -> AxisList
     requires { (at + record_bytes ≤ length steps.now) × (list ≤ 4) }
     ensures { result ≡ list_record steps.now at list }
 {
     let first = at + 8 + 6 * list;
-    let mut axes = [Axis(0); Axis::MOST];
-    for i in 0..Axis::MOST {
-        axes[i] = Axis(steps[first + i]);
-    }
+    let axes = [
+        Axis(steps[first]),
+        Axis(steps[first + 1]),
+        Axis(steps[first + 2]),
+        Axis(steps[first + 3]),
+        Axis(steps[first + 4]),
+        Axis(steps[first + 5]),
+    ];
     AxisList {
         count: u16::from(steps[at + 3 + list]),
         axes,
+        align: [],
     }
 }
 
@@ -195,11 +201,12 @@ fn lists_record(steps: &[u8], at: usize) -> DimLists
     requires { at + record_bytes ≤ length steps.now }
     ensures { result ≡ lists_record steps.now at }
 {
-    let mut lists = [AxisList::empty(); Dim::MOST];
-    for d in 0..Dim::MOST {
-        lists[d] = list_record(steps, at, d);
-    }
-    DimLists(lists)
+    DimLists([
+        list_record(steps, at, 0),
+        list_record(steps, at, 1),
+        list_record(steps, at, 2),
+        list_record(steps, at, 3),
+    ])
 }
 
 // None where there is no kind of its byte.

@@ -93,9 +93,9 @@ lists-fit n rank ls h e = go rank ls.0 e
 
 pub counts-next : (n : ℕ) (ls : List AxisList) (i : ℕ) → i < length ls
     → judge_counts n (map list_given (drop i ls))
-    ≡ ◌>>◌ (need (leb (length (list_given (get_or ls i (record { count = 0; axes = [] })))) n) 8) (judge_counts n (map list_given (drop (i + 1) ls)))
+    ≡ ◌>>◌ (need (leb (length (list_given (get_or ls i (record { count = 0; axes = []; align = [] })))) n) 8) (judge_counts n (map list_given (drop (i + 1) ls)))
 unfolding judge_counts
-counts-next n ls i h = rw (drop-cons ls i (record { count = 0; axes = [] }) h, add-one i) refl
+counts-next n ls i h = rw (drop-cons ls i (record { count = 0; axes = []; align = [] }) h, add-one i) refl
 
 pub counts-fine : (n : ℕ) (ls : List AxisList) (i : ℕ) → length ls ≤ i → judge_counts n (map list_given (drop i ls)) ≡ accept tt
 unfolding judge_counts

@@ -27,8 +27,8 @@ use Rattle.records.specs.Forms.{list_given, record_bytes, record_count, step_rec
 use Rattle.records.specs.RoundTrip.{Ranked, AllRanked}
 use Rattle.records.proofs.Lists.{step_lists}
 use Rattle.records.proofs.Records.{read_none, read_plain, read-unknown}
-use Rattle.records.proofs.Numbers.{of-any, numbered-stops, renumbered, step-renumbered}
-use Rattle.given.specs.Given.{lists_in, repeat_here, place_of, summarized}
+use Rattle.records.proofs.Numbers.{of-any, numbered-on, numbered-stops, renumbered, step-renumbered}
+use Rattle.given.specs.Given.{lists_in, judge_form, repeat_here, place_of, summarized}
 use Rattle.given.proofs.Counts.{list-fits, lists-fit, counts-inv}
 use Rattle.given.proofs.Ends.{ranked-drop}
 use Rattle.encode.proofs.Counting.{record-here, record-none}
@@ -82,6 +82,11 @@ step_fits n rank (AllReduce list) h e = let p = counts-inv n (list_given list) [
 step_fits n rank (AllToAll source target list) h e =
     let p = counts-inv n (list_given list) [] e in ap (rules.all_to_all source.0 target.0) (list-fits list (omega (arith, p.0)))
 step_fits n rank (ReduceScatter lists) h e = ap rules.reduce_scatter (lists-fit n rank lists h e)
+
+-- a record that passes 20 and 8 has a step that passes 8
+pub form-passed : (n k rank : ℕ) {t : Option Step} {u : Step} → Some u ≡ t → accept tt ≡ step_numbered (judge_form n k (given_kind rank t))
+    → judge_counts n (lists_in (step_given rank u)) ≡ accept tt
+form-passed n k rank e q = numbered-on _ (ap (λ (t : Option Step). step_numbered (judge_form n k (given_kind rank t))) e ∙ sym q)
 
 same-lists : (t : rules.Step) → step_lists t ≡ lists_in t
 same-lists (rules.all_slice Ss) = refl
@@ -137,10 +142,6 @@ module _ (mesh sizes : List ℕ) (rank : ℕ) (rank_is : length sizes ≡ rank) 
           (read_plain mesh sizes gs i t (drop (i + 1) gs) (gives u-is) (ranked-here (known (plain t)) (drop (i + 1) gs) (gives u-is))).1 (i + 1) s
           ∙ (λ z. ◌>>◌ (judge_counts (n_is z) (same-lists t z)) (◌>>=◌ (judge_step mesh sizes (i + 1) t s) (λ after. accept (left after))))
 
-      pub form-stops : {a b : ℕ} → judge_counts n (lists_in t) ≡ refuse a b
-          → summarized i (plain_at mesh sizes (steps_bytes gs) (i + 1) (place_of gs i) s) ≡ refuse a b
-      form-stops q = rw (in_parts, q) refl
-
       module _ (q : judge_counts n (lists_in t) ≡ accept tt) where
         -- judged under no number
         as-numbered : {j : Judged Sharding} → judge_step mesh sizes 0 (step_of rank u) s ≡ j → judge_step mesh sizes (i + 1) t s ≡ renumbered (i + 1) j
@@ -156,3 +157,11 @@ module _ (mesh sizes : List ℕ) (rank : ℕ) (rank_is : length sizes ≡ rank) 
             → summarized i (plain_at mesh sizes (steps_bytes gs) (i + 1) (place_of gs i) s)
             ≡ accept (record { value = record { runs = 1; sharding = r }; next = i + 1 })
         plain-is o = rw (in_parts, q, as-numbered o) refl
+
+    -- what is judged before the step
+    pub form-stops : (n : ℕ) → length mesh ≡ n → n ≤ most_axes → (t : Option Step) → t ≡ step_record steps (record_bytes * i) → {a b : ℕ}
+        → judge_form n (i + 1) (given_kind rank t) ≡ refuse a b → summarized i (plain_at mesh sizes (steps_bytes gs) (i + 1) (place_of gs i) s) ≡ refuse a b
+    form-stops n n_is n-few None t-is q = unknown-stops t-is ∙ of-any q
+    form-stops n n_is n-few (Some u) t-is {a} {b} q =
+        let r : judge_counts n (lists_in (step_given rank u)) ≡ refuse a b = q in
+        rw (in_parts n n_is n-few t-is, r) refl

@@ -2,22 +2,25 @@
 // records/specs/Writing.antt is the judgement and records/specs/Forms.antt what the arguments stand for; specs/Given.antt is what the parts ask and answer.
 #![tactic(auto)]
 
-ghost use Rattle.std.specs.Prelude.{◌≡◌, true, false, ℕ, ◌+◌, ◌*◌, ◌≤◌, ◌<◌, map, length, get_or, leb};
-ghost use Rattle.rules.specs.Limits.{most_axes, most_devices, most_dims};
+ghost use Rattle.std.specs.Prelude.{◌≡◌, true, false, ℕ, ◌+◌, ◌*◌, ◌≤◌, ◌<◌, map, length, get_or, leb, IfOk};
+ghost use Rattle.rules.specs.Limits.{most_axes, most_dims};
 ghost use Rattle.rules.specs.Lists.{tab};
+ghost use Rattle.rules.specs.Mesh.{devices as devices_of, OnMesh};
 ghost use Rattle.rules.specs.Refusals.{refuse, need};
 ghost use Rattle.types.specs.Answers.{judged, judged_as, number_of, refused_with};
 ghost use Rattle.types.specs.Types.{sharding_of, mesh_of, sizes_of};
+ghost use Rattle.types.specs.declared.Step.{Step};
 ghost use Rattle.blocks.specs.Blocks.{head_of, head_at};
 ghost use Rattle.records.specs.Writing.{judge_counts, judge_sharding, judge_order, step_numbered, judge_records};
-ghost use Rattle.records.specs.Forms.{list_given, sharding_given, step_given, records_given};
-ghost use Rattle.given.specs.Given.{judge_limits, mesh_from, table_from, Shaped, lists_in, repeat_here, bytes_given, place_given};
+ghost use Rattle.records.specs.Forms.{list_given, sharding_given, step_given, given_kind, records_given};
+ghost use Rattle.given.specs.Given.{judge_limits, mesh_from, table_from, Shaped, lists_in, judge_form, repeat_here, bytes_given, place_given};
 ghost use Rattle.given.specs.Given.{plain_given, repeat_given, item_given, summary_in, Judging, Closing, closed};
 ghost use Rattle.given.specs.Given.{verdict_of, judge_shape, outermost_given, judge_rest};
 
 use blocks::{Repeat, same_sharding};
 use encode::{StepRecord, outermost_steps, step_record};
 use judge::judge_step;
+use mesh::product_from;
 use order::order_allowed;
 use reader::judge_sizes;
 use start::judge_start;
@@ -36,15 +39,15 @@ pub fn judge_limits(n: usize, rank: usize, steps: usize) -> Result<(), Refusal>
     }
 }
 
-// 19: the order of so many devices. "An order of no numbers counts as none"
-pub fn judge_order(order: &[u16], devices: usize) -> Result<(), Refusal>
-    requires { devices ≤ most_devices }
-    ensures { judged result ≡ judge_order devices order.now }
+// 19: the order of a mesh that passed. "An order of no numbers counts as none"
+pub fn judge_order(mesh: &[u16], order: &[u16]) -> Result<(), Refusal>
+    requires { OnMesh mesh.now }
+    ensures { judged result ≡ judge_order (devices_of mesh.now) order.now }
 {
     if order.is_empty() {
         return Ok(());
     }
-    if order_allowed(order, devices) {
+    if order_allowed(order, product_from(mesh, 0)) {
         Ok(())
     } else {
         Err(Refusal::outside(Reason::WrongOrder))
@@ -137,7 +140,7 @@ fn refusal_at(reason: Reason, i: usize) -> Refusal
 }
 
 // 8: the counts of a step's lists.
-fn judge_form(step: Step, rank: usize, n: usize) -> Result<(), Refusal>
+fn judge_lists(step: Step, rank: usize, n: usize) -> Result<(), Refusal>
     requires { (rank ≤ most_dims) × (n ≤ most_axes) }
     ensures { judged result ≡ judge_counts n (lists_in (step_given rank step)) }
 {
@@ -147,6 +150,19 @@ fn judge_form(step: Step, rank: usize, n: usize) -> Result<(), Refusal>
         }
         Step::AllReduce(list) | Step::AllToAll { list, .. } => judge_count(list, n),
     }
+}
+
+// The step that record i has, before it is judged: 20, then 8 over its lists.
+fn judge_form(step: Option<Step>, i: usize, rank: usize, n: usize) -> Result<Step, Refusal>
+    requires { (rank ≤ most_dims) × (n ≤ most_axes) }
+    ensures judges { judged_as (λ (t : Step). tt) result ≡ step_numbered (judge_form n (i + 1) (given_kind rank step)) }
+    ensures gives { IfOk result (λ t. Some t ≡ step) }
+{
+    let Some(known) = step else {
+        return Err(refusal_at(Reason::UnknownKind, i));
+    };
+    judge_lists(known, rank, n)?;
+    Ok(known)
 }
 
 // Records that were judged: the next one, how many plain steps are run, and the sharding after them.
@@ -172,10 +188,8 @@ fn judge_plain(
     if steps.len() / StepRecord::BYTES <= i {
         return Err(Refusal::outside(Reason::SectionPastEnd));
     }
-    let Some(step) = step_record(steps, StepRecord::BYTES * i) else {
-        return Err(refusal_at(Reason::UnknownKind, i));
-    };
-    judge_form(step, table.rank, mesh.n)?;
+    let record = step_record(steps, StepRecord::BYTES * i);
+    let step = judge_form(record, i, table.rank, mesh.n)?;
     // A step is judged alike under every number; the refusal gets its own.
     match judge_step(step, 0, sharding, mesh, table) {
         Ok(after) => Ok(RecordsJudged {
@@ -330,13 +344,13 @@ pub fn judge_shape<'a>(
     ensures { judged result ≡ judge_shape mesh.now order.now sizes.now steps }
 {
     judge_limits(mesh.len(), sizes.len(), steps)?;
-    let devices = judge_sizes(
+    judge_sizes(
         mesh,
         Device::MOST,
         Reason::MeshSizeZero,
         Reason::TooManyDevices,
     )?;
-    judge_order(order, devices)?;
+    judge_order(mesh, order)?;
     judge_sizes(
         sizes,
         Table::MOST,

@@ -1,6 +1,6 @@
 -- C's structs of a sharding and of a step: the numbers that stand for one, every place of them, and what the library takes of a sharding that is given.
 -- Assumes nothing.
-use Rattle.std.specs.Prelude.{ℕ, ◌+◌, ◌*◌, ◌/◌, ◌%◌, List, [], ◌∷◌, ◌++◌, map, length, get_or, replicate}
+use Rattle.std.specs.Prelude.{ℕ, ◌+◌, ◌*◌, ◌/◌, ◌%◌, List, [], ◌∷◌, ◌++◌, map, length, get_or, replicate, Option, Some, None}
 use Rattle.rules.specs.Lists.{tab, flat}
 use Rattle.rules.specs.Limits.{most_axes, most_dims}
 use Rattle.rules.specs.Sharding.{Sharding}
@@ -50,7 +50,7 @@ blank_sharding = record { counts = replicate lists 0; axes = replicate places 0 
 
 -- the other way: a sharding that is given has each list with its count as it stands, also one past the places, and its six places
 abbrev pub list_in : ShardingReply → ℕ → AxisList
-list_in s d = record { count = get_or s.counts d 0; axes = places_at s.axes (most_axes * d) }
+list_in s d = record { count = get_or s.counts d 0; axes = places_at s.axes (most_axes * d); align = [] }
 
 abbrev pub sharding_in : ShardingReply → code.Sharding
 sharding_in s = record {
@@ -94,3 +94,8 @@ step_numbers (step.AllGather lists) = record_reply 2 0 0 (dims_of lists) []
 step_numbers (step.AllReduce list) = record_reply 3 0 0 [] (axes_of list)
 step_numbers (step.AllToAll source target list) = record_reply 4 source.0 target.0 [] (axes_of list)
 step_numbers (step.ReduceScatter lists) = record_reply 5 0 0 (dims_of lists) []
+
+-- the same of a place of a plan, which may have no step
+abbrev pub step_in_place : Option Step → StepReply
+step_in_place (Some t) = step_numbers t
+step_in_place None = blank_step

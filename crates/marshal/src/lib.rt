@@ -6,7 +6,7 @@ ghost use Rattle.rules.specs.Lists.{tab};
 ghost use Rattle.rules.specs.Limits.{most_axes, most_dims};
 ghost use Rattle.types.specs.Types.{axes_of, dims_of, sharding_of};
 ghost use Rattle.records.specs.Forms.{six_places};
-ghost use Rattle.marshal.specs.Structs.{lists, axis_among, sharding_reply, blank_sharding, list_in, sharding_in, record_reply, step_numbers, blank_step};
+ghost use Rattle.marshal.specs.Structs.{lists, axis_among, sharding_reply, blank_sharding, list_in, sharding_in, record_reply, step_numbers, blank_step, step_in_place};
 
 use types::{Axis, AxisList, Dim, DimLists, Sharding, Step};
 
@@ -118,6 +118,7 @@ fn list_in(sharding: ShardingReply, d: usize) -> AxisList
     AxisList {
         count: u16::from(sharding.counts[d]),
         axes,
+        align: [],
     }
 }
 
@@ -194,5 +195,17 @@ pub fn no_step() -> StepReply
         target: 0,
         counts: [0; STEP_LISTS],
         axes: [0; STEP_PLACES],
+    }
+}
+
+// A place of a plan in numbers: of a plan with fewer steps than places the others have none.
+impl From<Option<Step>> for StepReply {
+    ghost from_gives = { λ place reply. reply ≡ step_in_place place };
+
+    fn from(place: Option<Step>) -> StepReply {
+        match place {
+            Some(step) => StepReply::from(step),
+            None => no_step(),
+        }
     }
 }

@@ -325,6 +325,7 @@ fn read_list(file: &[u8], at: usize, n: usize) -> Result<Read<AxisList>, Refusal
     let value = AxisList {
         count: count as u16,
         axes,
+        align: [],
     };
     Ok(Read { value, next })
 }

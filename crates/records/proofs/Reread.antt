@@ -103,6 +103,7 @@ module _ (bytes : List ℕ) (at : ℕ) where
         ∷ axis-from (8 + 6 * j + 4) (at + 8 + 6 * j + 4) (omega arith) z
         ∷ axis-from (8 + 6 * j + 5) (at + 8 + 6 * j + 5) (omega arith) z
         ∷ [];
+    align = [];
   }
 
   lists-from : lists_record bytes at ≡ lists_record (drop at bytes) 0

@@ -47,7 +47,7 @@ places_at bytes at =
     axis_at bytes at ∷ axis_at bytes (at + 1) ∷ axis_at bytes (at + 2) ∷ axis_at bytes (at + 3) ∷ axis_at bytes (at + 4) ∷ axis_at bytes (at + 5) ∷ []
 
 abbrev pub list_record : List ℕ → (at list : ℕ) → AxisList
-list_record bytes at j = record { count = get_or bytes (at + 3 + j) 0; axes = places_at bytes (at + 8 + 6 * j) }
+list_record bytes at j = record { count = get_or bytes (at + 3 + j) 0; axes = places_at bytes (at + 8 + 6 * j); align = [] }
 
 abbrev pub lists_record : List ℕ → (at : ℕ) → DimLists
 lists_record bytes at = record { 0 = list_record bytes at 0 ∷ list_record bytes at 1 ∷ list_record bytes at 2 ∷ list_record bytes at 3 ∷ [] }

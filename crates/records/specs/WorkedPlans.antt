@@ -6,7 +6,7 @@ use Rattle.types.specs.declared.DimLists.{DimLists}
 use Rattle.types.specs.declared.Sharding.{Sharding}
 
 abbrev pub list : (count : ℕ) → List ℕ → AxisList
-list count places = record { count = count; axes = map (λ (a : ℕ). record { 0 = a }) places }
+list count places = record { count = count; axes = map (λ (a : ℕ). record { 0 = a }) places; align = [] }
 
 abbrev pub none : AxisList
 none = list 0 (0 ∷ 0 ∷ 0 ∷ 0 ∷ 0 ∷ 0 ∷ [])

@@ -36,7 +36,7 @@ zeros n = replicate n 0
 
 -- a list of so many axes, by its six places
 abbrev pub list_of : (count : ℕ) → (places : List ℕ) → AxisList
-list_of count places = record { count = count; axes = map (λ (a : ℕ). record { 0 = a }) places }
+list_of count places = record { count = count; axes = map (λ (a : ℕ). record { 0 = a }) places; align = [] }
 
 abbrev pub none : AxisList
 none = list_of 0 (zeros 6)

@@ -264,7 +264,7 @@ abbrev pub places : List ℕ → List ℕ
 places l = take 6 (l ++ replicate 6 77)
 
 abbrev pub list_of : (count : ℕ) → List ℕ → AxisList
-list_of count l = record { count = count; axes = map (λ (a : ℕ). record { 0 = a }) (places l) }
+list_of count l = record { count = count; axes = map (λ (a : ℕ). record { 0 = a }) (places l); align = [] }
 
 -- "unused places aside": a step record of a kind, with source, target, and the lists by dimension and the one list; no list of the record is longer than
 -- six

@@ -16,6 +16,7 @@ use Rattle.rules.specs.PlanFile.{Read, step_at, judge_step, plain, StepsRead, pl
 use Rattle.laws.specs.Demands.{largest_on}
 use Rattle.types.specs.Types.{sharding_of, step_of, mesh_of, sizes_of}
 use Rattle.types.specs.declared.Mesh.{Mesh}
+use Rattle.types.specs.declared.Sharding as code
 use Rattle.types.specs.declared.Table.{Table}
 use Rattle.laws.proofs.Judging.{accept-inj, bind_inv}
 use Rattle.laws.proofs.Steps.{facts}
@@ -40,6 +41,13 @@ plain-numbered {file} {mesh} {table} {p} g =
     let t : Takes (mesh_of mesh) (sizes_of table) file p.at g.read =
     plain-takes (mesh_of mesh) (sizes_of table) file p.number p.at (sharding_on table p) g.read g.accepted in
     omega (arith, t.bytes, t.some, t.inside, g.number_few, g.short)
+
+-- read again, a step that was accepted is not refused; `plain-asks` gives what it takes of a step of the run
+pub plain-read : {file : List ℕ} {at k : ℕ} {mesh : Mesh} {table : Table} {sharding : code.Sharding} {here there : ℕ}
+    → Turning file at k mesh table sharding here there → {r : Result (code-read.Read Taken) Refusal}
+    → reading (taken_of table.rank) r ≡ take_step (mesh_of mesh) (sizes_of table) k file at (sharding_of table.rank sharding)
+    → {x : Refusal} → r ≡ Err x → ⊥
+plain-read {table = table} t e q = never (sym (ap (reading (taken_of table.rank)) q) ∙ e ∙ t.taken)
 
 module _ {file : List ℕ} {mesh : Mesh} {table : Table} {p : Progress} (work spare : List ℕ)
     (g : CanRun (plain_at (mesh_of mesh) (sizes_of table) file) file mesh table p (length work) (length spare)) where
@@ -93,12 +101,6 @@ module _ {file : List ℕ} {mesh : Mesh} {table : Table} {p : Progress} (work sp
             (less-room (mesh_of mesh) old (pick-long p.in_work work spare g.work_room g.spare_room))
             (less-room (mesh_of mesh) new (pick-long p.in_work spare work g.spare_room g.work_room));
       }
-
-  -- read again, the step is not refused
-  pub plain-read : {r : Result (code-read.Read Taken) Refusal}
-      → reading (taken_of table.rank) r ≡ take_step (mesh_of mesh) (sizes_of table) p.number file p.at (sharding_of table.rank p.sharding)
-      → {x : Refusal} → r ≡ Err x → ⊥
-  plain-read e q = never (sym (ap (reading (taken_of table.rank)) q) ∙ e ∙ was.taken)
 
   module _ {r : code-read.Read Taken} (work' spare' : List ℕ) (t : Turned file p.at p.number mesh table p.sharding (pick p.in_work work spare)
       (pick p.in_work spare work) (pick p.in_work work' spare') (pick p.in_work spare' work') r) where

@@ -52,7 +52,7 @@ module _ (l : AxisList) (full : length l.axes ≡ most_axes) where
       sym (get_or-take l.count s i 0 (omega (arith, length-take l.count s)) ∙ get_or-map (λ (a : Axis). a.0) l.axes i (record { 0 = 0 }))
 
   -- the axes of the list with one more stored at its end
-  pub axes-with : (a : Axis) → l.count < most_axes → axes_of (record { count = l.count + 1; axes = set l.axes l.count a }) ≡ axes_of l ++ (a.0 ∷ [])
+  pub axes-with : (a : Axis) → l.count < most_axes → axes_of (record { count = l.count + 1; axes = set l.axes l.count a; align = l.align }) ≡ axes_of l ++ (a.0 ∷ [])
   unfolding axes_of
   axes-with a h =
       rw (add-one l.count, map-set (λ (b : Axis). b.0) l.axes l.count a)

@@ -1,11 +1,10 @@
 -- The proofs of what specs/WorkedAnswers.antt states and of its worked cases. Assumes nothing.
-use Rattle.std.specs.Prelude.{◌≡◌, refl, ℕ, [], ◌∷◌, Result, Ok, Err}
+use Rattle.std.specs.Prelude.{◌≡◌, refl, [], ◌∷◌, Ok, Err}
 use Rattle.rules.specs.Collectives.{all_slice, all_gather, all_reduce, all_to_all, reduce_scatter}
 use Rattle.types.specs.Types.{dims_of, step_of}
 use Rattle.rules.specs.Calls.{groups_of, run_of}
 use Rattle.types.specs.Answers.{judged}
 use Rattle.rules.specs.Ledger.{w1, nines}
-use Rattle.types.specs.declared.Refusal.{Refusal}
 use Rattle.types.specs.declared.Step.TheVariants.{AllSlice, AllGather, AllReduce, AllToAll, ReduceScatter}
 use Rattle.types.specs.declared.Reason.TheVariants.{WorkTooShort, OutputTooShort}
 use Rattle.types.specs.WorkedAnswers.{axes, lists, refusal}

@@ -87,7 +87,7 @@ four_places z l = tab most_dims (λ d. get_or l d z)
 
 -- a list of axes, in six places
 unfoldable pub list_from : List ℕ → AxisList
-list_from l = record { count = length l; axes = tab most_axes (λ i. record { 0 = get_or l i 0 }) }
+list_from l = record { count = length l; axes = tab most_axes (λ i. record { 0 = get_or l i 0 }); align = [] }
 
 -- a list for each of four dimensions, no axes past the rank
 unfoldable pub lists_from : List (List ℕ) → DimLists

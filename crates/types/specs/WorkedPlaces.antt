@@ -5,7 +5,7 @@ use Rattle.types.specs.declared.AxisList.{AxisList}
 use Rattle.types.specs.declared.Sharding.{Sharding}
 
 abbrev pub list : ℕ → List ℕ → AxisList
-list count places = record { count = count; axes = map (λ (a : ℕ). record { 0 = a }) places }
+list count places = record { count = count; axes = map (λ (a : ℕ). record { 0 = a }) places; align = [] }
 
 abbrev pub none : AxisList
 none = list 0 (0 ∷ 0 ∷ 0 ∷ 0 ∷ 0 ∷ 0 ∷ [])

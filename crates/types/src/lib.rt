@@ -51,10 +51,12 @@ impl Device {
 }
 
 // A list of axes: the first `count` places; what the others hold is free, and 0 in an answer of a call. Eight bytes in all, so that lists are cheap to hand on.
+// `align` holds nothing: it puts a list at a multiple of eight, where nothing that an enum's other variants hold, as a refusal, cuts it in two when it is copied.
 #[derive(Clone, Copy)]
 pub struct AxisList {
     pub count: u16,
     pub axes: [Axis; Axis::MOST],
+    pub align: [usize; 0],
 }
 
 // A list of axes for each dimension.
@@ -308,6 +310,7 @@ impl AxisList {
         AxisList {
             count: 0,
             axes: [Axis(0); Axis::MOST],
+            align: [],
         }
     }
 
@@ -368,6 +371,7 @@ impl AxisList {
                 self.at(4),
                 self.at(5),
             ],
+            align: [],
         }
     }
 }

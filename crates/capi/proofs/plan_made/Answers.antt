@@ -1,8 +1,7 @@
 -- Each place as a record. Assumes nothing.
 use Rattle.std.proofs.Common.{rules, arith, ◌≡◌, ◌<◌, ◌∙◌, sym, refl, ℕ, suc, List, [], ◌∷◌, map, length, get_or, None}
 use Rattle.std.proofs.lemmas.Grind.{common_steps}
-use Rattle.marshal.specs.Structs.{blank_step}
-use Rattle.capi.specs.Boundary.{step_in_place}
+use Rattle.marshal.specs.Structs.{blank_step, step_in_place}
 use Rattle.capi.proofs.plan_made.Goals as goal
 
 mapped : {A B : Type 0} (f : A → B) (d : A) (e : B) (l : List A) (r : List B) → length r ≡ length l

@@ -21,4 +21,5 @@ returns c = let a = c in
           ∷ record { 0 = c.at-5.ensures i }
           ∷ record { 0 = c.at-6.ensures i }
           ∷ [];
+      align = [];
     })

@@ -7,7 +7,7 @@ use Rattle.types.proofs.DimLists.at.Goals as goal
 
 pub returns-then-i-lt-MOST : goal.returns-then-i-lt-MOST
 unfolding dims_of axes_of
-returns-then-i-lt-MOST c = let a = c.args in sym (get_or-map axes_of a.self.0 a.d.0 (record { count = 0; axes = [] }))
+returns-then-i-lt-MOST c = let a = c.args in sym (get_or-map axes_of a.self.0 a.d.0 (record { count = 0; axes = []; align = [] }))
 
 pub returns-else-i-lt-MOST : goal.returns-else-i-lt-MOST
 unfolding dims_of

@@ -1,7 +1,7 @@
 use mathlib.Core.Path.{sym, ap, ◌∙◌}
 use Rattle.records.specs.Writing.{judge_counts}
 use Rattle.given.proofs.Counts.{counts-one, dims-counted, lists-by-dim, lists-one}
-use Rattle.given.proofs.judge_form.Goals as goal
+use Rattle.given.proofs.judge_lists.Goals as goal
 
 pub returns-in-AllSlice : goal.returns-in-AllSlice
 returns-in-AllSlice c = let a = c.args in
