@@ -157,9 +157,9 @@
  * is 0, so it may be null. The calls keep no state of their own: threads may call at once where none
  * lends memory for writing that another uses.
  *
- * A call takes less than 26 KiB of stack (ISHKRELA_STACK_BYTES): on the cases of tests/ at most 25,168
- * bytes for a run, 12,384 for a placement of a list, 10,480 for one of a device, 8,288 for a read, 8,208
- * for a check, 1,272 for a group listing by an order and 184 for one without; 4,672 for a write and 2,761
+ * A call takes less than 26 KiB of stack (ISHKRELA_STACK_BYTES): on the cases of tests/ at most 25,472
+ * bytes for a run, 12,512 for a placement of a list, 10,608 for one of a device, 8,464 for a read, 8,416
+ * for a check, 1,288 for a group listing by an order and 200 for one without; 5,184 for a write and 3,192
  * for making a plan (tests/stack.c, which tools/try_c runs).
  */
 #ifndef ISHKRELA_H
