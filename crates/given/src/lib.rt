@@ -3,7 +3,7 @@
 #![tactic(auto)]
 
 ghost use Rattle.std.specs.Prelude.{◌≡◌, true, false, ℕ, ◌+◌, ◌*◌, ◌≤◌, ◌<◌, map, length, get_or, leb, IfOk};
-ghost use Rattle.rules.specs.Limits.{most_axes, most_dims};
+ghost use Rattle.rules.specs.Limits.{most_axes, most_devices, most_dims};
 ghost use Rattle.rules.specs.Lists.{tab};
 ghost use Rattle.rules.specs.Mesh.{devices as devices_of, OnMesh};
 ghost use Rattle.rules.specs.Refusals.{refuse, need};
@@ -39,8 +39,23 @@ pub fn judge_limits(n: usize, rank: usize, steps: usize) -> Result<(), Refusal>
     }
 }
 
-// 19: the order of a mesh that passed. "An order of no numbers counts as none"
-pub fn judge_order(mesh: &[u16], order: &[u16]) -> Result<(), Refusal>
+// 19: the order of so many devices, which no mesh need have. "An order of no numbers counts as none"
+pub fn judge_order(order: &[u16], devices: usize) -> Result<(), Refusal>
+    requires { devices ≤ most_devices }
+    ensures { judged result ≡ judge_order devices order.now }
+{
+    if order.is_empty() {
+        return Ok(());
+    }
+    if order_allowed(order, devices) {
+        Ok(())
+    } else {
+        Err(Refusal::outside(Reason::WrongOrder))
+    }
+}
+
+// 19: the order of a mesh that passed, whose devices are counted only where an order is given.
+pub fn judge_mesh_order(mesh: &[u16], order: &[u16]) -> Result<(), Refusal>
     requires { OnMesh mesh.now }
     ensures { judged result ≡ judge_order (devices_of mesh.now) order.now }
 {
@@ -350,7 +365,7 @@ pub fn judge_shape<'a>(
         Reason::MeshSizeZero,
         Reason::TooManyDevices,
     )?;
-    judge_order(mesh, order)?;
+    judge_mesh_order(mesh, order)?;
     judge_sizes(
         sizes,
         Table::MOST,
@@ -377,3 +392,6 @@ pub fn judge_records<'a>(
     let table = table_of(sizes);
     judge_rest(steps, count, axes, table, start)
 }
+
+#[cfg(test)]
+mod tests;

@@ -14,22 +14,22 @@ returns-in_err-judge_sizes c = let r = c.from_residual-in_err-judge_sizes in
     let p = err_from_is_err_and r.result r.ensures.1 in
     rw (p.1, p.2) (then-stop _ _ c.in_err-judge_sizes.ensures.judges ∙ then-on _ c.in_ok-judge_limits.ensures)
 
-pub judge_order-requires : goal.judge_order-requires
-judge_order-requires c = let a = c.args in
+pub judge_mesh_order-requires : goal.judge_mesh_order-requires
+judge_mesh_order-requires c = let a = c.args in
     on-mesh a.mesh.now (length a.sizes.now) a.steps (sym c.in_ok-judge_limits.ensures) (sym c.in_ok-judge_sizes.ensures.judges)
 
-pub returns-in_err-judge_order : goal.returns-in_err-judge_order
-returns-in_err-judge_order c = let r = c.from_residual-in_err-judge_order in
+pub returns-in_err-judge_mesh_order : goal.returns-in_err-judge_mesh_order
+returns-in_err-judge_mesh_order c = let r = c.from_residual-in_err-judge_mesh_order in
     let p = err_from_is_err_and r.result r.ensures.1 in
-    rw (p.1, p.2) (then-stop _ _ c.in_err-judge_order.ensures ∙ then-on _ c.in_ok-judge_sizes.ensures.judges ∙ then-on _ c.in_ok-judge_limits.ensures)
+    rw (p.1, p.2) (then-stop _ _ c.in_err-judge_mesh_order.ensures ∙ then-on _ c.in_ok-judge_sizes.ensures.judges ∙ then-on _ c.in_ok-judge_limits.ensures)
 
 pub returns-in_err-judge_sizes-2 : goal.returns-in_err-judge_sizes-2
 returns-in_err-judge_sizes-2 c = let r = c.from_residual-in_err-judge_sizes-2 in
     let p = err_from_is_err_and r.result r.ensures.1 in
-    rw (p.1, p.2) (c.in_err-judge_sizes-2.ensures.judges ∙ then-on _ c.in_ok-judge_order.ensures ∙ then-on _ c.in_ok-judge_sizes.ensures.judges
+    rw (p.1, p.2) (c.in_err-judge_sizes-2.ensures.judges ∙ then-on _ c.in_ok-judge_mesh_order.ensures ∙ then-on _ c.in_ok-judge_sizes.ensures.judges
     ∙ then-on _ c.in_ok-judge_limits.ensures)
 
 pub returns : goal.returns
 returns c =
-    c.in_ok-judge_sizes-2.ensures.judges ∙ then-on _ c.in_ok-judge_order.ensures ∙ then-on _ c.in_ok-judge_sizes.ensures.judges
+    c.in_ok-judge_sizes-2.ensures.judges ∙ then-on _ c.in_ok-judge_mesh_order.ensures ∙ then-on _ c.in_ok-judge_sizes.ensures.judges
     ∙ then-on _ c.in_ok-judge_limits.ensures
